@@ -16,7 +16,7 @@
 # most (all bench/README.md).
 # stops: `serve` and commands killed, refused what they ask of the disk, and on a full disk, minutes (PROGRAM=..: of another bucketd);
 # breaks: connections that break after each byte; ample: drawn events by a script and by a file's server. opening: how long a file
-# is opened, and in how much memory; migration: how long one of version 1 is, the first time (bench/README.md). memory: the stored
+# is opened, and in how much memory; migration: how long one of an earlier version is, the first time (bench/README.md). memory: the stored
 # run, and connections, with each allocation refused in turn. others: drawn scripts of two tenants, each of whom is answered as
 # where the other's events, sweeps and reports are left out. front: nginx before the program, as deploy/nginx.conf has it, and slow
 # clients. hostile: what is made to break the program, at its full size; edits: ten minutes of edited requests, by a script and

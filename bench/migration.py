@@ -1,12 +1,12 @@
 #!/usr/bin/env python3
-"""Times the first opening of a host's file of version 1, which brings it over, beside that of the same host of the present version.
+"""Times the first opening of a host's file of version 1 and of 2, which brings it over, beside that of the same host of version 3.
 
     bench/migration.py [PROGRAM [MEGABYTES..]]      the proved program, and files of 1 and 100 MB
 
-A host is filled by `serve` with objects of 4 MiB and closed; Python's sqlite3 drops the tables that version 1 hasn't and sets the
-number back, and each page gets its sum. Copies of that file and of the one that it becomes are opened in turns, 9 times each, by a
-`serve` that is killed once it listens: the least and the middle of its seconds of a processor, and the pages that the opening has
-left in the log. Ends with 1 where bringing over a file adds 50 ms to the least, or writes 20 pages.
+A host is filled by `serve` with objects of 4 MiB and closed; Python's sqlite3 drops the tables that the earlier version hasn't and
+sets the number back, and each page gets its sum. Copies of such a file, and of the one that it becomes, are opened in turns, 9 times
+each, by a `serve` that is killed once it listens: the least and the middle of its seconds of a processor, and the pages that the
+opening has left in the log. Ends with 1 where bringing over a file adds 50 ms to the least, or writes 30 pages.
 """
 import os
 import shutil
@@ -20,13 +20,16 @@ from server import SHARED_MEMORY, Server
 
 PAGE, HEAD, FRAME = 4096, 32, 4096 + 24
 TURNS = 9
-MOST_MILLISECONDS, MOST_PAGES = 50, 20
+MOST_MILLISECONDS, MOST_PAGES = 50, 30
+# The last tables, of each version.
+TABLES = {3: ["tallies"], 2: ["retains", "locks"]}
 
 
-def set_back(file):
-    """Makes a host's file, whose log is empty, one of version 1."""
+def set_back(file, version):
+    """Makes a host's file, whose log is empty, one of an earlier version."""
     it = sqlite3.connect(file, isolation_level=None)
-    for text in ("DROP TABLE retains", "DROP TABLE locks", "UPDATE host SET version = 1", "PRAGMA wal_checkpoint(TRUNCATE)"):
+    drops = [f"DROP TABLE IF EXISTS {table}" for number, tables in TABLES.items() if number > version for table in tables]
+    for text in (*drops, f"UPDATE host SET version = {version}", "PRAGMA wal_checkpoint(TRUNCATE)"):
         it.execute(text)
     it.close()
     with open(file, "r+b") as data:
@@ -61,25 +64,26 @@ def opened(program, file, kept):
 def measured(program, megabytes):
     folder = tempfile.mkdtemp(prefix="migration-", dir=SHARED_MEMORY)
     try:
-        file, first, present = make(program, folder, PAGE, True), os.path.join(folder, "first"), os.path.join(folder, "present")
+        file, kept = make(program, folder, PAGE, True), {it: os.path.join(folder, f"version-{it}") for it in (1, 2, 3)}
         with Server(program, folder) as on:
             on.ask(b"PUT", "", b"")
         fill(program, folder, megabytes * 10**6)
         used(program, file)
-        set_back(file)
-        shutil.copy(file, first)
+        for version in (2, 1):
+            set_back(file, version)
+            shutil.copy(file, kept[version])
         used(program, file)
-        shutil.move(file, present)
-        if (version_of(first), version_of(present)) != (1, 2):
-            sys.exit(f"versions {version_of(first)} and {version_of(present)}")
-        turns = [(opened(program, file, first), opened(program, file, present)) for _ in range(TURNS)]
-        length, is_well, least = os.path.getsize(first) / 1e6, True, []
-        for at, name in ((0, "1, brought over"), (1, "2")):
+        shutil.move(file, kept[3])
+        if [version_of(it) for it in kept.values()] != [1, 2, 3]:
+            sys.exit(f"versions {[version_of(it) for it in kept.values()]}")
+        turns = [[opened(program, file, it) for it in kept.values()] for _ in range(TURNS)]
+        length, is_well, least = os.path.getsize(kept[1]) / 1e6, True, []
+        for at, name in enumerate(("1, brought over", "2, brought over", "3")):
             seconds, pages = [it[at][0] for it in turns], max(it[at][1] for it in turns)
             least.append(min(seconds))
             print(f"| {length:.0f} | {name} | {min(seconds):.3f} | {statistics.median(seconds):.3f} | {pages} |", flush=True)
             is_well = is_well and pages < MOST_PAGES
-        return is_well and (least[0] - least[1]) * 1000 < MOST_MILLISECONDS
+        return is_well and (max(least) - least[2]) * 1000 < MOST_MILLISECONDS
     finally:
         shutil.rmtree(folder)
 

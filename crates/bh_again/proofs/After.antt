@@ -12,7 +12,7 @@ use Rattle.bh_event.specs.Events.{Arrival}
 use Rattle.bh_tables.specs.Hosts.{tables_shown, tables_opened}
 use Rattle.bh_tables.specs.Schema.{host_schema}
 use Rattle.bh_tables.specs.Typed.{Tables}
-use Rattle.bh_tables.proofs.HostTests.{others_open, other_schema}
+use Rattle.bh_tables.proofs.HostTests.{others_open, other_schema, unlike_second}
 use Rattle.bh_view.specs.Bodies.{IsSoundHost}
 use Rattle.bh_storage.specs.Calls.{IsAtRest}
 use Rattle.bh_cache.specs.Kept.{KeptBlocks}
@@ -20,23 +20,27 @@ use Rattle.bh_schema.specs.Layer.{standing}
 use Rattle.bh_schema.specs.declared.host.Host.{Host}
 use Rattle.bh_schema.specs.Storage.{IsOpen, seen, seen_in, beside, left, left_in}
 use Rattle.bh_schema.proofs.Storing.{sound_host}
-use Rattle.bh_open.specs.Versions.{IsTypedIfFirst}
+use Rattle.bh_open.specs.Versions.{IsEarlierSchema, IsTypedIfEarlier}
 use Rattle.bh_open.specs.declared.open.Opened.{Opened}
 use Rattle.bh_host.specs.Runs.{Told}
 use Rattle.bh_host.specs.Turns.{Applied, WouldApply}
 use Rattle.bh_connection.specs.declared.served.End.{End}
 use Rattle.bh_again.specs.Stops.{seen_again, IsCleanAgain, CameBack, ComesBack, AllLeft, AllShown, kept_of, IsLeft, IsOlder, IsReopened, HasApplied, HasReplied, IsReady, AddsSound, IsLeftBy, IsLeftSince, Survives, AfterStop, AfterReply, OpensSound, StaysSound}
 
--- ---- a database of version 2, and one of sound tables
+-- ---- a database of the present version, and one of sound tables
 
-second_typed : (db : Database) → db.schema ≡ host_schema → IsTypedIfFirst db
-second_typed db is first = absurd (other_schema db is first)
+not_earlier : (db : Database) → db.schema ≡ host_schema → IsEarlierSchema db.schema → ⊥
+not_earlier db is (inl first) = other_schema db is first
+not_earlier db is (inr second) = unlike_second db is second
 
-second_opens : (db : Database) → db.schema ≡ host_schema → tables_opened db ≡ tables_shown db
-second_opens db is = others_open db (other_schema db is)
+present_typed : (db : Database) → db.schema ≡ host_schema → IsTypedIfEarlier db
+present_typed db is = record { first = λ first. absurd (other_schema db is first); second = λ second. absurd (unlike_second db is second) }
 
-second_back : {D : Type 0} {g : Ghosts D} (opened : Opened (FileStore D g)) (db : Database) → db.schema ≡ host_schema → ComesBack db opened → CameBack (tables_shown db) opened
-second_back opened db is it = subst (λ (x : Tables). CameBack x opened) (second_opens db is) (it.came_back (second_typed db is))
+present_opens : (db : Database) → db.schema ≡ host_schema → tables_opened db ≡ tables_shown db
+present_opens db is = others_open db (other_schema db is) (unlike_second db is)
+
+present_back : {D : Type 0} {g : Ghosts D} (opened : Opened (FileStore D g)) (db : Database) → db.schema ≡ host_schema → ComesBack db opened → CameBack (tables_shown db) opened
+present_back opened db is it = subst (λ (x : Tables). CameBack x opened) (present_opens db is) (it.came_back (present_typed db is))
 
 sound_schema : (digest : Octets → Octets) (db : Database) → IsSoundHost digest (tables_shown db) → db.schema ≡ host_schema
 sound_schema digest db sound = (sound_host db sound.sound).schema
@@ -55,10 +59,10 @@ module _ {D G : Type 0} {g : Ghosts D} (host : Host (FileStore D g) G) where
     left_schema db it = sound_schema digest db (all (tables_shown db) (left_shown db it))
 
     all_shown : AllShown (IsSoundHost digest) host
-    all_shown db it = subst (IsSoundHost digest) (sym (second_opens db (left_schema db it))) (all (tables_shown db) (left_shown db it))
+    all_shown db it = subst (IsSoundHost digest) (sym (present_opens db (left_schema db it))) (all (tables_shown db) (left_shown db it))
 
     none_older : (x : Tables) → ¬ IsOlder host x
-    none_older x older = other_schema older.db (left_schema older.db older.may) older.schema
+    none_older x older = not_earlier older.db (left_schema older.db older.may) older.schema
 
 pub opens_sound : {D G : Type 0} {g : Ghosts D} (digest : Octets → Octets) → OpensSound g G digest
 opens_sound digest host all = (all_shown host digest all, none_older host digest all)
@@ -79,7 +83,7 @@ module _ {D G : Type 0} {g : Ghosts D} (digest : Octets → Octets) (event : Arr
       let it = ready (again.intact clean, up) in
       let shown : tables_shown (kept_of new) ≡ (seen over_files new).now = sym (kept_shown new.cache new.limits (file_state new.connection)) ∙ it.committed in
       let schema = sound_schema digest (kept_of new) (subst (IsSoundHost digest) (sym shown) it.sound) in
-      subst (λ (x : Tables). CameBack x opened) shown (second_back opened (kept_of new) schema (again.came_back clean up))
+      subst (λ (x : Tables). CameBack x opened) shown (present_back opened (kept_of new) schema (again.came_back clean up))
 
   rests : IsOpen over_files new → IsAtRest (IsSoundHost digest) (seen_again opened)
   rests up = (came_back up).rest digest (ready (again.intact clean, up)).sound
@@ -87,7 +91,7 @@ module _ {D G : Type 0} {g : Ghosts D} (digest : Octets → Octets) (event : Arr
   merely_rests : AddsSound digest old new → AllLeft (IsSoundHost digest) old → ∥ IsAtRest (IsSoundHost digest) (seen_again opened) ∥₁
   merely_rests adds were = ∥∥₁_map (again.merely clean) (λ it.
       let all = stays_sound digest old new adds were (again.intact clean) in
-      (second_back opened it.0 (left_schema new digest all it.0 it.1) it.2).rest digest (all (tables_shown it.0) (left_shown new it.0 it.1)))
+      (present_back opened it.0 (left_schema new digest all it.0 it.1) it.2).rest digest (all (tables_shown it.0) (left_shown new it.0 it.1)))
 
   -- what is said of all that a crash may leave is said of what an open finds, or that was brought over
   found : (P : Tables → Type 0) → ((x : Tables) → left over_files new x → P x) → ∥ (P (seen_again opened).now ⊎ IsOlder new (seen_again opened).now) ∥₁
@@ -95,9 +99,15 @@ module _ {D G : Type 0} {g : Ghosts D} (digest : Octets → Octets) (event : Arr
     where
       each : (db : Database) → IsLeft new db → ComesBack db opened → P (seen_again opened).now ⊎ IsOlder new (seen_again opened).now
       each db may back = elim back.schema [
-        | inl first ↦ inr (record { db = db; may = may; schema = first; shown = λ typed. (back.came_back typed).tables })
-        | inr second ↦ inl (subst P (sym (second_back opened db second back).tables) (says (tables_shown db) (left_shown new db may)))
+        | inl first ↦ older (inl first)
+        | inr later ↦ elim later [
+          | inl second ↦ older (inr second)
+          | inr third ↦ inl (subst P (sym (present_back opened db third back).tables) (says (tables_shown db) (left_shown new db may)))
+        ]
       ]
+        where
+          older : IsEarlierSchema db.schema → P (seen_again opened).now ⊎ IsOlder new (seen_again opened).now
+          older earlier = inr (record { db = db; may = may; schema = earlier; shown = λ typed. (back.came_back typed).tables })
 
   leaves : (told : Told) → HasApplied event told old new → IsLeftBy event told old new (seen_again opened).now
   leaves (None, reply) applied = (

@@ -14,29 +14,28 @@ use Rattle.bh_types.specs.Limits.{HostLimits, AreLimits}
 use Rattle.bh_types.specs.declared.block_digest.BlockDigest.{BlockDigest}
 use Rattle.bh_types.specs.declared.block_digest.BlockDigest.TheVariants.{Sha256, Fast}
 use Rattle.bh_model.specs.State.{Octets}
-use Rattle.bh_tables.specs.Hosts.{is_first_version, with_version, tables_opened}
-use Rattle.bh_tables.specs.Schema.{first_schema, host_schema}
+use Rattle.bh_tables.specs.Hosts.{is_of_version, with_version, tables_opened}
 use Rattle.bh_tables.specs.Typed.{HostRow, Tables, tables_in, first_tables_in}
-use Rattle.bh_tables.proofs.HostTests.{host_opens, first_opens, opened_host}
+use Rattle.bh_tables.proofs.HostTests.{host_opens, first_opens, second_opens, opened_host}
 use Rattle.bh_view.specs.Bodies.{IsSoundHost}
 use Rattle.bh_view.specs.View.{latest_of}
 use Rattle.bh_storage.specs.Calls.{IsAtRest}
 use Rattle.bh_schema.specs.Layer.{standing, IsIntact, IsOpen, IsStateClean, Leaves, KeepsDisk}
 use Rattle.bh_schema.proofs.Committing.{same_database}
-use Rattle.bh_open.specs.Opening.{digest_in, IsHostOf}
-use Rattle.bh_open.specs.Versions.{IsTypedIfFirst}
-use Rattle.bh_open.specs.declared.found.HostVersion.TheVariants.{First, Second}
+use Rattle.bh_open.specs.Opening.{digest_in, IsRowOf, IsHostOf}
+use Rattle.bh_open.specs.Versions.{IsHostsSchema, IsTypedIfEarlier}
+use Rattle.bh_open.specs.declared.found.HostVersion.TheVariants.{First, Second, Third}
 use Rattle.bh_open.specs.declared.open.Opened.{Opened}
 use Rattle.bh_again.specs.Stops.{seen_again, IsCleanAgain, ComesBack}
 
 -- ---- a host that was opened, once its database is known
 
 module _ {D : Type 0} {g : Ghosts D} (opened : Opened (FileStore D g)) (clean : IsCleanAgain opened) (db : Database)
-    (schema : (db.schema ≡ first_schema) ⊎ (db.schema ≡ host_schema))
-    (shows : IsCleanAgain opened → IsTypedIfFirst db → (seen_again opened).now ≡ tables_opened db)
-    (rest : (digest : Octets → Octets) → IsCleanAgain opened → IsTypedIfFirst db → IsSoundHost digest (seen_again opened).now → IsAtRest (IsSoundHost digest) (seen_again opened))
-    (latest : (digest : Octets → Octets) → IsCleanAgain opened → IsTypedIfFirst db → IsSoundHost digest (seen_again opened).now → opened.latest ≡ latest_of (seen_again opened).now)
-    (named : (digest : Octets → Octets) → IsCleanAgain opened → IsTypedIfFirst db → IsSoundHost digest (seen_again opened).now → digest_number opened.digest ≡ digest_in (seen_again opened).now) where
+    (schema : IsHostsSchema db.schema)
+    (shows : IsCleanAgain opened → IsTypedIfEarlier db → (seen_again opened).now ≡ tables_opened db)
+    (rest : (digest : Octets → Octets) → IsCleanAgain opened → IsTypedIfEarlier db → IsSoundHost digest (seen_again opened).now → IsAtRest (IsSoundHost digest) (seen_again opened))
+    (latest : (digest : Octets → Octets) → IsCleanAgain opened → IsTypedIfEarlier db → IsSoundHost digest (seen_again opened).now → opened.latest ≡ latest_of (seen_again opened).now)
+    (named : (digest : Octets → Octets) → IsCleanAgain opened → IsTypedIfEarlier db → IsSoundHost digest (seen_again opened).now → digest_number opened.digest ≡ digest_in (seen_again opened).now) where
   comes : ComesBack db opened
   comes = record {
     schema = schema;
@@ -84,7 +83,7 @@ module _ (old mid new : State) (follows : KeepsDisk mid new) (opened : HasCleanD
   unfolding standing IsOpen Leaves
   found_kept found live settled clean up = found (was clean) old.committed (live up).1 (settled up)
 
--- ---- sound tables are a host's, of either version
+-- ---- sound tables are a host's, of any version
 
 -- their row has the number of a function that is known
 named_by : (n : ℕ) → n ≤ 1 → (named : BlockDigest) × (digest_number named ≡ n)
@@ -93,11 +92,26 @@ named_by (suc zero) known = (Fast, refl)
 named_by (suc (suc n)) known = absurd (omega arith)
 
 -- the one row that was brought over
-one_before : (rows : List HostRow) (row : HostRow) → map (with_version 2) rows ≡ row ∷ [] → list_all is_first_version rows ≡ true
-    → (h : HostRow) × (rows ≡ h ∷ []) × (with_version 2 h ≡ row) × (h.version ≡ 1)
-one_before [] row is first = absurd (cc)
-one_before (h ∷ []) row is first = (h, refl, (let e = is in cc), eqb-true h.version 1 (and_parts _ _ first).0)
-one_before (h ∷ k ∷ rows) row is first = let e = ap length is in absurd (omega (arith, e))
+one_before : (n : ℕ) (rows : List HostRow) (row : HostRow) → map (with_version 3) rows ≡ row ∷ [] → list_all (is_of_version n) rows ≡ true
+    → (h : HostRow) × (rows ≡ h ∷ []) × (with_version 3 h ≡ row) × (h.version ≡ n)
+one_before n [] row is told = absurd (cc)
+one_before n (h ∷ []) row is told = (h, refl, (let e = is in cc), eqb-true h.version n (and_parts _ _ told).0)
+one_before n (h ∷ k ∷ rows) row is told = let e = ap length is in absurd (omega (arith, e))
+
+row_before : (n : ℕ) (rows : List HostRow) (row : HostRow) (named : BlockDigest) → AreLimits row.min_part row.max_body → digest_number named ≡ row.digest → map (with_version 3) rows ≡ row ∷ [] → list_all (is_of_version n) rows ≡ true
+    → IsRowOf n (record { min_part = row.min_part; max_body = row.max_body }) rows
+row_before n rows row named range number brought told =
+    let one = one_before n rows row brought told in
+    let same : with_version 3 one.0 ≡ row = one.2 in
+    record {
+      row = one.0;
+      alone = one.1;
+      version_is = one.3;
+      range = subst (λ (r : HostRow). AreLimits r.min_part r.max_body) (sym same) range;
+      limits_are = ap (λ (r : HostRow). record { min_part = r.min_part; max_body = r.max_body }) (sym same);
+      named = named;
+      number = number ∙ ap (λ (r : HostRow). r.digest) (sym same);
+    }
 
 hosts_database : (digest : Octets → Octets) (db : Database) → IsSoundHost digest (tables_opened db) → (limits : HostLimits) × IsHostOf limits db
 hosts_database digest db sound =
@@ -109,34 +123,21 @@ hosts_database digest db sound =
           let there : (tables_in db).host ≡ it.row ∷ [] = ap (λ (t : Tables). t.host) (sym (host_opens db host)) ∙ it.alone in (
             limits,
             (
-              Second,
+              Third,
               record {
                 host = host;
                 row = record { row = it.row; alone = there; version_is = it.good.version; range = it.good.limits; limits_are = refl; named = by.0; number = by.1 };
               },
             ),
           )
-      | inr first ↦
-          let there : map (with_version 2) (first_tables_in db).host ≡ it.row ∷ [] = ap (λ (t : Tables). t.host) (sym (first_opens db first)) ∙ it.alone in
-          let one = one_before (first_tables_in db).host it.row there first.version in
-          let same : with_version 2 one.0 ≡ it.row = one.2 in (
-            limits,
-            (
-              First,
-              record {
-                host = first.first;
-                row = record {
-                  row = one.0;
-                  alone = one.1;
-                  version_is = one.3;
-                  range = subst (λ (r : HostRow). AreLimits r.min_part r.max_body) (sym same) it.good.limits;
-                  limits_are = ap (λ (r : HostRow). record { min_part = r.min_part; max_body = r.max_body }) (sym same);
-                  named = by.0;
-                  number = by.1 ∙ ap (λ (r : HostRow). r.digest) (sym same);
-                };
-              },
-            ),
-          )
+      | inr earlier ↦ elim earlier [
+        | inl one ↦
+            let there : map (with_version 3) (first_tables_in db).host ≡ it.row ∷ [] = ap (λ (t : Tables). t.host) (sym (first_opens db one)) ∙ it.alone in
+            (limits, (First, record { host = one.first; row = row_before 1 (first_tables_in db).host it.row by.0 it.good.limits by.1 there one.version }))
+        | inr two ↦
+            let there : map (with_version 3) (tables_in db).host ≡ it.row ∷ [] = ap (λ (t : Tables). t.host) (sym (second_opens db two)) ∙ it.alone in
+            (limits, (Second, record { host = two.second; row = row_before 2 (tables_in db).host it.row by.0 it.good.limits by.1 there two.version }))
+      ]
     ]
 
 -- so they aren't refused as none

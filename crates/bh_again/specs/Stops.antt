@@ -9,7 +9,6 @@ use Rattle.bh_types.specs.declared.refusal.Refusal.TheVariants as refusal
 use Rattle.bh_model.specs.State.{Octets}
 use Rattle.bh_event.specs.Events.{Arrival}
 use Rattle.bh_tables.specs.Hosts.{tables_opened}
-use Rattle.bh_tables.specs.Schema.{first_schema, host_schema}
 use Rattle.bh_tables.specs.Typed.{Tables}
 use Rattle.bh_view.specs.Bodies.{IsSoundHost}
 use Rattle.bh_view.specs.View.{latest_of}
@@ -19,7 +18,7 @@ use Rattle.bh_schema.specs.Layer.{standing, Leaves}
 use Rattle.bh_schema.specs.declared.host.Host.{Host}
 use Rattle.bh_schema.specs.Storage.{seen_in, IsIntact, IsOpen, IsClean, seen, left}
 use Rattle.bh_open.specs.Opening.{digest_in}
-use Rattle.bh_open.specs.Versions.{IsTypedIfFirst}
+use Rattle.bh_open.specs.Versions.{IsEarlierSchema, IsHostsSchema, IsTypedIfEarlier}
 use Rattle.bh_open.specs.declared.open.Opened.{Opened}
 use Rattle.bh_host.specs.Runs.{Told}
 use Rattle.bh_host.specs.Turns.{Applied, WouldApply}
@@ -44,11 +43,11 @@ module _ {D : Type 0} {g : Ghosts D} where
     pub latest : (digest : Octets → Octets) → IsSoundHost digest kept → opened.latest ≡ latest_of kept
     pub named : (digest : Octets → Octets) → IsSoundHost digest kept → digest_number opened.digest ≡ digest_in kept
 
-  -- it is the host of this database, of either version, and has the tables that an open shows of it. Rows under the schema of
-  -- version 1 are to be typed rows
+  -- it is the host of this database, of any version, and has the tables that an open shows of it. Rows under the schema of an
+  -- earlier version are to be typed rows
   pub record ComesBack (db : Database) (opened : Opened (FileStore D g)) : Type 0 where
-    pub schema : (db.schema ≡ first_schema) ⊎ (db.schema ≡ host_schema)
-    pub came_back : IsTypedIfFirst db → CameBack (tables_opened db) opened
+    pub schema : IsHostsSchema db.schema
+    pub came_back : IsTypedIfEarlier db → CameBack (tables_opened db) opened
 
   -- the files aren't said to hold no host
   abbrev pub IsNotNone : ReopenError D g → Type 0
@@ -69,7 +68,7 @@ module _ {D : Type 0} {g : Ghosts D} where
     abbrev pub IsLeft : Host (FileStore D g) G → Database → Type 0
     IsLeft host db = Leaves (file_state host.connection) db.trees × IsDatabase db
 
-    -- all tables that an open may show after a crash, of a database of either version
+    -- all tables that an open may show after a crash, of a database of any version
     abbrev pub AllShown : (Tables → Type 0) → Host (FileStore D g) G → Type 0
     AllShown P host = (db : Database) → IsLeft host db → P (tables_opened db)
 
@@ -95,16 +94,16 @@ module _ {D : Type 0} {g : Ghosts D} where
     abbrev pub AddsSound : (Octets → Octets) → Host (FileStore D g) G → Host (FileStore D g) G → Type 0
     AddsSound digest old new = IsIntact over_files new → LeavesSound (IsSoundHost digest) (left over_files) old new
 
-    -- these are the tables of a database of version 1 that a crash may leave, brought over
+    -- these are the tables of a database of an earlier version that a crash may leave, brought over
     pub record IsOlder (host : Host (FileStore D g) G) (x : Tables) : Type 0 where
       pub db : Database
       pub may : IsLeft host db
-      pub schema : db.schema ≡ first_schema
-      pub shown : IsTypedIfFirst db → x ≡ tables_opened db
+      pub schema : IsEarlierSchema db.schema
+      pub shown : IsTypedIfEarlier db → x ≡ tables_opened db
 
     -- the tables that a host has after an event, a stop and an open. With a stamp: what the event did. Without: what stood
     -- before it, where no fault has shut the store, and else what a crash might have left before, or the commit would have
-    -- given. Only of a store that a crash may leave a database of version 1 of is there a third
+    -- given. Only of a store that a crash may leave a database of an earlier version of is there a third
     abbrev pub IsLeftBy : Arrival → Told → Host (FileStore D g) G → Host (FileStore D g) G → Tables → Type 0
     IsLeftBy event (None, reply) old new x =
         (IsOpen over_files new → x ≡ (seen over_files old).now)
@@ -139,7 +138,7 @@ AfterReply {D} g G digest =
     → HasReplied event told ended old new → IsReady digest new → IsReopened new opened → IsCleanAgain opened
     → Survives digest (IsLeftSince event told old new) old new opened
 
--- where a crash leaves none but sound tables, an open after it shows none but sound ones, and finds no database of version 1
+-- where a crash leaves none but sound tables, an open after it shows none but sound ones, and finds no database of an earlier version
 abbrev pub OpensSound : {D : Type 0} → Ghosts D → Type 0 → (Octets → Octets) → Type 0
 OpensSound {D} g G digest = (host : Host (FileStore D g) G) → AllLeft (IsSoundHost digest) host
     → AllShown (IsSoundHost digest) host × ((x : Tables) → ¬ IsOlder host x)

@@ -40,8 +40,8 @@ fn look<S: Alter>(connection: &Connection<S>)
 /// Stops the machine under a host, whatever it was at, and opens its files again. The digester is to be of the function that
 /// names its blocks: it isn't known but by what was opened.
 ///
-/// Of a host that no fault has shut, what was committed comes back; of another one, some database that a crash may leave. One of
-/// version 1 comes back brought over. Where all that an open may show is sound, the host that comes back is at rest, and
+/// Of a host that no fault has shut, what was committed comes back; of another one, some database that a crash may leave. One of an
+/// earlier version comes back brought over. Where all that an open may show is sound, the host that comes back is at rest, and
 /// `NotAHostFile` is not among the errors.
 pub fn stop_and_open_host<D: Crash + Drop, G: Digester + Drop>(
     alloc: Global,

@@ -22,7 +22,7 @@ pub fn stays_sound<D: Crash, G: Digester>()
     ensures { StaysSound D.Disk G G.digest_of }
 {}
 
-/// Where a crash leaves none but sound tables, an open after it shows none but sound ones, and finds no host of version 1.
+/// Where a crash leaves none but sound tables, an open after it shows none but sound ones, and finds no host of an earlier version.
 pub fn opens_sound<D: Crash, G: Digester>()
     ensures { OpensSound D.Disk G G.digest_of }
 {}

@@ -11,27 +11,43 @@ use Rattle.sqlite_typed.specs.Tests.{bytes_eq}
 use Rattle.bh_rows.specs.Form.{AreRows, typed}
 use Rattle.bh_tables.specs.Schema.{Octets, host_schema}
 use Rattle.bh_tables.specs.Bodies.{resolved, resolved_part, same_name}
-use Rattle.bh_tables.specs.Typed.{Totals, totals_of, tables_in, raw, AreHeld, TenantColumns, UploadColumns, VersionRow, PartRow, tenant_columns, upload_columns, tenant_form, stored_tenant_form, upload_form, stored_upload_form, block_form, ref_form, version_of, part_of, bytes_used, bytes_kept}
+use Rattle.bh_tables.specs.Typed.{Totals, totals_of, tables_in, raw, AreHeld, TenantColumns, UploadColumns, VersionRow, PartRow, tenant_columns, upload_columns, tenant_form, stored_tenant_form, upload_form, stored_upload_form, block_form, ref_form, tally_form, version_of, part_of, bytes_used, bytes_kept}
 use Rattle.bh_tables.proofs.StoredLemmas.{Uses, Keeps, held_shown}
 use Rattle.bh_stored.specs.Cells.{is_fit}
+use Rattle.bh_stored.specs.Fits.{AreFit, tenant_kinds, upload_kinds, use_kinds, tally_kinds}
+use Rattle.bh_stored.specs.Stored.{seen}
+use Rattle.bh_stored.specs.declared.stored.Edition.{Edition}
+use Rattle.bh_stored.specs.declared.stored.Edition.TheVariants.{First, Second, Third}
 use Rattle.bh_check.specs.Checked.{IsChecked}
-use Rattle.bh_stored.specs.Fits.{tenant_kinds, upload_kinds, use_kinds}
 use Rattle.bh_check.specs.Holds.{owner, first_two, number_at, version_bytes, part_bytes, upload_bytes, block_refs, Holds}
+use Rattle.bh_check.specs.Tallies.{AreTallied}
 use Rattle.bh_check.specs.declared.rows.Table.TheVariants as table
-use Rattle.bh_stored.proofs.Fitted.{hosts_are, tenants_are, keys_are, buckets_are, versions_are, blocks_are, refs_are, uploads_are, parts_are, uses_are, locks_are, retains_are, used_is, kept_is}
+use Rattle.bh_stored.proofs.Fitted.{hosts_are, tenants_are, keys_are, buckets_are, versions_are, blocks_are, refs_are, uploads_are, parts_are, uses_are, locks_are, retains_are, tallies_are, used_is, kept_is}
 use Rattle.bh_check.proofs.CountsAre.{counts_are, refs_counted}
+use Rattle.bh_check.proofs.Schemas.{kept}
+use Rattle.bh_check.proofs.TallyCounts.{and_true, tallies_counted}
 use Rattle.bh_check.proofs.TotalIs.{total_twice}
 
-pub and_true : (b : Bool) → b ≡ (b && true)
-and_true true = refl
-and_true false = refl
+-- a database of these rows, under whatever schema they are
+abbrev of_trees : Trees → Database
+of_trees d = record { schema = host_schema; trees = d }
 
-module _ (has : Bool) (digest : Octets → Octets) (d : Trees) (c : IsChecked has digest d) where
+-- where there are tallies
+tallies_kept : (edition : Edition) (trees : Trees) → AreTallied edition (seen edition trees) → AreFit tally_kinds (seen edition trees 30)
+    → typed tally_form (seen edition trees 30) ≡ (kept edition (totals_of (tables_in (of_trees (seen edition trees))))).tallies
+tallies_kept First trees tallied fit = refl
+tallies_kept Second trees tallied fit = refl
+tallies_kept Third trees tallied fit = tallies_counted (seen Third trees) (trees 30) (trees 1) (all_from_test (is_fit tally_kinds) (trees 30) fit.fit) tallied
+
+module _ (edition : Edition) (digest : Octets → Octets) (trees : Trees) (c : IsChecked edition digest (seen edition trees)) where
+  abbrev d : Trees
+  d = seen edition trees
+
   abbrev db : Database
-  db = record { schema = host_schema; trees = d }
+  db = of_trees d
 
   abbrev sums : Totals
-  sums = totals_of (tables_in db)
+  sums = kept edition (totals_of (tables_in db))
 
   -- the bytes that a tenant's rows have
   versions_sum : (t : Octets) → sum_by (λ (v : VersionRow). v.size) (filter (λ v. bytes_eq v.tenant t) (tables_in db).versions) ≡ version_bytes d (t, 0)
@@ -71,5 +87,7 @@ module _ (has : Bool) (digest : Octets → Octets) (d : Trees) (c : IsChecked ha
     uses = uses_are (d 23) c.fits.uses;
     locks = locks_are (d 26) c.fits.locks;
     retains = retains_are (d 28) c.fits.retains;
+    tallies = tallies_are (d 30) c.fits.tallies;
+    tallied = tallies_kept edition trees c.tallies c.fits.tallies;
     counts = counts_are (block_refs d) (typed ref_form (d 12)) (refs_counted d) (d 23) (d 10) (all_from_test (is_fit use_kinds) (d 23) c.fits.uses.fit) c.counts;
   }

@@ -1,5 +1,5 @@
 -- What a check of the store that a connection leaves says of the connection's tables.
-use Rattle.std.proofs.Common.{arith, ◌≡◌, ◌⊎◌, ◌≤◌, ℕ, Bool, true, nat_lt, length, IsTrue, Result, Ok, Err, IfOk, refl, sym, ap, ◌∙◌, subst}
+use Rattle.std.proofs.Common.{arith, ◌≡◌, ◌⊎◌, ◌≤◌, ℕ, length, IsTrue, Result, Ok, Err, IfOk, refl, sym, ap, ◌∙◌, subst}
 use Rattle.sqlite.specs.Effect.{Database, IsDatabase}
 use Rattle.sqlite.specs.Held.{Held, state}
 use Rattle.sqlite.specs.State.{IsLive}
@@ -8,12 +8,13 @@ use Rattle.sqlite_schema.specs.declared.schema.Schema.{Schema}
 use Rattle.sqlite_trees.specs.View.{IsClean, IsRolledBack, doubt}
 use Rattle.sqlite_trees.specs.declared.store.Store.{Ghosts}
 use Rattle.bh_tables.specs.Hosts.{tables_opened}
-use Rattle.bh_tables.specs.Schema.{Octets, first_schema, host_schema}
+use Rattle.bh_tables.specs.Schema.{Octets, first_schema, second_schema, host_schema}
 use Rattle.bh_view.specs.Bodies.{IsSoundHost}
 use Rattle.bh_schema.specs.Layer.{IsStateClean, IsIntact, IsOpen}
 use Rattle.bh_stored.specs.Stored.{seen}
+use Rattle.bh_stored.specs.declared.stored.Edition.{Edition}
 use Rattle.bh_stored.specs.Stores.{KeepsTrees}
-use Rattle.bh_check.specs.Checked.{schema_with, IsChecked}
+use Rattle.bh_check.specs.Checked.{schema_of, edition_with, IsChecked}
 use Rattle.bh_check.proofs.Schemas.{told}
 use Rattle.bh_check.proofs.Sound.{makes_sound}
 
@@ -22,10 +23,10 @@ pub ok_both : {T E : Type 0} (r : Result T E) (P Q R : T → Type 0) → ((x : T
 ok_both (Ok x) P Q R f p q = f x p q
 ok_both (Err e) P Q R f p q = tt
 
-module _ {S : Type 0} (g : Ghosts S) (connection : Held S) (bare last : S) (has : Bool) (digest : Octets → Octets) (schema : IsStateClean (state g connection) → ((state g connection).now.schema ≡ first_schema) ⊎ ((state g connection).now.schema ≡ host_schema))
-    (tells : has ≡ nat_lt 10 (length (state g connection).now.schema.tables)) (live : IsLive (state g connection))
+module _ {S : Type 0} (g : Ghosts S) (connection : Held S) (bare last : S) (edition : Edition) (digest : Octets → Octets) (schema : IsStateClean (state g connection) → ((state g connection).now.schema ≡ first_schema) ⊎ (((state g connection).now.schema ≡ second_schema) ⊎ ((state g connection).now.schema ≡ host_schema)))
+    (tells : edition ≡ edition_with (length (state g connection).now.schema.tables)) (live : IsLive (state g connection))
     (settled : IsTrue (state g connection).is_open → (state g connection).now ≡ (state g connection).committed) (undone : IsRolledBack (g.view connection.store) (g.view bare))
-    (less : doubt (g.view connection.store).is_clean ≤ doubt (g.view bare).is_clean) (keeps : KeepsTrees (g.view bare) (g.view last)) (checked : IsClean (g.view last) → IsChecked has digest (seen has (g.view bare).trees))
+    (less : doubt (g.view connection.store).is_clean ≤ doubt (g.view bare).is_clean) (keeps : KeepsTrees (g.view bare) (g.view last)) (checked : IsClean (g.view last) → IsChecked edition digest (seen edition (g.view bare).trees))
     (clean : IsClean (g.view last)) (opened : IsTrue (g.view last).is_open) where
   bare_clean : IsClean (g.view bare)
   bare_clean = keeps.clean clean
@@ -49,14 +50,14 @@ module _ {S : Type 0} (g : Ghosts S) (connection : Held S) (bare last : S) (has 
   same_trees : (g.view bare).trees ≡ trees
   same_trees = (undone.undone bare_open).0 ∙ sym (ap (λ (db : Database). db.trees) (settled was_open))
 
-  schema_is : (state g connection).now.schema ≡ schema_with has
-  schema_is = told (state g connection).now.schema has tells (schema state_clean)
+  schema_is : (state g connection).now.schema ≡ schema_of edition
+  schema_is = told (state g connection).now.schema edition tells (schema state_clean)
 
-  database : IsDatabase (record { schema = schema_with has; trees = trees })
+  database : IsDatabase (record { schema = schema_of edition; trees = trees })
   database = subst (λ (s : Schema). IsDatabase (record { schema = s; trees = trees })) schema_is (live was_open).0
 
-  sound_tables : IsSoundHost digest (tables_opened (record { schema = schema_with has; trees = trees }))
-  sound_tables = makes_sound has digest trees database (subst (λ (t : Trees). IsChecked has digest (seen has t)) same_trees (checked clean))
+  sound_tables : IsSoundHost digest (tables_opened (record { schema = schema_of edition; trees = trees }))
+  sound_tables = makes_sound edition digest trees database (subst (λ (t : Trees). IsChecked edition digest (seen edition t)) same_trees (checked clean))
 
   pub sound_left : IsStateClean (state g connection) × IsSoundHost digest (tables_opened (state g connection).now)
   sound_left = (state_clean, subst (λ (s : Schema). IsSoundHost digest (tables_opened (record { schema = s; trees = trees }))) (sym schema_is) sound_tables)

@@ -9,6 +9,9 @@ mod PlacedBodies
 mod OnceLemmas
 mod NamedLemmas
 mod TotalIs
+mod NewestLemmas
+mod EntryKeys
+mod TallyCounts
 mod CountsAre
 mod HostIs
 mod Schemas

@@ -1,29 +1,45 @@
--- The schemas of both versions of a host as one: its first tables, and more of them.
-use Rattle.std.proofs.Common.{◌≡◌, ◌⊎◌, inl, inr, Bool, true, false, List, [], ◌∷◌, ◌++◌, length, nat_lt, refl, sym, ap, ◌∙◌, codes}
+-- The schemas of all editions of a host as one: its first tables, and more of them. And what it keeps of other rows.
+use Rattle.std.proofs.Common.{◌≡◌, ◌⊎◌, inl, inr, List, [], ◌∷◌, ◌++◌, length, refl, sym, ap, ◌∙◌, codes}
 use Rattle.sqlite.specs.Schema.{Schema}
 use Rattle.sqlite.specs.Table.{Table}
 use Rattle.sqlite_schema.specs.declared.schema.Index.{Index}
 use Rattle.sqlite_tied.specs.Compute.{everything}
-use Rattle.bh_tables.specs.Schema.{first_schema, host_schema, at, auto, locks_table, retains_table}
-use Rattle.bh_check.specs.Checked.{schema_with}
+use Rattle.bh_tables.specs.Schema.{first_schema, second_schema, host_schema, at, auto, locks_table, retains_table, tallies_table}
+use Rattle.bh_tables.specs.Typed.{Totals, TallyRow}
+use Rattle.bh_stored.specs.declared.stored.Edition.{Edition}
+use Rattle.bh_stored.specs.declared.stored.Edition.TheVariants.{First, Second, Third}
+use Rattle.bh_check.specs.Checked.{schema_of, edition_with}
 
-abbrev more_tables : Bool → List Table
-more_tables true = at 26 locks_table ∷ at 28 retains_table ∷ []
-more_tables false = []
+-- none is tallied where there is no table of tallies
+abbrev pub kept_tallies : Edition → List TallyRow → List TallyRow
+kept_tallies First tallies = []
+kept_tallies Second tallies = []
+kept_tallies Third tallies = tallies
 
-abbrev more_indexes : Bool → List Index
-more_indexes true = auto (codes "sqlite_autoindex_locks_1") 27 26 (1 ∷ 2 ∷ []) ∷ auto (codes "sqlite_autoindex_retains_1") 29 28 (1 ∷ 2 ∷ []) ∷ []
-more_indexes false = []
+abbrev pub kept : Edition → Totals → Totals
+kept edition sums = record sums { tallies = kept_tallies edition sums.tallies }
 
-abbrev pub over : Bool → Schema
-over has = record { tables = first_schema.tables ++ more_tables has; indexes = first_schema.indexes ++ more_indexes has; views = [] }
+abbrev more_tables : Edition → List Table
+more_tables First = []
+more_tables Second = at 26 locks_table ∷ at 28 retains_table ∷ []
+more_tables Third = at 26 locks_table ∷ at 28 retains_table ∷ at 30 tallies_table ∷ []
 
-pub over_is : (has : Bool) → schema_with has ≡ over has
-over_is true = refl
-over_is false = refl
+abbrev more_indexes : Edition → List Index
+more_indexes First = []
+more_indexes Second = auto (codes "sqlite_autoindex_locks_1") 27 26 (1 ∷ 2 ∷ []) ∷ auto (codes "sqlite_autoindex_retains_1") 29 28 (1 ∷ 2 ∷ []) ∷ []
+more_indexes Third = auto (codes "sqlite_autoindex_locks_1") 27 26 (1 ∷ 2 ∷ []) ∷ auto (codes "sqlite_autoindex_retains_1") 29 28 (1 ∷ 2 ∷ []) ∷ auto (codes "sqlite_autoindex_tallies_1") 31 30 (1 ∷ []) ∷ []
 
--- how many tables there are tells which version it is
-pub told : (schema : Schema) (has : Bool) → has ≡ nat_lt 10 (length schema.tables) → (schema ≡ first_schema) ⊎ (schema ≡ host_schema) → schema ≡ schema_with has
+abbrev pub over : Edition → Schema
+over edition = record { tables = first_schema.tables ++ more_tables edition; indexes = first_schema.indexes ++ more_indexes edition; views = [] }
+
+pub over_is : (edition : Edition) → schema_of edition ≡ over edition
+over_is First = refl
+over_is Second = refl
+over_is Third = refl
+
+-- how many tables there are tells which edition it is
+pub told : (schema : Schema) (edition : Edition) → edition ≡ edition_with (length schema.tables) → (schema ≡ first_schema) ⊎ ((schema ≡ second_schema) ⊎ (schema ≡ host_schema)) → schema ≡ schema_of edition
 unfolding everything
-told schema has is (inl first) = first ∙ ap schema_with (sym (is ∙ ap (λ (s : Schema). nat_lt 10 (length s.tables)) first))
-told schema has is (inr second) = second ∙ ap schema_with (sym (is ∙ ap (λ (s : Schema). nat_lt 10 (length s.tables)) second))
+told schema edition is (inl first) = first ∙ ap schema_of (sym (is ∙ ap (λ (s : Schema). edition_with (length s.tables)) first))
+told schema edition is (inr (inl second)) = second ∙ ap schema_of (sym (is ∙ ap (λ (s : Schema). edition_with (length s.tables)) second))
+told schema edition is (inr (inr third)) = third ∙ ap schema_of (sym (is ∙ ap (λ (s : Schema). edition_with (length s.tables)) third))

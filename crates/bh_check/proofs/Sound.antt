@@ -1,5 +1,5 @@
 -- The tables of a database that was checked are those of a sound host.
-use Rattle.std.proofs.Common.{◌≡◌, ℕ, ◌+◌, ◌≤◌, ◌^◌, Bool, true, false, ◌==◌, ◌&&◌, List, [], ◌∷◌, map, filter, Option, Some, None, refl, sym, ap, ◌∙◌, subst}
+use Rattle.std.proofs.Common.{◌≡◌, ℕ, ◌+◌, ◌≤◌, ◌^◌, true, ◌==◌, ◌&&◌, List, [], ◌∷◌, map, filter, Option, Some, None, refl, sym, ap, ◌∙◌, subst}
 use Rattle.std.specs.List.{AllByRecursion, list_all}
 use Rattle.std.specs.Option.{option_map_or}
 use Rattle.sqlite.specs.Effect.{Database, IsDatabase}
@@ -12,11 +12,11 @@ use Rattle.sqlite_typed.specs.Tests.{bytes_eq}
 use Rattle.sqlite_typed.proofs.TestLemmas.{same_bytes}
 use Rattle.bh_model.specs.QuotaLaws.{IsBounded}
 use Rattle.bh_model.specs.State.{State, used}
-use Rattle.bh_tables.specs.Schema.{Octets, first_schema, host_schema}
+use Rattle.bh_tables.specs.Schema.{Octets, first_schema, second_schema, host_schema}
 use Rattle.bh_tables.specs.Bodies.{first}
-use Rattle.bh_tables.specs.Hosts.{with_version, is_first_version, brought_over, tables_opened}
+use Rattle.bh_tables.specs.Hosts.{with_version, is_of_version, brought_over, tables_opened}
 use Rattle.bh_tables.specs.Typed.{Tables, tables_in, HostRow, TenantRow, BlockRow, tenant_of, block_of}
-use Rattle.bh_tables.proofs.HostTests.{host_opens, first_opens}
+use Rattle.bh_tables.proofs.HostTests.{host_opens, first_opens, second_opens}
 use Rattle.bh_view.specs.Blocks.{AreDigests}
 use Rattle.bh_view.specs.Bodies.{AreBounded, IsSoundHost}
 use Rattle.bh_view.specs.Sound.{IsTenantRow, AreSound, IsSound}
@@ -25,7 +25,9 @@ use Rattle.bh_view.proofs.FactLemmas.{all_first}
 use Rattle.bh_view.proofs.UsedLemmas.{used_is}
 use Rattle.bh_view.proofs.ViewLemmas.{own_row}
 use Rattle.bh_stored.specs.Stored.{seen}
-use Rattle.bh_check.specs.Checked.{version_with, schema_with, IsChecked, MakesSound}
+use Rattle.bh_stored.specs.declared.stored.Edition.{Edition}
+use Rattle.bh_stored.specs.declared.stored.Edition.TheVariants.{First, Second, Third}
+use Rattle.bh_check.specs.Checked.{IsChecked, MakesSound}
 use Rattle.bh_check.specs.Holds.{version_bytes, part_bytes, Holds}
 use Rattle.bh_check.specs.declared.rows.Table.TheVariants as table
 use Rattle.bh_check.proofs.HostIs.{held_is, used_sum}
@@ -35,9 +37,9 @@ use Rattle.bh_check.proofs.SoundLocks.{locks_are, retains_are}
 use Rattle.bh_check.proofs.SoundOwned.{all_in, versions_are, uploads_are, parts_are}
 use Rattle.bh_check.proofs.SoundRows.{stored_are, tenants_are, keys_are, buckets_are}
 
-module _ (has : Bool) (digest : Octets → Octets) (trees : Trees) (c : IsChecked has digest (seen has trees)) (sound : IsDatabase (record { schema = over has; trees = trees })) where
+module _ (edition : Edition) (digest : Octets → Octets) (trees : Trees) (c : IsChecked edition digest (seen edition trees)) (sound : IsDatabase (record { schema = over edition; trees = trees })) where
   abbrev d : Trees
-  d = seen has trees
+  d = seen edition trees
 
   abbrev db : Database
   db = record { schema = host_schema; trees = d }
@@ -49,8 +51,8 @@ module _ (has : Bool) (digest : Octets → Octets) (trees : Trees) (c : IsChecke
   abbrev host : HostRow
   host = c.host.host
 
-  alone : shown.host ≡ with_version 2 host ∷ []
-  alone = ap (map (with_version 2)) c.host.alone
+  alone : shown.host ≡ with_version 3 host ∷ []
+  alone = ap (map (with_version 3)) c.host.alone
 
   latest_is : latest_of shown ≡ c.latest
   unfolding latest_of
@@ -58,21 +60,21 @@ module _ (has : Bool) (digest : Octets → Octets) (trees : Trees) (c : IsChecke
 
   rows_sound : (t : Octets) → AreSound c.latest (rows_of t shown)
   rows_sound t = record {
-    tenants = tenants_are has digest trees c sound t;
-    keys = keys_are has digest trees c sound t;
-    buckets = buckets_are has digest trees c sound t;
-    versions = versions_are has digest trees c sound t;
-    uploads = uploads_are has digest trees c sound t;
-    parts = parts_are has digest trees c sound t;
-    locks = locks_are has digest trees c sound t;
-    retains = retains_are has digest trees c sound t;
+    tenants = tenants_are edition digest trees c sound t;
+    keys = keys_are edition digest trees c sound t;
+    buckets = buckets_are edition digest trees c sound t;
+    versions = versions_are edition digest trees c sound t;
+    uploads = uploads_are edition digest trees c sound t;
+    parts = parts_are edition digest trees c sound t;
+    locks = locks_are edition digest trees c sound t;
+    retains = retains_are edition digest trees c sound t;
   }
 
   are_sound : (t : Octets) → AreSound (latest_of shown) (rows_of t shown)
   are_sound t = subst (λ n. AreSound n (rows_of t shown)) (sym latest_is) (rows_sound t)
 
   is_sound : IsSound shown
-  is_sound = record { host = record { row = with_version 2 host; alone = alone; good = c.host.good.good }; tenants = are_sound; stored = stored_are has digest trees c sound }
+  is_sound = record { host = record { row = with_version 3 host; alone = alone; good = c.host.good.good }; tenants = are_sound; stored = stored_are edition digest trees c sound }
 
   -- ---- what a tenant uses is at most 2^60 bytes
 
@@ -91,9 +93,9 @@ module _ (has : Bool) (digest : Octets → Octets) (trees : Trees) (c : IsChecke
       go None is = tt
       go (Some s) is =
           let row = own_row shown t s is in
-          let good = all_first IsTenantRow (rows_of t shown).tenants row.0 row.1 (tenants_are has digest trees c sound t).each in
+          let good = all_first IsTenantRow (rows_of t shown).tenants row.0 row.1 (tenants_are edition digest trees c sound t).each in
           let small = all_first (λ (_ : TenantRow). IsSmall t) (rows_of t shown).tenants row.0 row.1 (are_small t) in
-          (subst (λ (x : State). x.quota ≤ 2 ^ 60) row.2 good.quota, subst (λ n. n ≤ 2 ^ 60) (sym (used_is shown t s is_sound is ∙ used_sum has digest d c t)) small)
+          (subst (λ (x : State). x.quota ≤ 2 ^ 60) row.2 good.quota, subst (λ n. n ≤ 2 ^ 60) (sym (used_is shown t s is_sound is ∙ used_sum edition digest trees c t)) small)
 
   are_digests : AreDigests digest shown.blocks
   are_digests = all_map (λ (b : BlockRow). b.digest ≡ digest b.bytes) block_of (d 10) c.bytes.digests
@@ -101,30 +103,38 @@ module _ (has : Bool) (digest : Octets → Octets) (trees : Trees) (c : IsChecke
   pub sound_tables : IsSoundHost digest shown
   sound_tables = record {
     sound = is_sound;
-    bodies = have_bodies has digest trees c sound;
+    bodies = have_bodies edition digest trees c sound;
     digests = are_digests;
     bounded = are_bounded;
   }
 
--- ---- of each version
+-- ---- of each edition
 
 module _ (digest : Octets → Octets) (d : Trees) where
-  second_sound : IsDatabase (record { schema = host_schema; trees = d }) → IsChecked true digest (seen true d) → IsSoundHost digest (tables_opened (record { schema = host_schema; trees = d }))
-  second_sound sound c =
+  third_sound : IsDatabase (record { schema = host_schema; trees = d }) → IsChecked Third digest (seen Third d) → IsSoundHost digest (tables_opened (record { schema = host_schema; trees = d }))
+  third_sound sound c =
       let db : Database = record { schema = host_schema; trees = d } in
       let host = c.host.host in
-      let hosts : map (with_version 2) (tables_in db).host ≡ (tables_in db).host =
-      ap (map (with_version 2)) c.host.alone ∙ ap (λ n. with_version n host ∷ []) (sym c.host.good.version_is) ∙ sym c.host.alone in
-      subst (IsSoundHost digest) (ap (λ rows. record (tables_in db) { host = rows }) hosts ∙ sym (host_opens db (record { schema = refl; held = held_is true digest (seen true d) c })))
-      (sound_tables true digest d c (subst (λ (s : Schema). IsDatabase (record { schema = s; trees = d })) (over_is true) sound))
+      let hosts : map (with_version 3) (tables_in db).host ≡ (tables_in db).host =
+      ap (map (with_version 3)) c.host.alone ∙ ap (λ n. with_version n host ∷ []) (sym c.host.good.version_is) ∙ sym c.host.alone in
+      subst (IsSoundHost digest) (ap (λ rows. record (tables_in db) { host = rows }) hosts ∙ sym (host_opens db (record { schema = refl; held = held_is Third digest d c })))
+      (sound_tables Third digest d c (subst (λ (s : Schema). IsDatabase (record { schema = s; trees = d })) (over_is Third) sound))
 
-  first_sound : IsDatabase (record { schema = first_schema; trees = d }) → IsChecked false digest (seen false d) → IsSoundHost digest (tables_opened (record { schema = first_schema; trees = d }))
+  second_sound : IsDatabase (record { schema = second_schema; trees = d }) → IsChecked Second digest (seen Second d) → IsSoundHost digest (tables_opened (record { schema = second_schema; trees = d }))
+  second_sound sound c =
+      let db : Database = record { schema = second_schema; trees = d } in
+      subst (IsSoundHost digest)
+      (sym (second_opens db (record { second = record { schema = refl; held = held_is Second digest d c }; version = ap (list_all (is_of_version 2)) c.host.alone ∙ ap (λ n. (n == 2) && true) c.host.good.version_is })))
+      (sound_tables Second digest d c (subst (λ (s : Schema). IsDatabase (record { schema = s; trees = d })) (over_is Second) sound))
+
+  first_sound : IsDatabase (record { schema = first_schema; trees = d }) → IsChecked First digest (seen First d) → IsSoundHost digest (tables_opened (record { schema = first_schema; trees = d }))
   first_sound sound c =
       let db : Database = record { schema = first_schema; trees = d } in
       subst (IsSoundHost digest)
-      (sym (first_opens db (record { first = record { schema = refl; held = held_is false digest (seen false d) c }; version = ap (list_all is_first_version) c.host.alone ∙ ap (λ n. (n == 1) && true) c.host.good.version_is })))
-      (sound_tables false digest d c (subst (λ (s : Schema). IsDatabase (record { schema = s; trees = d })) (over_is false) sound))
+      (sym (first_opens db (record { first = record { schema = refl; held = held_is First digest d c }; version = ap (list_all (is_of_version 1)) c.host.alone ∙ ap (λ n. (n == 1) && true) c.host.good.version_is })))
+      (sound_tables First digest d c (subst (λ (s : Schema). IsDatabase (record { schema = s; trees = d })) (over_is First) sound))
 
 pub makes_sound : MakesSound
-makes_sound true digest d sound c = second_sound digest d sound c
-makes_sound false digest d sound c = first_sound digest d sound c
+makes_sound First digest d sound c = first_sound digest d sound c
+makes_sound Second digest d sound c = second_sound digest d sound c
+makes_sound Third digest d sound c = third_sound digest d sound c

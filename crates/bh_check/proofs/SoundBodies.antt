@@ -23,12 +23,13 @@ use Rattle.bh_view.specs.Bodies.{AreBodies, HasBodies, bodies_of, bodies_in}
 use Rattle.bh_view.specs.Grouped.{same_number}
 use Rattle.bh_check.specs.Blocks.{AreNamed, named_octets, refs_of}
 use Rattle.bh_stored.specs.Stored.{seen}
+use Rattle.bh_stored.specs.declared.stored.Edition.{Edition}
 use Rattle.bh_check.specs.Checked.{IsChecked}
 use Rattle.bh_check.specs.Holds.{first_two, part_body, ref_block, number_at, block_length, block_bytes, body_bytes, body_refs, body_versions, body_parts, Holds}
 use Rattle.bh_check.specs.declared.rows.Table.TheVariants as table
 use Rattle.bh_check.proofs.Counted.{none_has, some_has_it, any_in, any_map, length_map, filter_of_none}
 use Rattle.bh_check.proofs.HostIs.{held_is}
-use Rattle.bh_check.proofs.Schemas.{over}
+use Rattle.bh_check.proofs.Schemas.{over, kept}
 use Rattle.bh_check.proofs.OneLemmas.{one_block}
 use Rattle.bh_check.proofs.PlacedBodies.{placed_are, bodies_placed}
 use Rattle.bh_check.proofs.TotalIs.{total_is}
@@ -51,15 +52,15 @@ pieces_length : (f : RefRow → Octets) (xs : List RefRow) → AllByRecursion (�
 pieces_length f [] h = refl
 pieces_length f (x ∷ xs) h = let rest = pieces_length f xs h.1 in let more = sum_by-cons (λ (r : RefRow). r.size) x xs in let size = h.0 in let all = length-append (f x) (flat_map f xs) in all ∙ omega (arith, rest, more, size)
 
-module _ (has : Bool) (digest : Octets → Octets) (trees : Trees) (c : IsChecked has digest (seen has trees)) (sound : IsDatabase (record { schema = over has; trees = trees })) where
+module _ (edition : Edition) (digest : Octets → Octets) (trees : Trees) (c : IsChecked edition digest (seen edition trees)) (sound : IsDatabase (record { schema = over edition; trees = trees })) where
   abbrev d : Trees
-  d = seen has trees
+  d = seen edition trees
 
   abbrev db : Database
   db = record { schema = host_schema; trees = d }
 
   abbrev sums : Totals
-  sums = totals_of (tables_in db)
+  sums = kept edition (totals_of (tables_in db))
 
   abbrev refs : List RefRow
   refs = typed ref_form (d 12)
@@ -70,7 +71,7 @@ module _ (has : Bool) (digest : Octets → Octets) (trees : Trees) (c : IsChecke
   -- ---- blocks
 
   named_once : (q : Name) → length (filter (is_block q) blocks) ≤ 1
-  named_once q = one_block sums has trees sound (held_is has digest d c) q.0 q.1
+  named_once q = one_block sums edition trees sound (held_is edition digest trees c) q.0 q.1
 
   pub are_named : AreNamed (d 10)
   are_named q = subst (λ n. n ≤ 1) (ap length (filter-map (is_block q) block_of (d 10)) ∙ length_map block_of (filter (λ r. same_name (first_two r) q) (d 10))) (named_once q)

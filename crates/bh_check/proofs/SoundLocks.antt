@@ -17,6 +17,7 @@ use Rattle.bh_view.specs.Sound.{AreLocks, MayBeDated, AreRetains}
 use Rattle.bh_view.specs.View.{rows_of, is_locked, date_in}
 use Rattle.bh_view.proofs.FilterLemmas.{filter_both}
 use Rattle.bh_stored.specs.Stored.{seen}
+use Rattle.bh_stored.specs.declared.stored.Edition.{Edition}
 use Rattle.bh_check.specs.Checked.{IsChecked}
 use Rattle.bh_check.specs.Holds.{first_two, bucket_name, number_at, bucket_locks, version_dates, Holds}
 use Rattle.bh_check.specs.declared.rows.Table.TheVariants as table
@@ -25,7 +26,7 @@ use Rattle.bh_check.proofs.Counted.{none_has, some_has_it, any_in, any_map, filt
 use Rattle.bh_check.proofs.HostIs.{held_is}
 use Rattle.bh_check.proofs.OneLemmas.{one_lock, one_retain}
 use Rattle.bh_check.proofs.Parents.{locks_owned, retains_owned}
-use Rattle.bh_check.proofs.Schemas.{over}
+use Rattle.bh_check.proofs.Schemas.{over, kept}
 use Rattle.bh_check.proofs.SoundOwned.{all_in}
 
 positive : (n : ℕ) → (n ≡ 0 → ⊥) → 0 < n
@@ -36,15 +37,15 @@ first_unmapped : {C T : Type 0} (f : C → T) (cs : List C) → first (map f cs)
 first_unmapped f [] h = refl
 first_unmapped f (c ∷ cs) h = absurd (cc)
 
-module _ (has : Bool) (digest : Octets → Octets) (trees : Trees) (c : IsChecked has digest (seen has trees)) (sound : IsDatabase (record { schema = over has; trees = trees })) (t : Octets) where
+module _ (edition : Edition) (digest : Octets → Octets) (trees : Trees) (c : IsChecked edition digest (seen edition trees)) (sound : IsDatabase (record { schema = over edition; trees = trees })) (t : Octets) where
   abbrev d : Trees
-  d = seen has trees
+  d = seen edition trees
 
   abbrev db : Database
   db = record { schema = host_schema; trees = d }
 
   abbrev sums : Totals
-  sums = totals_of (tables_in db)
+  sums = kept edition (totals_of (tables_in db))
 
   abbrev buckets : List BucketRow
   buckets = (rows_of t (tables_in db)).buckets
@@ -99,9 +100,9 @@ module _ (has : Bool) (digest : Octets → Octets) (trees : Trees) (c : IsChecke
 
   pub locks_are : AreLocks buckets locks
   locks_are = record {
-    one = λ name. subst (λ l. length l ≤ 1) (sym (filter_both my_lock (λ l. bytes_eq l.bucket name) (typed lock_form (d 26)))) (one_lock sums trees has sound (held_is has digest d c) t name);
+    one = λ name. subst (λ l. length l ≤ 1) (sym (filter_both my_lock (λ l. bytes_eq l.bucket name) (typed lock_form (d 26)))) (one_lock sums trees edition sound (held_is edition digest trees c) t name);
     owned = λ name none. filter_both my_lock (λ l. bytes_eq l.bucket name) (typed lock_form (d 26))
-        ∙ locks_owned sums trees has sound (held_is has digest d c) t name (sym (ap first (filter_both my_bucket (λ b. bytes_eq b.bucket name) (tables_in db).buckets)) ∙ none);
+        ∙ locks_owned sums trees edition sound (held_is edition digest trees c) t name (sym (ap first (filter_both my_bucket (λ b. bytes_eq b.bucket name) (tables_in db).buckets)) ∙ none);
     enabled = all_in IsEnabled my_bucket (map bucket_of (d 5)) (all_map (λ b. my_bucket b ≡ true → IsEnabled b) bucket_of (d 5)
         (all_weaker (Holds d c.latest table.Locked) (λ r. my_bucket (bucket_of r) ≡ true → IsEnabled (bucket_of r)) enabled_is (d 5) c.dates.locked));
   }
@@ -140,9 +141,9 @@ module _ (has : Bool) (digest : Octets → Octets) (trees : Trees) (c : IsChecke
   pub retains_are : AreRetains versions locks retains
   retains_are = record {
     each = all-filter (λ (r : RetainRow). r.until ≤ 251_000_000_000) my_date (typed retain_form (d 28)) (all_map (λ (r : RetainRow). r.until ≤ 251_000_000_000) retain_of (d 28) c.dates.retains);
-    one = λ seq. subst (λ l. length l ≤ 1) (sym (filter_both my_date (λ r. same_number r.seq seq) (typed retain_form (d 28)))) (one_retain sums trees has sound (held_is has digest d c) t seq);
+    one = λ seq. subst (λ l. length l ≤ 1) (sym (filter_both my_date (λ r. same_number r.seq seq) (typed retain_form (d 28)))) (one_retain sums trees edition sound (held_is edition digest trees c) t seq);
     owned = λ seq none. filter_both my_date (λ r. same_number r.seq seq) (typed retain_form (d 28))
-        ∙ retains_owned sums trees has sound (held_is has digest d c) t seq
+        ∙ retains_owned sums trees edition sound (held_is edition digest trees c) t seq
         (first_unmapped shown (filter (λ x. mine (shown x) && same_number (shown x).seq seq) (typed version_form (d 7)))
         (sym (ap first (filter_both mine (λ v. same_number v.seq seq) (tables_in db).versions ∙ filter-map (λ v. mine v && same_number v.seq seq) shown (typed version_form (d 7)))) ∙ none));
     kept = all_in IsAllowed mine (map shown (map version_of (d 7)))

@@ -22,13 +22,15 @@ use Rattle.bh_view.specs.View.{rows_of, in_bucket, at_key, of_upload}
 use Rattle.bh_view.proofs.FilterLemmas.{filter_both}
 use Rattle.bh_check.specs.Blocks.{HasChecksum}
 use Rattle.bh_stored.specs.Stored.{seen}
+use Rattle.bh_stored.specs.declared.stored.Edition.{Edition}
 use Rattle.bh_check.specs.Checked.{IsChecked}
 use Rattle.bh_check.specs.Holds.{owner, first_two, part_body, number_at, next_entry, next_version, next_upload, body_versions, Holds}
 use Rattle.bh_check.specs.Sums.{total}
 use Rattle.bh_check.specs.declared.rows.Table.TheVariants as table
 use Rattle.bh_check.proofs.Counted.{none_has, any_in, any_map, length_map, sum_of_one}
-use Rattle.bh_check.proofs.HostIs.{and_true, held_is}
-use Rattle.bh_check.proofs.Schemas.{over}
+use Rattle.bh_check.proofs.HostIs.{held_is}
+use Rattle.bh_check.proofs.Schemas.{over, kept}
+use Rattle.bh_check.proofs.TallyCounts.{and_true}
 use Rattle.bh_check.proofs.OneLemmas.{one_tenant, one_entry, one_version, one_upload, one_part, one_body}
 use Rattle.bh_check.proofs.Parents.{versions_owned, uploads_owned, parts_owned}
 use Rattle.bh_check.proofs.SoundBodies.{are_named, whole_length, whole_none, whole_stored}
@@ -49,15 +51,15 @@ one_shown shown m cs low = subst (λ n. n ≤ 1) (sym (ap length (filter-map m s
 none_shown : {C T : Type 0} (shown : C → T) (m : T → Bool) (cs : List C) → filter (λ c. m (shown c)) cs ≡ [] → filter m (map shown cs) ≡ []
 none_shown shown m cs none = filter-map m shown cs ∙ ap (map shown) none
 
-module _ (has : Bool) (digest : Octets → Octets) (trees : Trees) (c : IsChecked has digest (seen has trees)) (sound : IsDatabase (record { schema = over has; trees = trees })) (t : Octets) where
+module _ (edition : Edition) (digest : Octets → Octets) (trees : Trees) (c : IsChecked edition digest (seen edition trees)) (sound : IsDatabase (record { schema = over edition; trees = trees })) (t : Octets) where
   abbrev d : Trees
-  d = seen has trees
+  d = seen edition trees
 
   abbrev db : Database
   db = record { schema = host_schema; trees = d }
 
   abbrev sums : Totals
-  sums = totals_of (tables_in db)
+  sums = kept edition (totals_of (tables_in db))
 
   abbrev refs : List RefRow
   refs = typed ref_form (d 12)
@@ -77,7 +79,7 @@ module _ (has : Bool) (digest : Octets → Octets) (trees : Trees) (c : IsChecke
   -- ---- a tenant's next numbers
 
   one_row : length tenants ≤ 1
-  one_row = one_tenant sums has trees sound (held_is has digest d c) t
+  one_row = one_tenant sums edition trees sound (held_is edition digest trees c) t
 
   -- the sum over its rows is the number in each of them
   next_is : (number : TenantRow → ℕ) (at : Row → ℕ) → ((r : Row) → number (tenant_of r) ≡ at r) → AllByRecursion (λ (r : TenantRow). total owner at (d 1) (t, 0) ≡ number r) tenants
@@ -100,9 +102,9 @@ module _ (has : Bool) (digest : Octets → Octets) (trees : Trees) (c : IsChecke
     key = h.key;
     text = h.text;
     marker = h.marker;
-    bare = λ marker. (whole_none has digest trees c sound (first_two r) (h.bare marker).0, (h.bare marker).1);
+    bare = λ marker. (whole_none edition digest trees c sound (first_two r) (h.bare marker).0, (h.bare marker).1);
     stamp = h.stamp;
-    size = h.size ∙ whole_length has digest trees c sound (first_two r);
+    size = h.size ∙ whole_length edition digest trees c sound (first_two r);
   }
 
   abbrev IsUnder : VersionRow → Type 0
@@ -128,15 +130,15 @@ module _ (has : Bool) (digest : Octets → Octets) (trees : Trees) (c : IsChecke
   versions_are = record {
     each = all_versions (IsVersionRow latest) (λ r h is. version_is r h);
     one_seq = λ n. subst (λ l. length l ≤ 1) (sym (filter_both mine (λ v. same_number v.seq n) (tables_in db).versions))
-        (one_shown shown (λ v. mine v && same_number v.seq n) (typed version_form (d 7)) (one_entry sums has trees sound (held_is has digest d c) t n));
+        (one_shown shown (λ v. mine v && same_number v.seq n) (typed version_form (d 7)) (one_entry sums edition trees sound (held_is edition digest trees c) t n));
     one_id = λ bucket okey n. subst (λ l. length l ≤ 1)
         (sym (filter_both (λ (v : VersionRow). bytes_eq v.okey okey) (λ v. same_number v.id n) (in_bucket bucket versions)
         ∙ filter_both (λ (v : VersionRow). bytes_eq v.bucket bucket) (λ v. bytes_eq v.okey okey && same_number v.id n) versions
         ∙ filter_both mine (λ v. bytes_eq v.bucket bucket && (bytes_eq v.okey okey && same_number v.id n)) (tables_in db).versions))
-        (one_shown shown (λ v. mine v && (bytes_eq v.bucket bucket && (bytes_eq v.okey okey && same_number v.id n))) (typed version_form (d 7)) (one_version sums has trees sound (held_is has digest d c) t bucket okey n));
+        (one_shown shown (λ v. mine v && (bytes_eq v.bucket bucket && (bytes_eq v.okey okey && same_number v.id n))) (typed version_form (d 7)) (one_version sums edition trees sound (held_is edition digest trees c) t bucket okey n));
     owned = λ bucket none. filter_both mine (λ v. bytes_eq v.bucket bucket) (tables_in db).versions
         ∙ none_shown shown (λ v. mine v && bytes_eq v.bucket bucket) (typed version_form (d 7))
-        (versions_owned sums has trees sound (held_is has digest d c) t bucket (sym (ap first (filter_both (λ (b : BucketRow). bytes_eq b.tenant t) (λ b. bytes_eq b.bucket bucket) (tables_in db).buckets)) ∙ none));
+        (versions_owned sums edition trees sound (held_is edition digest trees c) t bucket (sym (ap first (filter_both (λ (b : BucketRow). bytes_eq b.tenant t) (λ b. bytes_eq b.bucket bucket) (tables_in db).buckets)) ∙ none));
     given = below;
   }
 
@@ -158,9 +160,9 @@ module _ (has : Bool) (digest : Octets → Octets) (trees : Trees) (c : IsChecke
   pub uploads_are : AreUploads latest tenants buckets uploads
   uploads_are = record {
     each = all_uploads (IsUploadRow latest) (λ r h is. record { key = h.key; text = h.text; begun = h.begun });
-    one = λ n. subst (λ l. length l ≤ 1) (sym (filter_both my_upload (λ u. same_number u.upload n) (tables_in db).uploads)) (one_upload sums has trees sound (held_is has digest d c) t n);
+    one = λ n. subst (λ l. length l ≤ 1) (sym (filter_both my_upload (λ u. same_number u.upload n) (tables_in db).uploads)) (one_upload sums edition trees sound (held_is edition digest trees c) t n);
     owned = λ bucket none. filter_both my_upload (λ u. bytes_eq u.bucket bucket) (tables_in db).uploads
-        ∙ uploads_owned sums has trees sound (held_is has digest d c) t bucket (sym (ap first (filter_both (λ (b : BucketRow). bytes_eq b.tenant t) (λ b. bytes_eq b.bucket bucket) (tables_in db).buckets)) ∙ none);
+        ∙ uploads_owned sums edition trees sound (held_is edition digest trees c) t bucket (sym (ap first (filter_both (λ (b : BucketRow). bytes_eq b.tenant t) (λ b. bytes_eq b.bucket bucket) (tables_in db).buckets)) ∙ none);
     given = all_weaker (λ (r : TenantRow). next_upload d (t, 0) ≡ r.next_upload) (λ (r : TenantRow). AllByRecursion (λ (u : UploadRow). u.upload < r.next_upload) uploads)
         (λ r is. all_weaker (λ (u : UploadRow). u.upload < next_upload d (t, 0)) (λ (u : UploadRow). u.upload < r.next_upload) (λ u low. subst (λ n. u.upload < n) is low) uploads uploads_given)
         tenants (next_is (λ r. r.next_upload) (number_at 4) (λ r. refl));
@@ -184,7 +186,7 @@ module _ (has : Bool) (digest : Octets → Octets) (trees : Trees) (c : IsChecke
   HoldsPart r = Holds d latest table.Parts r × IsSummed r
 
   hold_parts : AllByRecursion HoldsPart (d 18)
-  hold_parts = all_both (Holds d latest table.Parts) (HasChecksum (d 12) (d 10)) HoldsPart (λ r h sum. (h, sum ∙ ap checksum_text (whole_stored has digest trees c sound (part_body r)))) (d 18) c.rows.parts (c.bodies.checksums (are_named has digest trees c sound))
+  hold_parts = all_both (Holds d latest table.Parts) (HasChecksum (d 12) (d 10)) HoldsPart (λ r h sum. (h, sum ∙ ap checksum_text (whole_stored edition digest trees c sound (part_body r)))) (d 18) c.rows.parts (c.bodies.checksums (are_named edition digest trees c sound))
 
   all_parts : (P : PartRow → Type 0) → ((r : Row) → HoldsPart r → my_part (part_shown (part_of r)) ≡ true → P (part_shown (part_of r))) → AllByRecursion P parts
   all_parts P each = all_in P my_part (map part_shown (map part_of (d 18)))
@@ -196,7 +198,7 @@ module _ (has : Bool) (digest : Octets → Octets) (trees : Trees) (c : IsChecke
     least = h.0.least;
     most = h.0.most;
     stamp = h.0.stamp;
-    size = h.0.size ∙ whole_length has digest trees c sound (part_body r);
+    size = h.0.size ∙ whole_length edition digest trees c sound (part_body r);
     checksum = h.1;
   }
 
@@ -216,13 +218,13 @@ module _ (has : Bool) (digest : Octets → Octets) (trees : Trees) (c : IsChecke
     each = all_parts (IsPartRow latest) (λ r h is. part_is r h);
     one = λ upload n. subst (λ l. length l ≤ 1)
         (sym (filter_both (λ (p : PartRow). same_number p.upload upload) (λ p. same_number p.part n) parts ∙ filter_both my_part (λ p. same_number p.upload upload && same_number p.part n) (tables_in db).parts))
-        (one_shown part_shown (λ p. my_part p && (same_number p.upload upload && same_number p.part n)) (typed part_form (d 18)) (one_part sums has trees sound (held_is has digest d c) t upload n));
+        (one_shown part_shown (λ p. my_part p && (same_number p.upload upload && same_number p.part n)) (typed part_form (d 18)) (one_part sums edition trees sound (held_is edition digest trees c) t upload n));
     one_body = λ n. subst (λ l. length l ≤ 1) (sym (filter_both my_part (λ p. same_number p.body n) (tables_in db).parts))
-        (one_shown part_shown (λ p. my_part p && same_number p.body n) (typed part_form (d 18)) (one_body sums has trees sound (held_is has digest d c) t n));
+        (one_shown part_shown (λ p. my_part p && same_number p.body n) (typed part_form (d 18)) (one_body sums edition trees sound (held_is edition digest trees c) t n));
     apart = all_parts (λ (p : PartRow). list_any (λ (v : VersionRow). same_number v.seq p.body) versions ≡ false) (λ r h is. apart_is r h.0 is);
     owned = λ upload none. filter_both my_part (λ p. same_number p.upload upload) (tables_in db).parts
         ∙ none_shown part_shown (λ p. my_part p && same_number p.upload upload) (typed part_form (d 18))
-        (parts_owned sums has trees sound (held_is has digest d c) t upload (sym (ap first (filter_both my_upload (λ u. same_number u.upload upload) (tables_in db).uploads)) ∙ none));
+        (parts_owned sums edition trees sound (held_is edition digest trees c) t upload (sym (ap first (filter_both my_upload (λ u. same_number u.upload upload) (tables_in db).uploads)) ∙ none));
     given = all_weaker (λ (r : TenantRow). next_entry d (t, 0) ≡ r.next_entry) (λ (r : TenantRow). AllByRecursion (λ (p : PartRow). p.body < r.next_entry) parts)
         (λ r is. all_weaker (λ (p : PartRow). p.body < next_entry d (t, 0)) (λ (p : PartRow). p.body < r.next_entry) (λ p low. subst (λ n. p.body < n) is low) parts parts_given)
         tenants (next_is (λ r. r.next_entry) (number_at 5) (λ r. refl));

@@ -1,39 +1,48 @@
 -- What a check finds of all rows, and so is to make a host's tables sound.
-use Rattle.std.specs.Prelude.{◌≡◌, ℕ, Bool, true, false, List, [], ◌∷◌}
+use Rattle.std.specs.Prelude.{◌≡◌, ℕ, List, [], ◌∷◌, nat_lt, if◌then◌else◌}
 use Rattle.std.specs.List.{AllByRecursion}
 use Rattle.sqlite.specs.Effect.{IsDatabase}
 use Rattle.sqlite.specs.Order.{Row}
 use Rattle.sqlite.specs.Schema.{Schema}
 use Rattle.sqlite.specs.Tree.{Trees}
 use Rattle.bh_rows.specs.Form.{typed}
-use Rattle.bh_tables.specs.Schema.{Octets, first_schema, host_schema}
+use Rattle.bh_tables.specs.Schema.{Octets, first_schema, second_schema, host_schema}
 use Rattle.bh_tables.specs.Hosts.{with_version, tables_opened}
 use Rattle.bh_tables.specs.Typed.{HostRow, host_form}
 use Rattle.bh_view.specs.Bodies.{IsSoundHost}
 use Rattle.bh_view.specs.Sound.{IsHostRow}
 use Rattle.bh_stored.specs.Fits.{AreAllFit}
 use Rattle.bh_stored.specs.Stored.{seen}
+use Rattle.bh_stored.specs.declared.stored.Edition.{Edition}
+use Rattle.bh_stored.specs.declared.stored.Edition.TheVariants.{First, Second, Third}
 use Rattle.bh_check.specs.Blocks.{HasDigest, AreOnce, AreNamed, AreUses, HasChecksum}
 use Rattle.bh_check.specs.Holds.{block_refs, Holds}
 use Rattle.bh_check.specs.Placed.{IsPlaced}
+use Rattle.bh_check.specs.Tallies.{AreTallied}
 use Rattle.bh_check.specs.declared.rows.Table.TheVariants as table
 
--- ---- the two versions of a host: the second has the tables of locks and of dates
+-- ---- the editions of a host, by its versions
 
-abbrev pub version_with : Bool → ℕ
-version_with true = 2
-version_with false = 1
+abbrev pub version_of : Edition → ℕ
+version_of First = 1
+version_of Second = 2
+version_of Third = 3
 
-abbrev pub schema_with : Bool → Schema
-schema_with true = host_schema
-schema_with false = first_schema
+abbrev pub schema_of : Edition → Schema
+schema_of First = first_schema
+schema_of Second = second_schema
+schema_of Third = host_schema
+
+-- which it is of so many tables
+abbrev pub edition_with : ℕ → Edition
+edition_with tables = if nat_lt 12 tables then Third else (if nat_lt 10 tables then Second else First)
 
 -- ---- what is found
 
 -- a row of a host of this version, which is as that of one of the present version but for this
 pub record IsHostBy (version : ℕ) (row : HostRow) : Type 0 where
   pub version_is : row.version ≡ version
-  pub good : IsHostRow (with_version 2 row)
+  pub good : IsHostRow (with_version 3 row)
 
 -- there is one such row, with this last stamp
 pub record IsHostRowIn (version : ℕ) (rows : List Row) (latest : ℕ) : Type 0 where
@@ -69,20 +78,21 @@ pub record AreBytesHeld (digest : Octets → Octets) (blocks : List Row) : Type 
   pub digests : AllByRecursion (HasDigest digest) blocks
   pub once : AreOnce blocks
 
--- all of it, of a host of either version
-pub record IsChecked (has_locks : Bool) (digest : Octets → Octets) (d : Trees) : Type 0 where
+-- all of it, of a host of each edition
+pub record IsChecked (edition : Edition) (digest : Octets → Octets) (d : Trees) : Type 0 where
   pub latest : ℕ
-  pub host : IsHostRowIn (version_with has_locks) (d 0) latest
+  pub host : IsHostRowIn (version_of edition) (d 0) latest
   pub fits : AreAllFit d
   pub rows : AreRowsHeld d latest
   pub dates : AreDatesHeld d latest
   pub bodies : AreBodiesHeld d
   pub bytes : AreBytesHeld digest (d 10)
   pub counts : AreUses (block_refs d) (d 23) (d 10)
+  pub tallies : AreTallied edition d
 
 -- where the store's own rules hold too (keys are unique, and each row has its parent) a host's tables are sound: those of one of
--- version 1 are as they are once it is opened, without locks and dates
+-- an earlier version are as they are once it is opened, without locks and dates in version 1
 abbrev pub MakesSound : Type 0
-MakesSound = (has_locks : Bool) (digest : Octets → Octets) (d : Trees) → IsDatabase (record { schema = schema_with has_locks; trees = d })
-    → IsChecked has_locks digest (seen has_locks d)
-    → IsSoundHost digest (tables_opened (record { schema = schema_with has_locks; trees = d }))
+MakesSound = (edition : Edition) (digest : Octets → Octets) (d : Trees) → IsDatabase (record { schema = schema_of edition; trees = d })
+    → IsChecked edition digest (seen edition d)
+    → IsSoundHost digest (tables_opened (record { schema = schema_of edition; trees = d }))

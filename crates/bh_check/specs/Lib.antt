@@ -2,4 +2,5 @@ pub mod Sums
 pub mod Holds
 pub mod Blocks
 pub mod Placed
+pub mod Tallies
 pub mod Checked

@@ -1,7 +1,7 @@
 -- Sums over rows, by name.
-use Rattle.std.specs.Prelude.{◌≡◌, ℕ, if◌then◌else◌, List, length, sum_by, unwrap_or, Option, Some, None}
+use Rattle.std.specs.Prelude.{◌≡◌, ℕ, pos, if◌then◌else◌, List, length, sum_by, unwrap_or, Option, Some, None}
 use Rattle.std.specs.declared.cmp.Ordering.{Ordering}
-use Rattle.std.specs.Ordering.{nat_cmp, ordering_then}
+use Rattle.std.specs.Ordering.{nat_cmp, int_eq, ordering_then}
 use Rattle.std.specs.Cmp.Lexicographic.{slice_cmp}
 use Rattle.std.specs.BTreeMap.{get}
 use Rattle.std.specs.Prelude.{Vec}
@@ -11,7 +11,7 @@ use Rattle.sqlite_typed.specs.Columns.{bytes_of}
 use Rattle.bh_tables.specs.Typed.{column_number}
 use Rattle.bh_tables.specs.Bodies.{Name, same_name}
 use Rattle.bh_check.specs.declared.sums.Amount.{Amount}
-use Rattle.bh_check.specs.declared.sums.Amount.TheVariants.{One, Number, Length}
+use Rattle.bh_check.specs.declared.sums.Amount.TheVariants.{One, Number, Length, Is}
 use Rattle.bh_check.specs.declared.sums.Grouping.{Grouping}
 use Rattle.bh_check.specs.declared.sums.Sums.{Sums}
 
@@ -36,6 +36,7 @@ abbrev pub adds : Row → Amount → ℕ
 adds r One = 1
 adds r (Number at) = column_number (column r at)
 adds r (Length at) = length (bytes_of (column r at))
+adds r (Is at n) = if int_eq (pos (column_number (column r at))) (pos n) then 1 else 0
 
 -- what a row adds
 abbrev pub amount_in : Grouping → Row → ℕ

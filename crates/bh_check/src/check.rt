@@ -6,15 +6,17 @@ ghost use Rattle.sqlite.specs.Tree.{Trees};
 ghost use Rattle.sqlite.specs.Held.{state};
 ghost use Rattle.sqlite_trees.specs.View.{IsClean};
 ghost use Rattle.bh_tables.specs.Hosts.{tables_opened};
-ghost use Rattle.bh_tables.specs.Schema.{Octets, first_schema, host_schema};
+ghost use Rattle.bh_tables.specs.Schema.{Octets, first_schema, second_schema, host_schema};
 ghost use Rattle.bh_view.specs.Bodies.{IsSoundHost};
 ghost use Rattle.bh_schema.specs.Layer.{IsStateClean};
 ghost use Rattle.bh_stored.specs.Fits.{AreAllFit};
 ghost use Rattle.bh_stored.specs.Stored.{seen, AreStoredIn};
 ghost use Rattle.bh_stored.specs.Stores.{KeepsTrees};
 ghost use Rattle.bh_check.specs.Blocks.{HasDigest, AreOnce, AreUses};
-ghost use Rattle.bh_check.specs.Checked.{version_with, IsHostRowIn, AreRowsHeld, AreDatesHeld, AreBodiesHeld, AreBytesHeld, IsChecked};
+ghost use Rattle.bh_check.specs.Checked.{version_of, edition_with, IsHostRowIn, AreRowsHeld, AreDatesHeld, AreBodiesHeld};
+ghost use Rattle.bh_check.specs.Checked.{AreBytesHeld, IsChecked};
 ghost use Rattle.bh_check.specs.Holds.{block_refs, AreMeasures, AreTotals, Holds};
+ghost use Rattle.bh_check.specs.Tallies.{AreTalliesOf, AreTallied};
 
 use crate::blocks::{first_again, first_misnamed};
 use crate::checksums::{Places, first_missummed};
@@ -22,12 +24,13 @@ use crate::flaw::{Flaw, Stop};
 use crate::measures::Measures;
 use crate::placed::first_misplaced;
 use crate::rows::{Table, is_host};
+use crate::tallies::{EntryTotals, first_mistallied};
 use crate::totals::Totals;
 use crate::uses::first_miscounted;
 use crate::watch::{Stage, Watch};
 use bh_schema::host::Digester;
 use bh_stored::cells::number_in;
-use bh_stored::stored::Stored;
+use bh_stored::stored::{Edition, Stored};
 use sqlite::{Alter, Connection};
 use sqlite_trees::error::StoreError;
 use sqlite_trees::store::Store;
@@ -37,11 +40,31 @@ use std::alloc::Global;
 /// How many tables a host of version 1 has.
 const FIRST_TABLES: usize = 10;
 
-/// Of which version a host is that has the tables of locks and of dates, or not.
-fn version_with(has_locks: bool) -> u64
-    ensures { result ≡ version_with has_locks }
+/// And one of version 2.
+const SECOND_TABLES: usize = 12;
+
+/// The edition of a host that has so many tables.
+fn edition_with(tables: usize) -> Edition
+    ensures { result ≡ edition_with tables }
 {
-    if has_locks { 2 } else { 1 }
+    if SECOND_TABLES < tables {
+        Edition::Third
+    } else if FIRST_TABLES < tables {
+        Edition::Second
+    } else {
+        Edition::First
+    }
+}
+
+/// The version that the row of a host of this edition tells.
+fn version_of(edition: Edition) -> u64
+    ensures { result ≡ version_of edition }
+{
+    match edition {
+        Edition::First => 1,
+        Edition::Second => 2,
+        Edition::Third => 3,
+    }
 }
 
 /// The last stamp, of the one row of the host of this version.
@@ -122,6 +145,31 @@ fn check_uses(alloc: Global, stored: &Stored, totals: &Totals) -> Result<(), Sto
     }
 }
 
+/// How many versions, markers and objects each tenant has.
+fn check_each_tally(alloc: Global, stored: &Stored) -> Result<(), Stop>
+    ensures { OnOk result ((d : Trees) → AreStoredIn d stored.now → AreTalliesOf (d 7) (d 30) (d 1)) }
+{
+    if stored.tallies.len() != stored.tenants.len() {
+        return Err(Stop::Flaw(Flaw::OtherTallies));
+    }
+    let totals = EntryTotals::of(alloc, &stored.versions)?;
+    match first_mistallied(alloc, &stored.tallies, &stored.tenants, &totals)? {
+        None => Ok(()),
+        Some(row) => Err(Stop::Flaw(Flaw::Tally(row))),
+    }
+}
+
+/// That, where a host of this edition has tallies.
+fn check_tallies(alloc: Global, stored: &Stored, edition: Edition) -> Result<(), Stop>
+    ensures { OnOk result ((d : Trees) → AreStoredIn d stored.now → AreTallied edition d) }
+{
+    match edition {
+        Edition::First => Ok(()),
+        Edition::Second => Ok(()),
+        Edition::Third => check_each_tally(alloc, stored),
+    }
+}
+
 fn check_digests<D: Digester>(digester: &D, blocks: &[Row]) -> Result<(), Stop>
     ensures { OnOk result (AllByRecursion (HasDigest D.digest_of) blocks.now) }
 {
@@ -162,20 +210,34 @@ fn measures_of(alloc: Global, stored: &Stored, version: u64) -> Result<Measures,
     })
 }
 
+/// How many references name each block, and how many entries each tenant has.
+fn check_counts(
+    alloc: Global,
+    stored: &Stored,
+    totals: &Totals,
+    edition: Edition,
+) -> Result<(), Stop>
+    ensures uses { OnOk result ((d : Trees) → AreStoredIn d stored.now → AreTotals d totals.now → AreUses (block_refs d) (d 23) (d 10)) }
+    ensures tallies { OnOk result ((d : Trees) → AreStoredIn d stored.now → AreTallied edition d) }
+{
+    check_uses(alloc, stored, totals)?;
+    check_tallies(alloc, stored, edition)
+}
+
 /// All rows that were read.
 fn check_stored<D: Digester, W: Watch>(
     alloc: Global,
     stored: &Stored,
-    has_locks: bool,
+    edition: Edition,
     digester: &D,
     watch: &mut W,
 ) -> Result<(), Stop>
-    ensures { OnOk result ((d : Trees) → AreStoredIn d stored.now → AreAllFit d → IsChecked has_locks D.digest_of d) }
+    ensures { OnOk result ((d : Trees) → AreStoredIn d stored.now → AreAllFit d → IsChecked edition D.digest_of d) }
 {
-    let measures = measures_of(alloc, stored, version_with(has_locks))?;
+    let measures = measures_of(alloc, stored, version_of(edition))?;
     check_all_tables(alloc, &measures, stored)?;
     check_bodies(alloc, stored, &measures.totals)?;
-    check_uses(alloc, stored, &measures.totals)?;
+    check_counts(alloc, stored, &measures.totals, edition)?;
     watch.at(Stage::Blocks(stored.blocks.len()));
     check_bytes(alloc, digester, &stored.blocks)?;
     Ok(())
@@ -185,35 +247,35 @@ fn check_stored<D: Digester, W: Watch>(
 fn check_rows<S: Store, D: Digester, W: Watch>(
     alloc: Global,
     store: &mut S,
-    has_locks: bool,
+    edition: Edition,
     digester: &D,
     watch: &mut W,
 ) -> Result<(), Stop>
     ensures keeps { OnOk result (KeepsTrees (S.view store.old) (S.view store.new)) }
     ensures checked { OnOk result (IsClean (S.view store.new)
-        → IsChecked has_locks D.digest_of (seen has_locks (S.view store.old).trees)) }
+        → IsChecked edition D.digest_of (seen edition (S.view store.old).trees)) }
 {
-    let stored = Stored::read(alloc, store, has_locks)?;
+    let stored = Stored::read(alloc, store, edition)?;
     watch.at(Stage::Rows(stored.refs.len()));
-    check_stored(alloc, &stored, has_locks, digester, watch)?;
+    check_stored(alloc, &stored, edition, digester, watch)?;
     Ok(())
 }
 
-/// The first thing that isn't sound in a store that is a host's database, if there is one: of version 2, which has the tables of
-/// locks and of dates, or of version 1. The digester is to be of the function that names the host's blocks. An error says that the
+/// The first thing that isn't sound in a store that is a host's database, if there is one: a host's of this
+/// edition. The digester is to be of the function that names the host's blocks. An error says that the
 /// store failed, or memory ran out.
 pub fn check_store<S: Store, D: Digester, W: Watch>(
     alloc: Global,
     store: &mut S,
-    has_locks: bool,
+    edition: Edition,
     digester: &D,
     watch: &mut W,
 ) -> Result<Option<Flaw>, StoreError>
     ensures keeps { IfOk result (λ found. found ≡ None → KeepsTrees (S.view store.old) (S.view store.new)) }
     ensures checked { IfOk result (λ found. found ≡ None → IsClean (S.view store.new)
-        → IsChecked has_locks D.digest_of (seen has_locks (S.view store.old).trees)) }
+        → IsChecked edition D.digest_of (seen edition (S.view store.old).trees)) }
 {
-    match check_rows(alloc, store, has_locks, digester, watch) {
+    match check_rows(alloc, store, edition, digester, watch) {
         Ok(()) => Ok(None),
         Err(Stop::Flaw(flaw)) => Ok(Some(flaw)),
         Err(Stop::Store(error)) => Err(error),
@@ -221,8 +283,7 @@ pub fn check_store<S: Store, D: Digester, W: Watch>(
 }
 
 /// Checks the database of a connection, of which the store is left, without what wasn't committed. A transaction that
-/// is open is an error. A host of version 1 is judged by the tables that it has once it is opened, with no lock and no date;
-/// nothing is written.
+/// is open is an error. A host of an earlier version is judged by the tables that it has once it is opened; nothing is written.
 pub fn check_connection<S: Alter + Drop, D: Digester, W: Watch>(
     alloc: Global,
     connection: Connection<S>,
@@ -230,7 +291,8 @@ pub fn check_connection<S: Alter + Drop, D: Digester, W: Watch>(
     watch: &mut W,
 ) -> (Result<Option<Flaw>, StoreError>, S)
     requires schema { IsStateClean (state S.Store connection)
-        → ((state S.Store connection).now.schema ≡ first_schema) ⊎ ((state S.Store connection).now.schema ≡ host_schema) }
+        → ((state S.Store connection).now.schema ≡ first_schema)
+        ⊎ (((state S.Store connection).now.schema ≡ second_schema) ⊎ ((state S.Store connection).now.schema ≡ host_schema)) }
     ensures sound { IfOk result.0 (λ found. found ≡ None → IsClean (S.Store.view result.1) → IsTrue (S.Store.view result.1).is_open
         → IsStateClean (state S.Store connection) × IsSoundHost D.digest_of (tables_opened (state S.Store connection).now)) }
 {
@@ -241,6 +303,7 @@ pub fn check_connection<S: Alter + Drop, D: Digester, W: Watch>(
         return (Err(StoreError::Broken), store);
     }
     watch.at(Stage::Reading(tables));
-    let found = check_store(alloc, &mut store, FIRST_TABLES < tables, digester, watch);
+    let edition = edition_with(tables);
+    let found = check_store(alloc, &mut store, edition, digester, watch);
     (found, store)
 }

@@ -25,6 +25,10 @@ pub enum Flaw {
     Uses(u64),
     /// There isn't one count of uses for each block.
     OtherUses,
+    /// A tenant's versions, markers and objects aren't tallied, or not rightly.
+    Tally(u64),
+    /// There isn't one tally for each tenant.
+    OtherTallies,
     /// A sum passes 2^64 - 1.
     TooMuch,
 }
@@ -68,7 +72,8 @@ fn table_in<'a>(tree: u32) -> &'a str {
         18 => "parts",
         23 => "uses",
         26 => "locks",
-        _ => "retains",
+        28 => "retains",
+        _ => "tallies",
     }
 }
 
@@ -119,6 +124,11 @@ impl fmt::Display for Flaw {
                 "uses: not how many references there are to the block, row {row} of blocks"
             ),
             Flaw::OtherUses => f.write_str("uses: not as many rows as blocks"),
+            Flaw::Tally(row) => write!(
+                f,
+                "tallies: not how many versions, markers and objects the tenant has, row {row} of tenants"
+            ),
+            Flaw::OtherTallies => f.write_str("tallies: not as many rows as tenants"),
             Flaw::TooMuch => f.write_str("sizes: a sum passes 2^64 - 1"),
         }
     }

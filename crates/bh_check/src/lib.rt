@@ -11,6 +11,7 @@ pub mod measures;
 pub mod placed;
 pub mod rows;
 pub mod sums;
+pub mod tallies;
 pub mod totals;
 pub mod uses;
 pub mod watch;

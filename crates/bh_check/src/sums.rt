@@ -19,6 +19,8 @@ pub enum Amount {
     Number(usize),
     /// How many bytes are in this column.
     Length(usize),
+    /// 1 where the number in this column is this, else 0.
+    Is(usize, u64),
 }
 
 /// How rows are grouped and added up.
@@ -86,6 +88,13 @@ impl Sums {
     }
 }
 
+/// 1 where something is so, else 0.
+pub(crate) fn one_if(is: bool) -> u64
+    ensures { result ≡ (if is then 1 else 0) }
+{
+    if is { 1 } else { 0 }
+}
+
 impl Grouping {
     /// The number of a row's name.
     fn number_of(self, row: &Row) -> u64
@@ -105,6 +114,7 @@ impl Grouping {
             Amount::One => 1,
             Amount::Number(at) => number_in(row, at),
             Amount::Length(at) => bytes_in(row, at).len() as u64,
+            Amount::Is(at, number) => one_if(number_in(row, at) == number),
         }
     }
 }

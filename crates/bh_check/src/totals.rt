@@ -57,9 +57,9 @@ pub struct Totals {
 }
 
 /// The columns of a row's name: of its text or bytes, and of its number if it has one.
-type Columns = (usize, Option<usize>);
+pub(crate) type Columns = (usize, Option<usize>);
 
-const OWNER: Columns = (1, None);
+pub(crate) const OWNER: Columns = (1, None);
 
 const FIRST_TWO: Columns = (1, Some(2));
 
@@ -68,7 +68,12 @@ const PART_BODY: Columns = (1, Some(7));
 const REF_BLOCK: Columns = (4, Some(5));
 
 /// The sums of what rows add, by the name in these columns.
-fn sums_by(alloc: Global, rows: &[Row], name: Columns, amount: Amount) -> Result<Sums, Failure>
+pub(crate) fn sums_by(
+    alloc: Global,
+    rows: &[Row],
+    name: Columns,
+    amount: Amount,
+) -> Result<Sums, Failure>
     ensures { IfOk result (IsSumOf (name_at name) (λ row. adds row amount) rows.now) }
 {
     let by = Grouping {

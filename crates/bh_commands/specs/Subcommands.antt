@@ -74,7 +74,7 @@ module _ {D : Type 0} {g : disk.Ghosts D} where
   abbrev pub host_by : (digest : BlockDigest) → Opened (FileStore D g) → HostStorage (FileStore D g) (digester_of digest)
   host_by digest opened = host_with opened (the_digester digest)
 
-  -- a connection was opened as a host, which shows what stood, of version 1 brought over, and is at rest
+  -- a connection was opened as a host, which shows what stood, of an earlier version brought over, and is at rest
   pub record IsFound {G : Type 0} (digest : Octets → Octets) (old : Held (FileStore D g)) (host : HostStorage (FileStore D g) G) :
       Type 0 where
     pub opened : IsOpenedAs (file_state old) (file_state host.host.connection)

@@ -9,7 +9,7 @@ use Rattle.bh_rows.proofs.CreateLemmas.{Makes as Creates}
 use Rattle.bh_rows.proofs.IndexErrors.{IsFreeIndex}
 use Rattle.bh_rows.specs.Index.{Indexes}
 use Rattle.bh_tables.specs.Made as made
-use Rattle.bh_tables.specs.Schema.{no_schema, first_schema}
+use Rattle.bh_tables.specs.Schema.{no_schema, first_schema, second_schema}
 use Rattle.bh_create.specs.declared.tables.Item.{Item}
 use Rattle.bh_create.specs.declared.tables.Item.TheVariants as item
 
@@ -31,6 +31,7 @@ after item.Uses = made.with_uses
 after item.UsesByCount = made.with_uses_by_count
 after item.Locks = made.with_locks
 after item.Retains = made.with_retains
+after item.Tallies = made.with_tallies
 
 abbrev pub before : Item → Schema
 before item.Host = no_schema
@@ -50,6 +51,7 @@ before item.Uses = after item.UploadsByMoment
 before item.UsesByCount = after item.Uses
 before item.Locks = first_schema
 before item.Retains = after item.Locks
+before item.Tallies = second_schema
 
 -- a text that makes its table, over the schema before it, with nothing against that
 pub record IsTableText (item : Item) (sql : List ℕ) : Type 0 where

@@ -2,7 +2,7 @@ ghost use Rattle.std.specs.Prelude.{◌≡◌, true, IfErr};
 ghost use Rattle.sqlite.specs.Held.{state};
 ghost use Rattle.bh_rows.specs.Means.{is_trouble};
 ghost use Rattle.bh_tables.specs.Schema.{no_schema};
-ghost use Rattle.bh_tables.specs.Made.{with_uses_by_count, with_retains};
+ghost use Rattle.bh_tables.specs.Made.{with_uses_by_count, with_retains, with_tallies};
 ghost use Rattle.bh_schema.specs.Layer.{IsIntact, IsStateClean};
 ghost use Rattle.bh_create.specs.Creation.{IsMaking, Makes};
 ghost use Rattle.bh_create.specs.Items.{before, after, IsTextOf, Lead};
@@ -29,6 +29,7 @@ enum Item {
     UsesByCount,
     Locks,
     Retains,
+    Tallies,
 }
 
 /// What a host of version 1 has.
@@ -87,6 +88,8 @@ impl Item {
                 "CREATE TABLE locks (tenant TEXT NOT NULL, bucket TEXT NOT NULL, PRIMARY KEY (tenant, bucket), FOREIGN KEY (tenant, bucket) REFERENCES buckets ON DELETE RESTRICT) STRICT",
             Item::Retains =>
                 "CREATE TABLE retains (tenant TEXT NOT NULL, seq INTEGER NOT NULL CHECK (seq >= 0), until INTEGER NOT NULL CHECK (until >= 0), PRIMARY KEY (tenant, seq), FOREIGN KEY (tenant, seq) REFERENCES versions ON DELETE RESTRICT) STRICT",
+            Item::Tallies =>
+                "CREATE TABLE tallies (tenant TEXT NOT NULL PRIMARY KEY REFERENCES tenants ON DELETE RESTRICT, versions INTEGER NOT NULL CHECK (versions >= 0) CHECK (versions <= 4611686018427387904), markers INTEGER NOT NULL CHECK (markers >= 0) CHECK (markers <= 4611686018427387904), objects INTEGER NOT NULL CHECK (objects >= 0) CHECK (objects <= 4611686018427387904)) STRICT",
         }
     }
 }
@@ -122,8 +125,8 @@ pub fn create_first_tables<S: Alter>(connection: &mut Connection<S>) -> Result<(
     create_all(connection, &FIRST)
 }
 
-/// Makes the tables of a host and their indexes, with no row.
-pub fn create_tables<S: Alter>(connection: &mut Connection<S>) -> Result<(), Error>
+/// Makes the tables of a host of version 2 and their indexes, with no row.
+pub fn create_second_tables<S: Alter>(connection: &mut Connection<S>) -> Result<(), Error>
     requires { IsStateClean (state S.Store connection.old) → IsMaking no_schema (state S.Store connection.old) }
     ensures makes { Makes with_retains (state S.Store connection.old) (state S.Store connection.new) result }
     ensures trouble { IfErr result (λ e. IsIntact (state S.Store connection.new) → is_trouble e ≡ true) }
@@ -131,5 +134,16 @@ pub fn create_tables<S: Alter>(connection: &mut Connection<S>) -> Result<(), Err
     create_first_tables(connection)?;
     create_item(connection, Item::Locks)?;
     create_item(connection, Item::Retains)?;
+    Ok(())
+}
+
+/// Makes the tables of a host and their indexes, with no row.
+pub fn create_tables<S: Alter>(connection: &mut Connection<S>) -> Result<(), Error>
+    requires { IsStateClean (state S.Store connection.old) → IsMaking no_schema (state S.Store connection.old) }
+    ensures makes { Makes with_tallies (state S.Store connection.old) (state S.Store connection.new) result }
+    ensures trouble { IfErr result (λ e. IsIntact (state S.Store connection.new) → is_trouble e ≡ true) }
+{
+    create_second_tables(connection)?;
+    create_item(connection, Item::Tallies)?;
     Ok(())
 }

@@ -14,19 +14,19 @@ use Rattle.bh_types.specs.Limits.{HostLimits}
 use Rattle.bh_types.specs.declared.block_digest.BlockDigest.{BlockDigest}
 use Rattle.bh_types.specs.declared.block_digest.BlockDigest.TheVariants.{Sha256, Fast}
 use Rattle.bh_tables.specs.Hosts.{tables_shown, tables_opened}
-use Rattle.bh_tables.specs.Schema.{Octets, first_schema, host_schema}
+use Rattle.bh_tables.specs.Schema.{Octets, host_schema}
 use Rattle.bh_tables.specs.Typed.{Tables}
-use Rattle.bh_tables.proofs.HostTests.{opened_host, other_schema}
+use Rattle.bh_tables.proofs.HostTests.{opened_host, other_schema, unlike_second, second_unlike_first}
 use Rattle.bh_view.specs.Bodies.{IsSoundHost}
 use Rattle.bh_schema.specs.Layer.{standing, IsIntact, IsOpen, IsStateClean, KeepsDisk}
 use Rattle.bh_schema.specs.Storage.{seen_in}
 use Rattle.bh_blocks.specs.Digests.{digest_by}
 use Rattle.bh_migration.specs.Migration.{Settles}
 use Rattle.bh_open.specs.Opening.{digest_in, LeavesOver}
-use Rattle.bh_open.specs.Versions.{IsTypedIfFirst}
+use Rattle.bh_open.specs.Versions.{IsEarlierSchema, IsHostsSchema, IsTypedIfEarlier}
 use Rattle.bh_file.specs.Opened.{IsOpenedOn}
 use Rattle.bh_maintenance.specs.Files.{HoldsSoundHost}
-use Rattle.bh_maintenance.specs.Found.{IsSoundByItsRow, IsHostsSchema, IsSoundIn, IsOpenedAs}
+use Rattle.bh_maintenance.specs.Found.{IsSoundByItsRow, IsSoundIn, IsOpenedAs}
 
 -- ---- no file, or an empty one
 
@@ -35,11 +35,14 @@ nothing = record { log = []; db = [] }
 
 -- a database without a list of tables has none
 no_tables : (db : Database) → IsDatabase db → db.trees catalog_tree ≡ [] → IsHostsSchema db.schema → ⊥
-no_tables db sound none either =
+no_tables db sound none one =
     let listed = subst (λ o. AllZip IsTableRow (filter is_table_row o) db.schema.tables) none sound.lists.listed.tables in
-    elim either [
+    elim one [
       | inl first ↦ subst (λ (s : Schema). AllZip IsTableRow [] s.tables) first listed
-      | inr second ↦ subst (λ (s : Schema). AllZip IsTableRow [] s.tables) second listed
+      | inr later ↦ elim later [
+        | inl second ↦ subst (λ (s : Schema). AllZip IsTableRow [] s.tables) second listed
+        | inr third ↦ subst (λ (s : Schema). AllZip IsTableRow [] s.tables) third listed
+      ]
     ]
 
 found_in_nothing : (trees : Trees) → AreFoundIn nothing trees → trees catalog_tree ≡ []
@@ -79,10 +82,13 @@ sound_by tables digest it row = subst (λ d. IsSoundHost (digest_by d) tables) (
     same Fast Fast e = refl
 
 -- sound tables are those of typed rows
-opened_typed : (db : Database) → IsSoundByItsRow (tables_opened db) → IsTypedIfFirst db
-opened_typed db it first = elim (opened_host db it.sound.sound.host.row it.sound.sound.host.alone) [
-  | inl host ↦ absurd (other_schema db host.schema first)
-  | inr one ↦ one.first
+opened_typed : (db : Database) → IsSoundByItsRow (tables_opened db) → IsTypedIfEarlier db
+opened_typed db it = elim (opened_host db it.sound.sound.host.row it.sound.sound.host.alone) [
+  | inl host ↦ record { first = λ first. absurd (other_schema db host.schema first); second = λ second. absurd (unlike_second db host.schema second) }
+  | inr earlier ↦ elim earlier [
+    | inl one ↦ record { first = λ first. one.first; second = λ second. absurd (second_unlike_first db second one.first.schema) }
+    | inr two ↦ record { first = λ first. absurd (second_unlike_first db two.second.schema first); second = λ second. two.second }
+  ]
 ]
 
 pub shown_now : (limits : HostLimits) (s : State) → (seen_in limits s).now ≡ tables_shown (standing s).now
@@ -90,8 +96,8 @@ unfolding seen_in
 shown_now limits s = refl
 
 -- what an open says of a host
-pub opened_as : (limits : HostLimits) (old new : State) → (((standing old).now.schema ≡ first_schema) ⊎ ((standing old).now.schema ≡ host_schema)) → (IsStateClean new → (standing old).now.schema ≡ host_schema → standing new ≡ standing old)
-    → (IsStateClean new → (standing old).now.schema ≡ first_schema → Settles (standing old) (standing new)) → (IsStateClean new → IsTypedIfFirst (standing old).now → (seen_in limits new).now ≡ tables_opened (standing old).now)
+pub opened_as : (limits : HostLimits) (old new : State) → IsHostsSchema (standing old).now.schema → (IsStateClean new → (standing old).now.schema ≡ host_schema → standing new ≡ standing old)
+    → (IsStateClean new → IsEarlierSchema (standing old).now.schema → Settles (standing old) (standing new)) → (IsStateClean new → IsTypedIfEarlier (standing old).now → (seen_in limits new).now ≡ tables_opened (standing old).now)
     → KeepsDisk old new → (IsOpen old → LeavesOver old new) → IsOpenedAs old new
 opened_as limits old new schema same brought shows follows crash = record {
   schema = schema;
@@ -106,7 +112,7 @@ module _ (limits : HostLimits) (old new : State) (sound : IsSoundIn old) (opened
   was_sound : IsStateClean new → IsSoundByItsRow (tables_opened (standing old).now)
   was_sound clean = sound (opened.follows.clean clean) opened.schema
 
-  pub typed_when : IsStateClean new → IsTypedIfFirst (standing old).now
+  pub typed_when : IsStateClean new → IsTypedIfEarlier (standing old).now
   typed_when clean = opened_typed (standing old).now (was_sound clean)
 
   pub shows_seen : IsStateClean new → (seen_in limits new).now ≡ tables_opened (standing old).now
@@ -116,7 +122,7 @@ module _ (limits : HostLimits) (old new : State) (sound : IsSoundIn old) (opened
   sound_row clean = subst IsSoundByItsRow (sym (shows_seen clean)) (was_sound clean)
 
   module _ (digest : BlockDigest)
-      (row : (named : Octets → Octets) → IsStateClean new → IsTypedIfFirst (standing old).now → IsSoundHost named (seen_in limits new).now → digest_number digest ≡ digest_in (seen_in limits new).now) where
+      (row : (named : Octets → Octets) → IsStateClean new → IsTypedIfEarlier (standing old).now → IsSoundHost named (seen_in limits new).now → digest_number digest ≡ digest_in (seen_in limits new).now) where
     pub row_seen : IsStateClean new → digest_number digest ≡ digest_in (seen_in limits new).now
     row_seen clean = let it = sound_row clean in row (digest_by it.digest) clean (typed_when clean) it.sound
 

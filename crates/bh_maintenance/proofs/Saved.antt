@@ -22,14 +22,14 @@ use Rattle.bh_maintenance.specs.declared.ending.Done.{Done}
 use Rattle.bh_maintenance.specs.declared.printed.Printed.{Printed}
 
 -- of the present version, it stands as it stood
-module _ {D : Type 0} {g : disk.Ghosts D} (old new : Held (FileStore D g)) (found : IsOpenedAs (file_state old) (file_state new)) (second : (standing (file_state old)).now.schema ≡ host_schema) (files : Files D) where
+module _ {D : Type 0} {g : disk.Ghosts D} (old new : Held (FileStore D g)) (found : IsOpenedAs (file_state old) (file_state new)) (present : (standing (file_state old)).now.schema ≡ host_schema) (files : Files D) where
   clean_when_copied : IsCopied new files → IsStateClean (file_state new)
   unfolding IsIntact IsOpen
   clean_when_copied copied = is_clean (copied.was_clean, copied.was_open)
 
   same_committed : IsCopied new files → (file_state new).committed ≡ (file_state old).committed
   unfolding standing
-  same_committed copied = ap (λ (x : Standing). x.kept) (found.same (clean_when_copied copied) second)
+  same_committed copied = ap (λ (x : Standing). x.kept) (found.same (clean_when_copied copied) present)
 
   copied_before : IsCopied new files → IsCopied old files
   unfolding IsIntact IsOpen
@@ -52,7 +52,7 @@ module _ {D : Type 0} {g : disk.Ghosts D} (old new : Held (FileStore D g)) (foun
 
 found_saved : {D : Type 0} {g : disk.Ghosts D} (old new : Held (FileStore D g)) → IsOpenedAs (file_state old) (file_state new) → (files : Files D) {E : Type 0} (e : disk.Ghosts E) (printed : Printed) (copy : E)
     → IsCopiedTo e new printed files copy → IsSaved e old printed files copy
-found_saved old new found files e printed copy saved = record { new = new; opened = found; saved = saved; same = λ second. saved_before old new found second files e printed copy saved }
+found_saved old new found files e printed copy saved = record { new = new; opened = found; saved = saved; same = λ present. saved_before old new found present files e printed copy saved }
 
 -- what was found, and what wasn't
 module _ {D : Type 0} {g : disk.Ghosts D} (old : Held (FileStore D g)) (found : Result (Held (FileStore D g)) (Done (FileStore D g))) where

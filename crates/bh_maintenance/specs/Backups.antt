@@ -33,7 +33,7 @@ module _ {D : Type 0} {g : disk.Ghosts D} where
     pub copied : AreClean g files.log files.db → IsFileOf e (file_state c).committed copy
     pub line : IsLine (codes "backup") printed
 
-  -- and that is a host's database: as it stood, or brought over from version 1
+  -- and that is a host's database: as it stood, or brought over from an earlier version
   pub record IsSaved {E : Type 0} (e : disk.Ghosts E) (old : Held (FileStore D g)) (printed : Printed) (files : Files D) (copy : E) :
       Type 0 where
     pub new : Held (FileStore D g)

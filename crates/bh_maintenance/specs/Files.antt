@@ -5,10 +5,11 @@ use Rattle.sqlite.specs.Effect.{Database, IsDatabase}
 use Rattle.sqlite.specs.Files.{AreFoundIn}
 use Rattle.bh_tables.specs.Hosts.{tables_opened}
 use Rattle.bh_tables.specs.Typed.{Tables}
-use Rattle.bh_maintenance.specs.Found.{IsSoundByItsRow, IsHostsSchema}
+use Rattle.bh_open.specs.Versions.{IsHostsSchema}
+use Rattle.bh_maintenance.specs.Found.{IsSoundByItsRow}
 
--- files with these contents hold a database of a host's schema, which shows these tables once it is opened: of version 1 those
--- that it has, brought over
+-- files with these contents hold a database of a host's schema, which shows these tables once it is opened: of an earlier
+-- version those that it has, brought over
 pub record AreTablesIn (image : Image) (tables : Tables) : Type 0 where
   pub db : Database
   pub found : AreFoundIn image db.trees

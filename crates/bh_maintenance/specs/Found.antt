@@ -2,7 +2,6 @@
 use Rattle.std.specs.Prelude.{◌≡◌, ◌⊎◌}
 use Rattle.sqlite_trees.specs.declared.store.Store.{Ghosts}
 use Rattle.sqlite.specs.Held.{Held, state}
-use Rattle.sqlite.specs.Schema.{Schema}
 use Rattle.sqlite.specs.State.{State}
 use Rattle.bh_types.specs.BlockDigests.{digest_number}
 use Rattle.bh_types.specs.Limits.{HostLimits}
@@ -10,7 +9,7 @@ use Rattle.bh_types.specs.declared.block_digest.BlockDigest.{BlockDigest}
 use Rattle.bh_types.specs.declared.refusal.Refusal.{Refusal}
 use Rattle.bh_types.specs.declared.refusal.Refusal.TheVariants.{NotAHostFile, Unavailable}
 use Rattle.bh_tables.specs.Hosts.{tables_shown, tables_opened}
-use Rattle.bh_tables.specs.Schema.{Octets, first_schema, host_schema}
+use Rattle.bh_tables.specs.Schema.{Octets, host_schema}
 use Rattle.bh_tables.specs.Typed.{Tables}
 use Rattle.bh_view.specs.Bodies.{IsSoundHost}
 use Rattle.bh_view.specs.View.{latest_of}
@@ -19,7 +18,7 @@ use Rattle.bh_schema.specs.Layer.{standing, IsOpen, IsStateClean, KeepsDisk, Lea
 use Rattle.bh_schema.specs.Storage.{seen_in}
 use Rattle.bh_migration.specs.Migration.{Settles}
 use Rattle.bh_open.specs.Opening.{digest_in, IsHostOf, LeavesOver}
-use Rattle.bh_open.specs.Versions.{IsTypedIfFirst}
+use Rattle.bh_open.specs.Versions.{IsEarlierSchema, IsHostsSchema, IsTypedIfEarlier}
 use Rattle.bh_open.specs.declared.open.Opened.{Opened}
 use Rattle.bh_blocks.specs.Digests.{digest_by}
 use Rattle.bh_maintenance.specs.Printing.{IsRefusal}
@@ -31,21 +30,17 @@ pub record IsSoundByItsRow (tables : Tables) : Type 0 where
   pub row : digest_number digest ≡ digest_in tables
   pub sound : IsSoundHost (digest_by digest) tables
 
--- the tables are a host's, of version 1 or of the present one
-abbrev pub IsHostsSchema : Schema → Type 0
-IsHostsSchema schema = (schema ≡ first_schema) ⊎ (schema ≡ host_schema)
-
 -- so are those of the host that a database is once it is opened, if it is one
 abbrev pub IsSoundIn : State → Type 0
 IsSoundIn s = IsStateClean s → IsHostsSchema (standing s).now.schema → IsSoundByItsRow (tables_opened (standing s).now)
 
--- a database was opened as a host: one of the present version stands as it stood, and one of version 1 was brought over, in one
--- commit. It shows what it was to show; rows under the schema of version 1 are to be typed rows
+-- a database was opened as a host: one of the present version stands as it stood, and one of an earlier version was brought over, in
+-- one commit. It shows what it was to show; rows under the schema of an earlier version are to be typed rows
 pub record IsOpenedAs (old new : State) : Type 0 where
   pub schema : IsHostsSchema (standing old).now.schema
   pub same : IsStateClean new → (standing old).now.schema ≡ host_schema → standing new ≡ standing old
-  pub brought : IsStateClean new → (standing old).now.schema ≡ first_schema → Settles (standing old) (standing new)
-  pub shows : IsStateClean new → IsTypedIfFirst (standing old).now → tables_shown (standing new).now ≡ tables_opened (standing old).now
+  pub brought : IsStateClean new → IsEarlierSchema (standing old).now.schema → Settles (standing old) (standing new)
+  pub shows : IsStateClean new → IsTypedIfEarlier (standing old).now → tables_shown (standing new).now ≡ tables_opened (standing old).now
   pub follows : KeepsDisk old new
   pub crash : IsOpen old → LeavesOver old new
 
@@ -58,7 +53,7 @@ pub record IsLeftAlone (old new : State) (printed : Printed) : Type 0 where
   pub follows : KeepsDisk old new
   pub stays : IsStateClean new → Unwinds (standing old) (standing new)
 
--- no host is found in a database. Only where the commit failed that was to bring one of version 1 over may a crash leave
+-- no host is found in a database. Only where the commit failed that was to bring one of an earlier version over may a crash leave
 -- anything else than before: all of it brought over
 pub record IsNotFound (old new : State) (printed : Printed) : Type 0 where
   pub alone : IsLeftAlone old new printed
@@ -79,7 +74,7 @@ module _ {S : Type 0} (g : Ghosts S) where
     pub row : IsStateClean (state g host.connection) → digest_number host.digest
         ≡ digest_in (tables_shown (standing (state g host.connection)).now)
 
-  -- a database was opened as a host, which shows what stood, of version 1 brought over, and is ready
+  -- a database was opened as a host, which shows what stood, of an earlier version brought over, and is ready
   pub record IsHostIn (old : Held S) (host : Opened S) : Type 0 where
     pub opened : IsOpenedAs (state g old) (state g host.connection)
     pub shows : IsStateClean (state g host.connection) → tables_shown (standing (state g host.connection)).now

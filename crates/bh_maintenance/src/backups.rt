@@ -103,7 +103,7 @@ fn back_up_connection<D: Disk + Drop, T: Start>(
 }
 
 /// Copies the host of a file to a new file, `to`, as it stood after the last event, and prints `backup`. No clock is read, and
-/// the host has the same last stamp afterwards. A host of version 1 is brought over first, and so is the copy.
+/// the host has the same last stamp afterwards. A host of an earlier version is brought over first, and so is the copy.
 ///
 /// The copy is whole and synced before that, or there is none. A name that is taken is a fault.
 pub fn backup_file<S: Start, T: Start>(

@@ -7,8 +7,8 @@ ghost use Rattle.sqlite_trees.specs.View.{IsClean};
 ghost use Rattle.sqlite_wal.specs.Files.{image_at};
 ghost use Rattle.bh_blocks.specs.Digests.{digest_by};
 ghost use Rattle.bh_schema.specs.Layer.{IsStateClean};
+ghost use Rattle.bh_open.specs.Versions.{IsHostsSchema};
 ghost use Rattle.bh_maintenance.specs.Checks.{IsVerdict, IsSoundBy, IsFoundSound, IsChecked};
-ghost use Rattle.bh_maintenance.specs.Found.{IsHostsSchema};
 
 use crate::ending::{Ended, Left, close};
 use crate::fault::Fault;
@@ -122,7 +122,7 @@ fn check_none<S: Alter + Drop>(
 }
 
 /// Checks the host of a database by the function that its row tells, and gives what is printed of it and the store that is left.
-/// One of version 1 isn't brought over: it is judged by what it has once that is done.
+/// One of an earlier version isn't brought over: it is judged by what it has once that is done.
 pub(crate) fn check_on<S: Alter + Drop>(
     rt: &HostRuntime,
     path: &str,
@@ -163,9 +163,9 @@ fn check_files<S: Start>(
 /// Checks the host of a file: prints `sound`, or the first thing that isn't.
 ///
 /// Where it is `sound` the tables that the file shows once it is opened are a sound host's, as far as the file gave back what was
-/// written to it: what is asked of a file before anything else is done on its host. Nothing is changed, and a host of version 1
-/// stays one. `47 NotAHostFile` where the path names nothing, a file of no bytes, or another database than a host's; `fault`
-/// where the file can't be read.
+/// written to it: what is asked of a file before anything else is done on its host. Nothing is changed, and a host of an earlier
+/// version stays one. `47 NotAHostFile` where the path names nothing, a file of no bytes, or another database than a host's;
+/// `fault` where the file can't be read.
 pub fn check_file<S: Start>(
     rt: &HostRuntime,
     path: &str,

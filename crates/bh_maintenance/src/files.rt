@@ -83,7 +83,7 @@ fn host_or_closed<D: Disk + Drop>(
     }
 }
 
-/// The host of a file, brought over if it was of version 1, or what is printed where there is none, and its files, closed, if
+/// The host of a file, brought over if it was of an earlier version, or what is printed where there is none, and its files, closed, if
 /// there are any. A fault names the path.
 pub fn host_in<S: Start>(
     rt: &HostRuntime,

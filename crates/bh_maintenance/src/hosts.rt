@@ -37,8 +37,8 @@ pub fn why_not_found(why: Option<NoHost>, cause: Option<Error>) -> Remark {
     }
 }
 
-/// The connection of a database that holds a host, which was brought over if it was of version 1, or the refusal of one that
-/// doesn't.
+/// The connection of a database that holds a host, which was brought over if it was of an earlier version, or the refusal of one
+/// that doesn't.
 pub fn found_host<S: Alter + Drop>(
     rt: &HostRuntime,
     path: &str,
@@ -56,7 +56,7 @@ pub fn found_host<S: Alter + Drop>(
     }
 }
 
-/// The host of a database, which was brought over if it was of version 1, or the refusal of one that holds none.
+/// The host of a database, which was brought over if it was of an earlier version, or the refusal of one that holds none.
 pub fn opened_host<S: Alter + Drop>(
     rt: &HostRuntime,
     path: &str,

@@ -1,1 +1,3 @@
 pub mod Stages
+mod Texts
+mod Tallied

@@ -5,33 +5,34 @@ use Rattle.sqlite_trees.specs.declared.memory.MemStore.{MemStore}
 use Rattle.sqlite.specs.Effect.{Database}
 use Rattle.sqlite.specs.Held.{Held, state, IsNew}
 use Rattle.sqlite.specs.Schema.{Schema}
+use Rattle.sqlite.specs.Tree.{Trees}
 use Rattle.sqlite.specs.Steps.{over_memory}
 use Rattle.sqlite.specs.State.{State}
 use Rattle.bh_types.specs.BlockDigests.{digest_number}
 use Rattle.bh_types.specs.Limits.{HostLimits}
 use Rattle.bh_types.specs.declared.block_digest.BlockDigest.{BlockDigest}
 use Rattle.bh_model.specs.State.{Octets}
-use Rattle.bh_tables.specs.Made.{with_uses_by_count}
-use Rattle.bh_tables.specs.Schema.{no_schema, first_schema, host_schema}
-use Rattle.bh_tables.specs.Typed.{HostRow, Tables, IsHost, IsFirstHost, tables_in}
-use Rattle.bh_tables.specs.Hosts.{IsOfVersion1, is_first_version, tables_shown, tables_opened}
-use Rattle.bh_tables.proofs.Creates.{first_made}
-use Rattle.bh_tables.proofs.HostTests.{host_shows, other_schema, others_open}
+use Rattle.bh_tables.specs.Made.{with_uses_by_count, with_retains}
+use Rattle.bh_tables.specs.Schema.{no_schema, first_schema, second_schema, host_schema}
+use Rattle.bh_tables.specs.Typed.{HostRow, Tables, IsHost, IsFirstHost, IsSecondHost, tables_in}
+use Rattle.bh_tables.specs.Hosts.{IsOfVersion1, IsOfVersion2, is_of_version, tables_shown, tables_opened}
+use Rattle.bh_tables.proofs.Creates.{first_made, second_made}
+use Rattle.bh_tables.proofs.HostTests.{host_shows, other_schema, unlike_second, second_unlike_first, others_open}
 use Rattle.bh_view.specs.Bodies.{IsSoundHost}
 use Rattle.bh_view.specs.View.{latest_of, limits_in}
 use Rattle.bh_storage.specs.Calls.{IsAtRest}
-use Rattle.bh_schema.specs.Layer.{Standing, standing, IsOpen, IsStateClean, KeepsDisk, LeavesNothingNew, begun, taken_back}
+use Rattle.bh_schema.specs.Layer.{Standing, standing, IsIntact, IsOpen, IsStateClean, Leaves, KeepsDisk, LeavesNothingNew, begun, taken_back}
 use Rattle.bh_schema.specs.Storage.{seen_in}
 use Rattle.bh_schema.proofs.Storing.{sound_host}
 use Rattle.bh_create.specs.Creation.{IsEmpty, IsMaking, IsNewHost}
 use Rattle.bh_create.proofs.Building.{begun_making}
 use Rattle.bh_migration.specs.Migration.{Settles, LeavesChanged}
 use Rattle.bh_migration.proofs.Stages.{shows_same}
-use Rattle.bh_open.specs.Opening.{digest_in, IsRowOf, IsHostOf, IsSettled, IsKept, Tells, Reads, Finds, Opens, LeavesOver}
-use Rattle.bh_open.specs.Versions.{number_of, schema_of, IsHostWith, IsAnyHost, IsTypedIfFirst}
+use Rattle.bh_open.specs.Opening.{digest_in, IsRowOf, IsHostOf, IsSettled, IsKept, Tells, Reads, Finds, Opens, IsLeftOver, LeavesOver}
+use Rattle.bh_open.specs.Versions.{number_of, schema_of, IsEarlierSchema, IsHostsSchema, IsHostWith, IsAnyHost, IsTypedIfEarlier}
 use Rattle.bh_open.specs.declared.found.FoundHost.{FoundHost}
 use Rattle.bh_open.specs.declared.found.HostVersion.{HostVersion}
-use Rattle.bh_open.specs.declared.found.HostVersion.TheVariants.{First, Second}
+use Rattle.bh_open.specs.declared.found.HostVersion.TheVariants.{First, Second, Third}
 use Rattle.bh_open.specs.declared.found.NoHost.{NoHost}
 use Rattle.bh_open.proofs.Rows.{digest_kept, latest_kept, limits_kept, told_brought}
 
@@ -43,6 +44,9 @@ made_schema limits named s new = (sound_host s.now (new.rest (λ bytes. bytes)).
 
 pub first_schema_made : (s : State) → IsMaking with_uses_by_count s → s.now.schema ≡ first_schema
 first_schema_made s making = making.blank.schema_is ∙ first_made
+
+pub second_schema_made : (s : State) → IsMaking with_retains s → s.now.schema ≡ second_schema
+second_schema_made s making = making.blank.schema_is ∙ second_made
 
 pub first_making : (old new : Held MemStore) → IsEmpty (state over_memory old) → standing (state over_memory new) ≡ begun (standing (state over_memory old)) → IsMaking no_schema (state over_memory new)
 first_making old new empty is = begun_making (state over_memory old) (state over_memory new) empty is
@@ -82,24 +86,37 @@ seen_schema s schema is = is
 with_schema : (v : HostVersion) (db : Database) → IsHostWith v db → db.schema ≡ schema_of v
 with_schema First db host = host.schema
 with_schema Second db host = host.schema
+with_schema Third db host = host.schema
 
 one_version : (v w : HostVersion) (db : Database) → db.schema ≡ schema_of v → db.schema ≡ schema_of w → w ≡ v
 one_version First First db is other = refl
-one_version First Second db is other = absurd (other_schema db other is)
-one_version Second First db is other = absurd (other_schema db is other)
+one_version First Second db is other = absurd (second_unlike_first db other is)
+one_version First Third db is other = absurd (other_schema db other is)
+one_version Second First db is other = absurd (second_unlike_first db is other)
 one_version Second Second db is other = refl
+one_version Second Third db is other = absurd (unlike_second db other is)
+one_version Third First db is other = absurd (other_schema db is other)
+one_version Third Second db is other = absurd (unlike_second db is other)
+one_version Third Third db is other = refl
 
 -- a host of any version is one of the version that its schema has
 pub host_with : (v : HostVersion) (db : Database) → db.schema ≡ schema_of v → IsAnyHost db → IsHostWith v db
 host_with v db is any = subst (λ w. IsHostWith w db) (one_version v any.0 db is (with_schema any.0 db any.1)) any.1
 
-pub either_schema : (v : HostVersion) (schema : Schema) → schema ≡ schema_of v → (schema ≡ first_schema) ⊎ (schema ≡ host_schema)
-either_schema First schema is = inl is
-either_schema Second schema is = inr is
+pub any_schema : (v : HostVersion) (schema : Schema) → schema ≡ schema_of v → IsHostsSchema schema
+any_schema First schema is = inl is
+any_schema Second schema is = inr (inl is)
+any_schema Third schema is = inr (inr is)
 
-pub neither_schema : (schema : Schema) → ((v : HostVersion) → schema ≢ schema_of v) → (schema ≡ first_schema) ⊎ (schema ≡ host_schema) → ⊥
-neither_schema schema other (inl is) = other First is
-neither_schema schema other (inr is) = other Second is
+pub no_schema_of : (schema : Schema) → ((v : HostVersion) → schema ≢ schema_of v) → IsHostsSchema schema → ⊥
+no_schema_of schema other (inl is) = other First is
+no_schema_of schema other (inr (inl is)) = other Second is
+no_schema_of schema other (inr (inr is)) = other Third is
+
+-- that of an older host isn't the present one
+pub not_present : (db : Database) → IsEarlierSchema db.schema → db.schema ≡ host_schema → ⊥
+not_present db (inl is) present = other_schema db present is
+not_present db (inr is) present = unlike_second db present is
 
 -- ---- what is found
 
@@ -133,48 +150,76 @@ over_then a m d first same follows over up intact db left =
       | inl was ↦ inl (first before db was)
       | inr it ↦
           let e = same (record { intact = before; is_open = it.is_open }) in
-          inr (record { is_open = up; schema = subst (λ (x : Standing). x.now.schema ≡ first_schema) e it.schema; changed = subst (λ (x : Standing). LeavesChanged x.now db) e it.changed })
+          inr (record { is_open = up; schema = subst (λ (x : Standing). IsEarlierSchema x.now.schema) e it.schema; changed = subst (λ (x : Standing). LeavesChanged x.now db) e it.changed })
     ]
+
+-- ---- once it is brought over, or was of the present version
+
+pub opens_brought : (v : HostVersion) (old new : Standing) → old.now.schema ≡ schema_of v → IsEarlierSchema old.now.schema → Settles old new → Opens v old new
+opens_brought v old new schema earlier settles = record {
+  schema = schema;
+  outside = settles.outside;
+  committed = settles.committed;
+  same = λ present. absurd (not_present old.now earlier present);
+  brought = λ _. settles;
+}
+
+pub opens_same : (old : Standing) → old.now.schema ≡ host_schema → old.inside ≡ false → old.now ≡ old.kept → Opens Third old old
+opens_same old schema outside committed = record {
+  schema = schema;
+  outside = outside;
+  committed = sym committed;
+  same = λ _. refl;
+  brought = λ earlier. absurd (not_present old.now earlier schema);
+}
+
+-- what a crash leaves of bringing it over
+pub left_over : (a d : State) → KeepsDisk a d → (IsStateClean a → IsEarlierSchema (standing a).now.schema) → (IsIntact d → (db : Trees) → Leaves d db → Leaves a db ⊎ (IsOpen a × LeavesChanged (standing a).now db)) → LeavesOver a d
+left_over a d follows earlier crash intact db left = elim (crash intact db left) [
+  | inl was ↦ inl was
+  | inr it ↦ inr (record { is_open = it.0; schema = earlier (record { intact = follows.intact intact; is_open = it.0 }); changed = it.1 })
+]
 
 -- ---- once it is opened
 
 module _ (old new : Standing) where
-  told_after : (v : HostVersion) (found : FoundHost) → Opens v old new → IsHostWith v old.now → Tells v (tables_in old.now).host found → Tells Second (tables_in new.now).host found
+  told_after : (v : HostVersion) (found : FoundHost) → Opens v old new → IsHostWith v old.now → Tells v (tables_in old.now).host found → Tells Third (tables_in new.now).host found
   told_after First found o host it =
-      subst (λ (l : List HostRow). Tells Second l found) (sym (ap (λ (t : Tables). t.host) ((o.brought refl).changed.brought host).rows)) (told_brought (tables_in old.now).host found it)
-  told_after Second found o host it = subst (λ (x : Standing). Tells Second (tables_in x.now).host found) (sym (o.same refl)) it
+      subst (λ (l : List HostRow). Tells Third l found) (sym (ap (λ (t : Tables). t.host) ((o.brought (inl o.schema)).changed.first host).rows)) (told_brought First (tables_in old.now).host found it)
+  told_after Second found o host it =
+      subst (λ (l : List HostRow). Tells Third l found) (sym (ap (λ (t : Tables). t.host) ((o.brought (inr o.schema)).changed.second host).rows)) (told_brought Second (tables_in old.now).host found it)
+  told_after Third found o host it = subst (λ (x : Standing). Tells Third (tables_in x.now).host found) (sym (o.same o.schema)) it
 
-  host_before : (v : HostVersion) → Opens v old new → IsTypedIfFirst old.now → IsHost new.now → IsHostWith v old.now
-  host_before First o typed host = typed o.schema
-  host_before Second o typed host = subst (λ (x : Standing). IsHost x.now) (o.same refl) host
+  host_before : (v : HostVersion) → Opens v old new → IsTypedIfEarlier old.now → IsHost new.now → IsHostWith v old.now
+  host_before First o typed host = typed.first o.schema
+  host_before Second o typed host = typed.second o.schema
+  host_before Third o typed host = subst (λ (x : Standing). IsHost x.now) (o.same o.schema) host
 
   first_version : (found : FoundHost) → IsFirstHost old.now → Tells First (tables_in old.now).host found → IsOfVersion1 old.now
-  first_version found host it = record { first = host; version = ap (list_all is_first_version) it.0.alone ∙ ap (λ n. (n == 1) && true) it.0.version_is }
+  first_version found host it = record { first = host; version = ap (list_all (is_of_version 1)) it.0.alone ∙ ap (λ n. (n == 1) && true) it.0.version_is }
 
-  shown_after : (v : HostVersion) (found : FoundHost) → Opens v old new → (IsHostWith v old.now → Tells v (tables_in old.now).host found) → IsTypedIfFirst old.now → tables_shown new.now ≡ tables_opened old.now
-  shown_after First found o told typed = let host = typed o.schema in shows_same old.now new.now (first_version found host (told host)) (o.brought refl).changed
-  shown_after Second found o told typed = ap (λ (x : Standing). tables_shown x.now) (o.same refl) ∙ sym (others_open old.now (other_schema old.now o.schema))
+  second_version : (found : FoundHost) → IsSecondHost old.now → Tells Second (tables_in old.now).host found → IsOfVersion2 old.now
+  second_version found host it = record { second = host; version = ap (list_all (is_of_version 2)) it.0.alone ∙ ap (λ n. (n == 2) && true) it.0.version_is }
 
-  pub same_second : (v : HostVersion) → Opens v old new → old.now.schema ≡ host_schema → new ≡ old
-  same_second v o is = o.same (sym (one_version v Second old.now o.schema is))
-
-  pub brought_first : (v : HostVersion) → Opens v old new → old.now.schema ≡ first_schema → Settles old new
-  brought_first v o is = o.brought (sym (one_version v First old.now o.schema is))
+  shown_after : (v : HostVersion) (found : FoundHost) → Opens v old new → (IsHostWith v old.now → Tells v (tables_in old.now).host found) → IsTypedIfEarlier old.now → tables_shown new.now ≡ tables_opened old.now
+  shown_after First found o told typed = let host = typed.first o.schema in shows_same old.now new.now (inl (first_version found host (told host))) (o.brought (inl o.schema)).changed
+  shown_after Second found o told typed = let host = typed.second o.schema in shows_same old.now new.now (inr (second_version found host (told host))) (o.brought (inr o.schema)).changed
+  shown_after Third found o told typed = ap (λ (x : Standing). tables_shown x.now) (o.same o.schema) ∙ sym (others_open old.now (other_schema old.now o.schema) (unlike_second old.now o.schema))
 
   pub host_of : (found : FoundHost) → Opens found.version old new → (IsHostWith found.version old.now → Tells found.version (tables_in old.now).host found) → IsAnyHost old.now → IsHostOf found.limits old.now
   host_of found o told any = let host = host_with found.version old.now o.schema any in (found.version, record { host = host; row = (told host).0 })
 
 module _ (old new : State) (found : FoundHost) (opens : IsStateClean new → Opens found.version (standing old) (standing new)) (told : IsStateClean new → IsHostWith found.version (standing old).now → Tells found.version (tables_in (standing old).now).host found) where
-  after : IsStateClean new → IsTypedIfFirst (standing old).now → IsHost (standing new).now → Tells Second (tables_in (standing new).now).host found
+  after : IsStateClean new → IsTypedIfEarlier (standing old).now → IsHost (standing new).now → Tells Third (tables_in (standing new).now).host found
   after clean typed host =
       let before = host_before (standing old) (standing new) found.version (opens clean) typed host in
       told_after (standing old) (standing new) found.version found (opens clean) before (told clean before)
 
-  pub shows : IsStateClean new → IsTypedIfFirst (standing old).now → (seen_in found.limits new).now ≡ tables_opened (standing old).now
+  pub shows : IsStateClean new → IsTypedIfEarlier (standing old).now → (seen_in found.limits new).now ≡ tables_opened (standing old).now
   unfolding seen_in
   shows clean typed = shown_after (standing old) (standing new) found.version found (opens clean) (told clean) typed
 
-  pub rests : (digest : Octets → Octets) → IsStateClean new → IsTypedIfFirst (standing old).now → IsSoundHost digest (seen_in found.limits new).now → IsAtRest (IsSoundHost digest) (seen_in found.limits new)
+  pub rests : (digest : Octets → Octets) → IsStateClean new → IsTypedIfEarlier (standing old).now → IsSoundHost digest (seen_in found.limits new).now → IsAtRest (IsSoundHost digest) (seen_in found.limits new)
   unfolding seen_in
   rests digest clean typed sound =
       let host = sound_host (standing new).now sound.sound in
@@ -182,19 +227,19 @@ module _ (old new : State) (found : FoundHost) (opens : IsStateClean new → Ope
         outside = (opens clean).outside;
         committed = ap tables_shown (opens clean).committed;
         sound = sound;
-        limits = ap limits_in (host_shows (standing new).now host) ∙ limits_kept (tables_in (standing new).now) 2 found.limits (after clean typed host).0;
+        limits = ap limits_in (host_shows (standing new).now host) ∙ limits_kept (tables_in (standing new).now) 3 found.limits (after clean typed host).0;
       }
 
-  pub tells : (digest : Octets → Octets) → IsStateClean new → IsTypedIfFirst (standing old).now → IsSoundHost digest (seen_in found.limits new).now → found.latest ≡ latest_of (seen_in found.limits new).now
+  pub tells : (digest : Octets → Octets) → IsStateClean new → IsTypedIfEarlier (standing old).now → IsSoundHost digest (seen_in found.limits new).now → found.latest ≡ latest_of (seen_in found.limits new).now
   unfolding seen_in
   tells digest clean typed sound =
       let host = sound_host (standing new).now sound.sound in
       let it = after clean typed host in
-      it.1 ∙ latest_kept (tables_in (standing new).now) 2 found.limits it.0 ∙ ap latest_of (sym (host_shows (standing new).now host))
+      it.1 ∙ latest_kept (tables_in (standing new).now) 3 found.limits it.0 ∙ ap latest_of (sym (host_shows (standing new).now host))
 
-  pub names : (digest : Octets → Octets) → IsStateClean new → IsTypedIfFirst (standing old).now → IsSoundHost digest (seen_in found.limits new).now → digest_number found.digest ≡ digest_in (seen_in found.limits new).now
+  pub names : (digest : Octets → Octets) → IsStateClean new → IsTypedIfEarlier (standing old).now → IsSoundHost digest (seen_in found.limits new).now → digest_number found.digest ≡ digest_in (seen_in found.limits new).now
   unfolding seen_in
   names digest clean typed sound =
       let host = sound_host (standing new).now sound.sound in
       let it = after clean typed host in
-      it.2 ∙ digest_kept (tables_in (standing new).now) 2 found.limits it.0 ∙ ap digest_in (sym (host_shows (standing new).now host))
+      it.2 ∙ digest_kept (tables_in (standing new).now) 3 found.limits it.0 ∙ ap digest_in (sym (host_shows (standing new).now host))

@@ -8,14 +8,13 @@ use Rattle.sqlite.specs.Tree.{Trees}
 use Rattle.bh_types.specs.BlockDigests.{digest_number}
 use Rattle.bh_types.specs.Limits.{HostLimits, AreLimits}
 use Rattle.bh_types.specs.declared.block_digest.BlockDigest.{BlockDigest}
-use Rattle.bh_tables.specs.Schema.{first_schema}
+use Rattle.bh_tables.specs.Schema.{host_schema}
 use Rattle.bh_tables.specs.Typed.{HostRow, Tables, tables_in, number}
 use Rattle.bh_view.specs.Grouped.{first}
 use Rattle.bh_migration.specs.Migration.{Settles, LeavesChanged}
-use Rattle.bh_open.specs.Versions.{number_of, schema_of, IsHostWith}
+use Rattle.bh_open.specs.Versions.{number_of, schema_of, IsEarlierSchema, IsHostWith}
 use Rattle.bh_open.specs.declared.found.FoundHost.{FoundHost}
 use Rattle.bh_open.specs.declared.found.HostVersion.{HostVersion}
-use Rattle.bh_open.specs.declared.found.HostVersion.TheVariants.{First, Second}
 use Rattle.bh_open.specs.declared.found.NoHost.{NoHost}
 use Rattle.bh_schema.specs.Layer.{Standing, standing, IsIntact, IsOpen, IsStateClean, Leaves, KeepsDisk, LeavesNothingNew}
 
@@ -38,7 +37,7 @@ pub record IsHostAt (version : HostVersion) (limits : HostLimits) (db : Database
   pub host : IsHostWith version db
   pub row : IsRowOf (number_of version) limits (tables_in db).host
 
--- of either version
+-- of any version
 abbrev pub IsHostOf : HostLimits → Database → Type 0
 IsHostOf limits db = (version : HostVersion) × IsHostAt version limits db
 
@@ -57,7 +56,7 @@ Tells version rows found =
 abbrev pub Reads : HostVersion → List HostRow → Result FoundHost NoHost → Type 0
 Reads version rows found = MatchResult found (Tells version rows) (λ why. (limits : HostLimits) → ¬ IsRowOf (number_of version) limits rows)
 
--- what was found in a database: that, or no host of either version
+-- what was found in a database: that, or no host of any version
 abbrev pub Finds : Database → Result FoundHost NoHost → Type 0
 Finds db found = MatchResult found (λ f. IsHostWith f.version db → Tells f.version (tables_in db).host f)
     (λ why. (limits : HostLimits) → ¬ IsHostOf limits db)
@@ -73,18 +72,18 @@ pub record IsKept (old new : State) : Type 0 where
   pub kept : IsStateClean new → (standing new).kept ≡ (standing old).kept
   pub survives : IsOpen old → LeavesNothingNew old new
 
--- no transaction is open, all is committed, and the database is as it was, or brought over if it was of version 1
+-- no transaction is open, all is committed, and the database is as it was, or brought over if it was of version 1 or 2
 pub record Opens (version : HostVersion) (old new : Standing) : Type 0 where
   pub schema : old.now.schema ≡ schema_of version
   pub outside : new.inside ≡ false
   pub committed : new.kept ≡ new.now
-  pub same : version ≡ Second → new ≡ old
-  pub brought : version ≡ First → Settles old new
+  pub same : old.now.schema ≡ host_schema → new ≡ old
+  pub brought : IsEarlierSchema old.now.schema → Settles old new
 
--- these trees are those of the open connection's database, of version 1, brought over
+-- these trees are those of the open connection's database, of version 1 or 2, brought over
 pub record IsLeftOver (old : State) (db : Trees) : Type 0 where
   pub is_open : IsOpen old
-  pub schema : (standing old).now.schema ≡ first_schema
+  pub schema : IsEarlierSchema (standing old).now.schema
   pub changed : LeavesChanged (standing old).now db
 
 -- what a crash may leave from then on, it might have left before, or it is the database brought over

@@ -7,10 +7,12 @@ use bh_types::limits::Limits;
 /// Of which version a host is, by its tables.
 #[derive(Clone, Copy)]
 pub enum HostVersion {
-    /// It has no table of locks and none of dates.
+    /// It has no table of locks, none of dates and none of tallies.
     First,
-    /// It has both.
+    /// It has no table of tallies.
     Second,
+    /// It has all of them.
+    Third,
 }
 
 impl HostVersion {
@@ -21,6 +23,7 @@ impl HostVersion {
         match self {
             HostVersion::First => 1,
             HostVersion::Second => 2,
+            HostVersion::Third => 3,
         }
     }
 }

@@ -1,11 +1,11 @@
-ghost use Rattle.std.specs.Prelude.{◌≡◌, ◌≢◌, ◌⊎◌, ◌↔◌, true, false, None, IsSome, IfSome, IfOk, IfErr, OnOk, OnErr};
+ghost use Rattle.std.specs.Prelude.{◌≡◌, ◌≢◌, ◌↔◌, true, false, None, IsSome, IfSome, IfOk, IfErr, OnOk, OnErr};
 ghost use Rattle.sqlite.specs.Held.{state};
 ghost use Rattle.bh_types.specs.BlockDigests.{digest_number};
 ghost use Rattle.bh_types.specs.Limits.{HostLimits};
 ghost use Rattle.bh_types.specs.declared.refusal.Refusal.TheVariants as refusal;
 ghost use Rattle.bh_rows.specs.Means.{is_trouble};
 ghost use Rattle.bh_tables.specs.Hosts.{tables_opened};
-ghost use Rattle.bh_tables.specs.Schema.{Octets, first_schema, host_schema};
+ghost use Rattle.bh_tables.specs.Schema.{Octets, host_schema};
 ghost use Rattle.bh_view.specs.Bodies.{IsSoundHost};
 ghost use Rattle.bh_view.specs.View.{latest_of};
 ghost use Rattle.bh_storage.specs.Calls.{IsAtRest};
@@ -15,13 +15,13 @@ ghost use Rattle.bh_schema.specs.Layer.{taken_back, KeepsDisk, LeavesNothingNew}
 ghost use Rattle.bh_schema.specs.Storage.{seen_in};
 ghost use Rattle.bh_migration.specs.Migration.{Settles};
 ghost use Rattle.bh_open.specs.Opening.{digest_in, IsHostOf, IsSettled, IsKept, Tells, Reads, Finds, Opens, LeavesOver};
-ghost use Rattle.bh_open.specs.Versions.{schema_of, IsHostWith, IsAnyHost, IsTypedIfFirst};
+ghost use Rattle.bh_open.specs.Versions.{schema_of, IsHostWith, IsAnyHost, IsEarlierSchema, IsHostsSchema, IsTypedIfEarlier};
 
 use crate::found::{FoundHost, HostVersion, NoHost};
 use crate::row::{found_in, host_rows};
 use crate::tables::{version_of, why_none};
 use bh_cache::blocks::BlockCache;
-use bh_migration::bring_over;
+use bh_migration::{Earlier, bring_over};
 use bh_schema::host::{Digester, Host};
 use bh_schema::rows::transactions::{begin, take_back};
 use bh_types::block_digest::BlockDigest;
@@ -161,8 +161,9 @@ fn bring<S: Alter>(connection: &mut Connection<S>, version: HostVersion) -> Resu
         → (IsClean S.Store connection.old → IsHostWith version (stands S.Store connection.old).now) → is_trouble e ≡ true) }
 {
     match version {
-        HostVersion::First => bring_over(connection),
-        HostVersion::Second => Ok(()),
+        HostVersion::First => bring_over(connection, Earlier::First),
+        HostVersion::Second => bring_over(connection, Earlier::Second),
+        HostVersion::Third => Ok(()),
     }
 }
 
@@ -195,7 +196,7 @@ fn find_and_bring<S: Alter>(
     }
 }
 
-/// The host that a database holds, brought over if it is of version 1, in one commit: all that it shows stays. One of the present
+/// The host that a database holds, brought over if it is of version 1 or 2, in one commit: all that it shows stays. One of the present
 /// version is as it was.
 ///
 /// `NotAHostFile` where the database has other tables than a host's, an empty one too, or no row of a host of the version that
@@ -208,26 +209,25 @@ pub fn open_host<S: Alter + Drop>(
     tuning: Tuning,
 ) -> Result<Opened<S>, OpenError<S>>
     ensures given { IfOk result (λ opened. opened.tuning ≡ tuning) }
-    ensures schema { IfOk result (λ opened. ((stands S.Store connection).now.schema ≡ first_schema)
-        ⊎ ((stands S.Store connection).now.schema ≡ host_schema)) }
+    ensures schema { IfOk result (λ opened. IsHostsSchema (stands S.Store connection).now.schema) }
     ensures same { IfOk result (λ opened. IsClean S.Store opened.connection → (stands S.Store connection).now.schema ≡ host_schema
         → stands S.Store opened.connection ≡ stands S.Store connection) }
-    ensures brought { IfOk result (λ opened. IsClean S.Store opened.connection → (stands S.Store connection).now.schema ≡ first_schema
+    ensures brought { IfOk result (λ opened. IsClean S.Store opened.connection → IsEarlierSchema (stands S.Store connection).now.schema
         → Settles (stands S.Store connection) (stands S.Store opened.connection)) }
-    ensures shows { IfOk result (λ opened. IsClean S.Store opened.connection → IsTypedIfFirst (stands S.Store connection).now
+    ensures shows { IfOk result (λ opened. IsClean S.Store opened.connection → IsTypedIfEarlier (stands S.Store connection).now
         → (seen_in opened.limits (state S.Store opened.connection)).now ≡ tables_opened (stands S.Store connection).now) }
     ensures opened { IfOk result (λ opened. IsClean S.Store opened.connection → IsAnyHost (stands S.Store connection).now
         → IsHostOf opened.limits (stands S.Store connection).now) }
     ensures rest { (digest : Octets → Octets) → IfOk result (λ opened. IsClean S.Store opened.connection
-        → IsTypedIfFirst (stands S.Store connection).now
+        → IsTypedIfEarlier (stands S.Store connection).now
         → IsSoundHost digest (seen_in opened.limits (state S.Store opened.connection)).now
         → IsAtRest (IsSoundHost digest) (seen_in opened.limits (state S.Store opened.connection))) }
     ensures latest { (digest : Octets → Octets) → IfOk result (λ opened. IsClean S.Store opened.connection
-        → IsTypedIfFirst (stands S.Store connection).now
+        → IsTypedIfEarlier (stands S.Store connection).now
         → IsSoundHost digest (seen_in opened.limits (state S.Store opened.connection)).now
         → opened.latest ≡ latest_of (seen_in opened.limits (state S.Store opened.connection)).now) }
     ensures named { (digest : Octets → Octets) → IfOk result (λ opened. IsClean S.Store opened.connection
-        → IsTypedIfFirst (stands S.Store connection).now
+        → IsTypedIfEarlier (stands S.Store connection).now
         → IsSoundHost digest (seen_in opened.limits (state S.Store opened.connection)).now
         → digest_number opened.digest ≡ digest_in (seen_in opened.limits (state S.Store opened.connection)).now) }
     ensures follows { IfOk result (λ opened. KeepsDisk (state S.Store connection) (state S.Store opened.connection)) }

@@ -243,6 +243,38 @@ write old new change allowed result inside same it = record {
     held : OnOk result (IsStateClean new → Holds (change (tables old)) (standing new))
     held = changes_holds old new (λ c. (inside c).inside) result it.changes (change (tables old)) (λ clean up. kept result (it.leaves clean up))
 
+-- the first text of a write after which other rows are to follow: what is kept is what the tables had
+pub record Entering (old new : State) (change : Tables → Tables) (allowed : Error → Type 0) (result : Result ℕ Error) : Type 0 where
+  pub within : StateWithin old new
+  pub opens : OnOk result (IsIntact new → IsOpen old → IsOpen new)
+  pub midst : OnOk result (IsStateClean new → IsMidst (standing new))
+  pub enters : OnOk result (IsStateClean new → HoldsBy (totals_of (tables_in (standing old).now)) (change (tables_in (standing old).now)) (standing new))
+  pub trouble : IfErr result (λ e. IsIntact new → (standing old).limit ≡ None → allowed e)
+
+pub entering : (old new : State) (change : Tables → Tables) (allowed : Error → Type 0) (result : Result ℕ Error) → (IsStateClean old → IsInside (standing old)) → Writes (totals_of (tables old)) old new change allowed result → Entering old new change allowed result
+unfolding standing IsIntact IsOpen
+entering old new change allowed result inside it = record {
+  within = changes_within old new was_inside result it.changes;
+  opens = changes_opens old new was_inside result it.changes;
+  midst = on_ok_weaker result (λ held clean. record { sums = totals_of (tables old); by = (held clean).within }) held;
+  enters = held;
+  trouble = if_error old new result allowed it.errors;
+}
+  where
+    was_inside : IsStateClean old → (standing old).inside ≡ true
+    was_inside c = (inside c).inside
+
+    was : IsStateClean new → IsStateClean old
+    was = (changes_within old new was_inside result it.changes).follows.clean
+
+    go : (r : Result ℕ Error) → OnOk r (IsStateClean new → (standing new).inside ≡ true) → (HasCleanDisk new → IsTrue old.is_open → OnOk r (IsHostBy (totals_of (tables old)) new.now × (tables new ≡ change (tables old))))
+        → OnOk r (IsStateClean new → HoldsBy (totals_of (tables old)) (change (tables old)) (standing new))
+    go (Err e) stays h = tt
+    go (Ok n) stays h = λ c. let it = h c.intact (was c).is_open in record { within = record { inside = stays c; host = it.0 }; is = it.1 }
+
+    held : OnOk result (IsStateClean new → HoldsBy (totals_of (tables old)) (change (tables old)) (standing new))
+    held = go result (changes_inside old new was_inside result it.changes) it.leaves
+
 -- what is said of a sum: an error is trouble where it is not too wide
 pub record Total {X : Type 0} (old new : State) (rows_in : X → List Row) (total : Tables → ℕ) (result : Result X Error) : Type 0 where
   pub within : StateWithin old new
@@ -329,6 +361,12 @@ module _ {T : Type 0} (place : (sums : Totals) → Place sums T) (old new : Stat
       → Total old new rows_in (λ t. length (filter m (p.rows t))) result
   counted rows_in result {sql} {params} {m} it ok err survives = totalled_so _ _ (λ t. ones (filter m (p.rows t))) (summed rows_in result it ok err survives)
 
+  -- the rows that pass, changed, after which the same is kept
+  pub updated_so : (result : Result ℕ Error) (live : IsLive old) {sql : List ℕ} {params : Row} {m : T → Bool} {f : T → T} → totals_of (p.set (tables old) (update_where m f (p.rows (tables old)))) ≡ totals_of (tables old)
+      → UpdateText p.form host_schema p.number p.table sql params m f → MayChange p.form host_schema p.table m f → (HasCleanDisk new → Executes sql params old new result) → Survives old new (CommitsBy sql params old)
+      → Write old new (λ t. p.set t (update_where m f (p.rows t))) (λ e. is_trouble e ≡ true) result
+  updated_so result live same it may runs survives = write old new _ _ result inside same (statement.updated p old new (ready old inside) result _ _ runs survives live _ _ it may)
+
   -- writes to a table of whose rows nothing is kept
   module _ (same : (t : Tables) (l : List T) → totals_of ((place (totals_of t)).set t l) ≡ totals_of t) (result : Result ℕ Error) (live : IsLive old) where
     pub inserted : {sql : List ℕ} {params : Row} {x : T} {A : Type 0} → InsertText p.form host_schema p.number p.table sql params x → (IsStateClean old → A → MayAdd p.form host_schema p.table (standing old).now.trees x)
@@ -340,7 +378,7 @@ module _ {T : Type 0} (place : (sums : Totals) → Place sums T) (old new : Stat
     pub updated : {sql : List ℕ} {params : Row} {m : T → Bool} {f : T → T} → UpdateText p.form host_schema p.number p.table sql params m f → MayChange p.form host_schema p.table m f
         → (HasCleanDisk new → Executes sql params old new result) → Survives old new (CommitsBy sql params old)
         → Write old new (λ t. p.set t (update_where m f (p.rows t))) (λ e. is_trouble e ≡ true) result
-    updated it may runs survives = write old new _ _ result inside (same (tables old) _) (statement.updated p old new (ready old inside) result _ _ runs survives live _ _ it may)
+    updated it may runs survives = updated_so result live (same (tables old) _) it may runs survives
 
     pub deleted : {sql : List ℕ} {params : Row} {m : T → Bool} → DeleteText p.form host_schema p.number p.table sql params m → ((db : Trees) (rows : List Row) → AreUnused host_schema db p.table.tree rows)
         → (HasCleanDisk new → Executes sql params old new result) → Survives old new (CommitsBy sql params old)

@@ -3,6 +3,8 @@ pub mod Calls
 pub mod UsedCalls
 pub mod KeptCalls
 pub mod VersionCalls
+pub mod TallyCalls
+pub mod TallySteps
 pub mod VersionSteps
 pub mod PartCalls
 pub mod Finds

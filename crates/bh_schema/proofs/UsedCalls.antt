@@ -16,15 +16,16 @@ use Rattle.bh_rows.proofs.CallLemmas.{clean_before}
 use Rattle.bh_rows.proofs.InsertLemmas.{each_push}
 use Rattle.bh_rows.proofs.TextLemmas as text
 use Rattle.bh_tables.specs.Schema.{Octets, host_schema, tenants_table, at}
-use Rattle.bh_tables.specs.Typed.{Totals, totals_of, TenantRow, TenantColumns, stored_tenant_form, used_changed, IsHost, IsHostBy, Tables, tables}
+use Rattle.bh_tables.specs.Typed.{Totals, totals_of, TenantRow, TenantColumns, stored_tenant_form, used_changed, IsHost, IsHostBy, Tables, tables, tables_in}
 use Rattle.bh_tables.specs.Shown.{is_tenant}
 use Rattle.bh_tables.proofs.OwnedLemmas.{tenant_unused}
 use Rattle.bh_tables.proofs.Places.{orderly, stored_tenants_is}
 use Rattle.bh_tables.proofs.StoredLemmas.{Uses, tenants_stored, tenants_count, tenants_turned}
 use Rattle.bh_tables.proofs.TenantTexts.{tenant_free}
 use Rattle.bh_tables.proofs.UsedLemmas.{used_turned}
+use Rattle.bh_schema.specs.Rows.{IsNewTenant}
 use Rattle.bh_schema.specs.Layer.{standing, IsIntact, IsOpen, IsStateClean, IsInside, IsMidst}
-use Rattle.bh_schema.proofs.Calls.{Turn, Write, sets, ready, write}
+use Rattle.bh_schema.proofs.Calls.{Turn, Entering, sets, ready, entering}
 
 module _ (old new : State) (midst : IsStateClean old → IsMidst (standing old)) (result : Result ℕ Error) (live : IsLive old) (tenant : Octets) where
   -- so many bytes more and fewer, with other numbers
@@ -86,9 +87,9 @@ module _ (old new : State) (inside : IsStateClean old → IsInside (standing old
 
   pub tenant_added : {sql : List ℕ} {params : Row} {A : Type 0} → InsertText stored_tenant_form host_schema 1 (at 1 tenants_table) sql params new_columns → (IsStateClean old → A → MayAdd stored_tenant_form host_schema (at 1 tenants_table) (standing old).now.trees new_columns)
       → (HasCleanDisk new → Executes sql params old new result) → Survives old new (CommitsBy sql params old)
-      → Write old new (λ t. record t { tenants = t.tenants ++ new_row ∷ [] }) (λ e. A → is_trouble e ≡ true) result
+      → Entering old new (λ t. record t { tenants = t.tenants ++ new_row ∷ [] }) (λ e. A → is_trouble e ≡ true) result
   unfolding IsIntact IsOpen standing
-  tenant_added {sql} {params} it may runs survives = write old new (λ t. record t { tenants = t.tenants ++ new_row ∷ [] }) _ result inside refl (record {
+  tenant_added {sql} {params} it may runs survives = entering old new (λ t. record t { tenants = t.tenants ++ new_row ∷ [] }) _ result inside (record {
     changes = text.insert_changes stored_tenant_form host_schema orderly 1 (at 1 tenants_table) stored_tenants_is old new stored_ready sql params new_columns it result runs survives;
     leaves = λ clean up. both_ok result (holds_it (ready old inside (clean_before old new _ survives clean) up) up)
         (text.insert_adds stored_tenant_form host_schema orderly 1 (at 1 tenants_table) stored_tenants_is old new stored_ready sql params new_columns it result runs survives clean up)
@@ -99,3 +100,13 @@ module _ (old new : State) (inside : IsStateClean old → IsInside (standing old
       if_so : {A : Type 0} (r : Result ℕ Error) → (A → IfErr r (λ e. is_trouble e ≡ true)) → IfErr r (λ e. A → is_trouble e ≡ true)
       if_so (Ok n) h = tt
       if_so (Err e) h = h
+
+  -- its name was new
+  pub tenant_was_new : {sql : List ℕ} {params : Row} → InsertText stored_tenant_form host_schema 1 (at 1 tenants_table) sql params new_columns → (IsStateClean new → IsStateClean old)
+      → (HasCleanDisk new → Executes sql params old new result) → Survives old new (CommitsBy sql params old) → OnOk result (IsStateClean new → IsNewTenant (tables_in (standing old).now) tenant)
+  unfolding IsIntact IsOpen standing
+  tenant_was_new {sql} {params} it was runs survives = go result (λ c. text.insert_frees stored_tenant_form host_schema orderly 1 (at 1 tenants_table) stored_tenants_is old new stored_ready sql params new_columns it result runs survives c.intact (was c).is_open)
+    where
+      go : (r : Result ℕ Error) → (IsStateClean new → OnOk r (AreFree stored_tenant_form host_schema (at 1 tenants_table) (old.now.trees 1) (put stored_tenant_form (next_rowid (old.now.trees 1), new_columns)))) → OnOk r (IsStateClean new → IsNewTenant (tables_in old.now) tenant)
+      go (Err e) h = tt
+      go (Ok n) h = λ c. record { free = tenant_free (totals_of (tables old)) old.now (inside (was c)).host new_columns (h c) }

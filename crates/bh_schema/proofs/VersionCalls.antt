@@ -1,5 +1,5 @@
 -- Calls over versions, in the words of the tables, in which each version has the bytes of its body.
-use Rattle.std.proofs.Common.{◌≡◌, ℕ, List, [], ◌∷◌, ◌++◌, map, filter, Bool, true, Result, IfOk, IfErr, Ordering, ap, take, length, ◌+◌, sum_by, cond, false, refl, sym, ◌∙◌}
+use Rattle.std.proofs.Common.{◌≡◌, ℕ, List, [], ◌∷◌, ◌++◌, map, filter, Bool, true, None, Result, IfOk, IfErr, Ordering, ap, take, length, ◌+◌, sum_by, cond, false, refl, sym, ◌∙◌}
 use Rattle.std.proofs.lemmas.List.Sums.{sum_by-cons}
 use Rattle.sqlite.specs.Order.{Row}
 use Rattle.sqlite.specs.State.{State, HasCleanDisk, IsLive, Survives, Executes, CommitsBy, CommitsShowing, Shown, FailsToQuery}
@@ -15,10 +15,9 @@ use Rattle.bh_tables.proofs.Places.{versions, versions_is, turned}
 use Rattle.bh_tables.proofs.ResolvedLemmas.{seen, seen_sorted, version_added, versions_deleted}
 use Rattle.bh_tables.proofs.Statements.{ones}
 use Rattle.bh_tables.proofs.Statements as statement
-use Rattle.bh_tables.proofs.TotalLemmas.{totals_marker_added}
-use Rattle.bh_tables.proofs.Terms.{one_row}
-use Rattle.bh_schema.specs.Layer.{standing, IsIntact, IsOpen, IsInside, IsMidst, IsStateClean}
-use Rattle.bh_schema.proofs.Calls.{Question, Write, Turn, asked, ready, write, written, Total, totalled_so}
+use Rattle.bh_tables.proofs.Terms.{one_row, two_rows}
+use Rattle.bh_schema.specs.Layer.{standing, IsIntact, IsInside, IsMidst, IsStateClean}
+use Rattle.bh_schema.proofs.Calls.{Question, Turn, asked, question, ready, Total, totalled_so}
 use Rattle.bh_schema.proofs.Calls as call
 
 -- ---- the kinds of texts
@@ -54,16 +53,13 @@ module _ (old new : State) (inside : IsStateClean old → IsInside (standing old
       → Total old new rows_in (λ t. length (filter (λ x. m (columns_of x)) t.versions)) result
   counted rows_in result {sql} {params} {m} it ok err survives = totalled_so _ _ (λ t. ones (filter (λ x. m (columns_of x)) t.versions)) (summed rows_in result it ok err survives)
 
-  -- one that has no bytes comes
-  pub inserted : (result : Result ℕ Error) (live : IsLive old) {sql : List ℕ} {params : Row} {c : VersionColumns} {A : Type 0} → c.size ≡ 0 → InsertText version_form host_schema 4 (at 7 versions_table) sql params c
-      → (IsStateClean old → A → MayAdd version_form host_schema (at 7 versions_table) (standing old).now.trees c)
-      → (HasCleanDisk new → Executes sql params old new result) → Survives old new (CommitsBy sql params old)
-      → Write old new (λ t. record t { versions = t.versions ++ resolved t.refs t.blocks c ∷ [] }) (λ e. A → is_trouble e ≡ true) result
-  unfolding IsIntact IsOpen standing
-  inserted result live {sql} {params} {c} none it may runs survives =
-      let sums = totals_of (tables old) in
-      written _ _ (λ db. version_added db c) (write old new _ _ result inside (ap totals_of (version_added old.now c) ∙ totals_marker_added (tables old) (resolved (tables old).refs (tables old).blocks c) none)
-      (statement.inserted (versions sums) old new (ready old inside) result sql params runs survives live c it (λ clean up. may (record { intact = clean; is_open = up }))))
+  pub selected_two : {X : Type 0} (rows_in : X → List Row) (result : Result X Error) {sql : List ℕ} {params : Row} {m : VersionColumns → Bool} {view : VersionColumns → Row} {order : VersionColumns → VersionColumns → Ordering}
+      → SortedText version_form host_schema 7 sql params m view order two_rows
+      → (HasCleanDisk new → IfOk result (λ x. Shown sql params old new (rows_in x))) → (HasCleanDisk new → IfErr result (FailsToQuery sql params old new)) → Survives old new (CommitsShowing sql params old)
+      → Question old new rows_in (λ t. take 2 (map (λ v. view (columns_of v)) (sort_by (λ a b. order (columns_of a) (columns_of b)) (filter (λ v. m (columns_of v)) t.versions)))) result
+  selected_two rows_in result {sql} {params} {m} {view} {order} it ok err survives =
+      let p = versions (totals_of (tables old)) in
+      asked _ _ (λ t. ap (take 2) (seen_sorted m t.versions view order)) (question old new rows_in _ result inside (statement.selected_two p old new (ready old inside) rows_in result _ _ _ _ _ it ok err survives))
 
 -- in the midst of a write of what their tenant uses
 module _ (old new : State) (midst : IsStateClean old → IsMidst (standing old)) (result : Result ℕ Error) (live : IsLive old) where
@@ -78,3 +74,7 @@ module _ (old new : State) (midst : IsStateClean old → IsMidst (standing old))
       → Turn old new (λ sums. sums) (λ t. record t { versions = delete_where (λ v. m (columns_of v)) t.versions }) result
   goes {sql} {params} {m} it runs survives = call.drops version_form 4 (at 7 versions_table) versions_is (λ sums db h. h.held.versions) old new midst result live (λ sums. sums) (λ t. record t { versions = delete_where (λ v. m (columns_of v)) t.versions }) it
       (λ sums host l. let w = turned (versions sums) old new _ host l in (w.0, w.1 ∙ ap (λ vs. record (tables old) { versions = map (resolved (tables old).refs (tables old).blocks) (delete_where m vs) }) ((versions sums).rows_are old.now) ∙ versions_deleted old.now m)) runs survives
+
+  pub comes_trouble : {sql : List ℕ} {params : Row} {c : VersionColumns} {A : Type 0} → InsertText version_form host_schema 4 (at 7 versions_table) sql params c → (IsStateClean old → A → MayAdd version_form host_schema (at 7 versions_table) (standing old).now.trees c)
+      → (HasCleanDisk new → Executes sql params old new result) → Survives old new (CommitsBy sql params old) → IfErr result (λ e. IsIntact new → (standing old).limit ≡ None → A → is_trouble e ≡ true)
+  comes_trouble it may runs survives = call.adds_trouble version_form 4 (at 7 versions_table) versions_is (λ sums db h. h.held.versions) old new midst result live (λ s. s) (λ t. t) it may runs survives

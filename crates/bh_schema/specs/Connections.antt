@@ -4,7 +4,7 @@ use Rattle.sqlite.specs.Held.{Held, state}
 use Rattle.sqlite.specs.declared.error.Error.{Error}
 use Rattle.sqlite_trees.specs.declared.store.Store.{Ghosts}
 use Rattle.bh_rows.specs.Means.{is_trouble}
-use Rattle.bh_tables.specs.Typed.{Totals, IsHost, Tables, tables_in}
+use Rattle.bh_tables.specs.Typed.{Totals, totals_of, IsHost, Tables, tables_in}
 use Rattle.bh_schema.specs.Layer.{Standing, standing, IsInside, IsReadable, IsInsideBy, IsMidst, Holds, HoldsBy, StateWithin}
 use Rattle.bh_schema.specs.Layer as layer
 
@@ -67,6 +67,10 @@ module _ {S : Type 0} (g : Ghosts S) where
     abbrev pub Rewrites : (Totals → Totals) → (Tables → Tables) → Type 0
     Rewrites after change =
         IsClean new → (sums : Totals) → IsInsideBy sums (stands old) → HoldsBy (after sums) (change (tables old)) (stands new)
+
+    -- from a transaction into the midst of a write: the same of what the tables had
+    abbrev pub Enters : (Totals → Totals) → (Tables → Tables) → Type 0
+    Enters after change = IsClean new → HoldsBy (after (totals_of (tables old))) (change (tables old)) (stands new)
 
     -- where no limit on steps stops a text, its error is trouble, or is so under a premise
     abbrev pub IsTrouble : Error → Type 0

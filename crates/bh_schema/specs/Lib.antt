@@ -13,3 +13,4 @@ pub mod Counted
 pub mod OwnNumbers
 pub mod Reading
 pub mod Named
+pub mod Tallies

@@ -60,9 +60,12 @@ pub record SeenHead : Type 0 where
 abbrev pub seen_head : VersionRow → SeenHead
 seen_head v = record { seq = v.seq; id = v.id; marker = v.marker; stamp = v.stamp; size = v.size; checksum = v.checksum }
 
--- the newest version or marker of a key
+-- the versions and markers of a key, the newest first, and the newest of them
+abbrev pub entries_at : Octets → Octets → Octets → List VersionRow → List VersionRow
+entries_at tenant bucket okey versions = sort_by newer (filter (is_at tenant bucket okey) versions)
+
 abbrev pub newest_at : Octets → Octets → Octets → List VersionRow → Option VersionRow
-newest_at tenant bucket okey versions = first (sort_by newer (filter (is_at tenant bucket okey) versions))
+newest_at tenant bucket okey versions = first (entries_at tenant bucket okey versions)
 
 -- ---- rows that may be added
 

@@ -7,6 +7,7 @@ use Rattle.bh_tables.specs.Typed.{VersionColumns, Tables}
 use Rattle.bh_tables.specs.Bodies.{resolved}
 use Rattle.bh_tables.specs.Shown.{is_tenant, is_version}
 use Rattle.bh_schema.specs.declared.rows.versions.NewVersion.{NewVersion}
+use Rattle.bh_schema.specs.declared.rows.versions.NewMarker.{NewMarker}
 
 -- as it is stored
 abbrev pub version_columns_of : NewVersion → VersionColumns
@@ -25,6 +26,23 @@ version_columns_of v = record {
 abbrev pub with_version : NewVersion → Tables → Tables
 with_version v rows = record rows { versions = rows.versions ++ resolved rows.refs rows.blocks (version_columns_of v) ∷ [] }
 
+-- a marker has no bytes
+abbrev pub marker_columns_of : NewMarker → VersionColumns
+marker_columns_of m = record {
+  tenant = m.tenant.now;
+  seq = m.seq;
+  bucket = m.bucket.now;
+  okey = m.okey.now;
+  id = m.id;
+  marker = 1;
+  stamp = m.stamp;
+  size = 0;
+  checksum = [];
+}
+
+abbrev pub with_marker : NewMarker → Tables → Tables
+with_marker m rows = record rows { versions = rows.versions ++ resolved rows.refs rows.blocks (marker_columns_of m) ∷ [] }
+
 -- the entry of a key with this id gone; 0 is `null`
 abbrev pub without_version : Octets → Octets → Octets → ℕ → Tables → Tables
 without_version tenant bucket okey id rows = record rows { versions = delete_where (is_version tenant bucket okey id) rows.versions }
@@ -32,6 +50,13 @@ without_version tenant bucket okey id rows = record rows { versions = delete_whe
 -- the bytes of that entry, if it is there
 abbrev pub bytes_of_id : Octets → Octets → Octets → ℕ → Tables → ℕ
 bytes_of_id tenant bucket okey id rows = option_map_or (λ v. v.size) (find (is_version tenant bucket okey id) rows.versions) 0
+
+-- a tenant more, each of whose counters gives 1 next
+abbrev pub with_tenant : Octets → ℕ → Tables → Tables
+with_tenant tenant quota rows = record rows {
+  tenants = rows.tenants
+      ++ record { tenant = tenant; quota = quota; next_version = 1; next_upload = 1; next_entry = 1 } ∷ [];
+}
 
 -- the tenant's next entry takes this number
 abbrev pub with_next : Octets → ℕ → Tables → Tables

@@ -10,9 +10,9 @@ use Rattle.sqlite.specs.Edit.{id_in}
 use Rattle.sqlite_trees.specs.View.{is_int}
 use Rattle.sqlite_typed.specs.Columns.{bytes_of, int_of, or_null}
 use Rattle.bh_rows.specs.Form.{Form, AreRows}
-use Rattle.bh_tables.specs.Typed.{column_number, maybe_number, number, host_form, stored_tenant_form, key_form, bucket_form, version_form, block_form, ref_form, stored_upload_form, part_form, use_form, lock_form, retain_form}
+use Rattle.bh_tables.specs.Typed.{column_number, maybe_number, number, host_form, stored_tenant_form, key_form, bucket_form, version_form, block_form, ref_form, stored_upload_form, part_form, use_form, lock_form, retain_form, tally_form}
 use Rattle.bh_stored.specs.Cells.{suits, are_suited, is_fit}
-use Rattle.bh_stored.specs.Fits.{AreFit, host_kinds, tenant_kinds, key_kinds, bucket_kinds, version_kinds, block_kinds, ref_kinds, upload_kinds, part_kinds, use_kinds, lock_kinds, retain_kinds}
+use Rattle.bh_stored.specs.Fits.{AreFit, host_kinds, tenant_kinds, key_kinds, bucket_kinds, version_kinds, block_kinds, ref_kinds, upload_kinds, part_kinds, use_kinds, lock_kinds, retain_kinds, tally_kinds}
 use Rattle.bh_stored.specs.declared.cells.Kind.{Kind}
 use Rattle.bh_stored.specs.declared.cells.Kind.TheVariants as kind
 
@@ -195,6 +195,14 @@ retain_each id (a ∷ b ∷ []) h = let h0 = and_parts (suits kind.Text a) _ h i
 retain_each id (a ∷ b ∷ c ∷ []) h = let h0 = and_parts (suits kind.Text a) _ h in let h1 = and_parts (suits kind.Number b) _ h0.1 in let h2 = and_parts (suits kind.Number c) _ h1.1 in (λ i. text_is a h0.0 i ∷ number_is b h1.0 i ∷ number_is c h2.0 i ∷ [])
 retain_each id (a ∷ b ∷ c ∷ v ∷ vs) h = let h0 = and_parts (suits kind.Text a) _ h in let h1 = and_parts (suits kind.Number b) _ h0.1 in let h2 = and_parts (suits kind.Number c) _ h1.1 in no h2.1
 
+tally_each : (id : Value) (vs : Row) → are_suited tally_kinds vs ≡ true → vs ≡ tally_form.encode (tally_form.decode (id ∷ vs))
+tally_each id [] h = no h
+tally_each id (a ∷ []) h = let h0 = and_parts (suits kind.Text a) _ h in no h0.1
+tally_each id (a ∷ b ∷ []) h = let h0 = and_parts (suits kind.Text a) _ h in let h1 = and_parts (suits kind.Number b) _ h0.1 in no h1.1
+tally_each id (a ∷ b ∷ c ∷ []) h = let h0 = and_parts (suits kind.Text a) _ h in let h1 = and_parts (suits kind.Number b) _ h0.1 in let h2 = and_parts (suits kind.Number c) _ h1.1 in no h2.1
+tally_each id (a ∷ b ∷ c ∷ d ∷ []) h = let h0 = and_parts (suits kind.Text a) _ h in let h1 = and_parts (suits kind.Number b) _ h0.1 in let h2 = and_parts (suits kind.Number c) _ h1.1 in let h3 = and_parts (suits kind.Number d) _ h2.1 in (λ i. text_is a h0.0 i ∷ int_is b h1.0 i ∷ int_is c h2.0 i ∷ int_is d h3.0 i ∷ [])
+tally_each id (a ∷ b ∷ c ∷ d ∷ v ∷ vs) h = let h0 = and_parts (suits kind.Text a) _ h in let h1 = and_parts (suits kind.Number b) _ h0.1 in let h2 = and_parts (suits kind.Number c) _ h1.1 in let h3 = and_parts (suits kind.Number d) _ h2.1 in no h3.1
+
 -- ---- the rows of each
 
 pub hosts_are : (rows : List Row) → AreFit host_kinds rows → AreRows host_form rows
@@ -233,6 +241,9 @@ locks_are = rows_are lock_form lock_kinds lock_each
 pub retains_are : (rows : List Row) → AreFit retain_kinds rows → AreRows retain_form rows
 retains_are = rows_are retain_form retain_kinds retain_each
 
+pub tallies_are : (rows : List Row) → AreFit tally_kinds rows → AreRows tally_form rows
+tallies_are = rows_are tally_form tally_kinds tally_each
+
 -- ---- totals that are kept aren't negative
 
 used_each : (id : Value) (vs : Row) → are_suited tenant_kinds vs ≡ true → int_of (column (id ∷ vs) 6) ≡ pos (column_number (column (id ∷ vs) 6))
@@ -270,3 +281,20 @@ count_each id (a ∷ b ∷ c ∷ vs) h = let h0 = and_parts (suits kind.Blob a) 
 pub count_is : (r : Row) → is_fit use_kinds r ≡ true → int_of (column r 3) ≡ pos (column_number (column r 3))
 count_is [] h = no h
 count_is (v ∷ vs) h = count_each v vs (and_parts (is_int v) _ h).1
+
+-- the counts of a tally
+pub record AreCounts (r : Row) : Type 0 where
+  pub versions : int_of (column r 2) ≡ pos (column_number (column r 2))
+  pub markers : int_of (column r 3) ≡ pos (column_number (column r 3))
+  pub objects : int_of (column r 4) ≡ pos (column_number (column r 4))
+
+tallied_each : (id : Value) (vs : Row) → are_suited tally_kinds vs ≡ true → AreCounts (id ∷ vs)
+tallied_each id [] h = no h
+tallied_each id (a ∷ []) h = let h0 = and_parts (suits kind.Text a) _ h in no h0.1
+tallied_each id (a ∷ b ∷ []) h = let h0 = and_parts (suits kind.Text a) _ h in let h1 = and_parts (suits kind.Number b) _ h0.1 in no h1.1
+tallied_each id (a ∷ b ∷ c ∷ []) h = let h0 = and_parts (suits kind.Text a) _ h in let h1 = and_parts (suits kind.Number b) _ h0.1 in let h2 = and_parts (suits kind.Number c) _ h1.1 in no h2.1
+tallied_each id (a ∷ b ∷ c ∷ d ∷ vs) h = let h0 = and_parts (suits kind.Text a) _ h in let h1 = and_parts (suits kind.Number b) _ h0.1 in let h2 = and_parts (suits kind.Number c) _ h1.1 in let h3 = and_parts (suits kind.Number d) _ h2.1 in record { versions = ap int_of (number_is b h1.0); markers = ap int_of (number_is c h2.0); objects = ap int_of (number_is d h3.0) }
+
+pub tallied_is : (r : Row) → is_fit tally_kinds r ≡ true → AreCounts r
+tallied_is [] h = no h
+tallied_is (v ∷ vs) h = tallied_each v vs (and_parts (is_int v) _ h).1

@@ -45,6 +45,9 @@ lock_kinds = kind.Text ∷ kind.Text ∷ []
 abbrev pub retain_kinds : List Kind
 retain_kinds = kind.Text ∷ kind.Number ∷ kind.Number ∷ []
 
+abbrev pub tally_kinds : List Kind
+tally_kinds = kind.Text ∷ kind.Number ∷ kind.Number ∷ kind.Number ∷ []
+
 -- rows of these kinds, whose numbers rise
 pub record AreFit (kinds : List Kind) (rows : List Row) : Type 0 where
   pub fit : list_all (is_fit kinds) rows ≡ true
@@ -63,3 +66,4 @@ pub record AreAllFit (d : Trees) : Type 0 where
   pub uses : AreFit use_kinds (d 23)
   pub locks : AreFit lock_kinds (d 26)
   pub retains : AreFit retain_kinds (d 28)
+  pub tallies : AreFit tally_kinds (d 30)

@@ -1,11 +1,24 @@
 -- The rows that were read.
-use Rattle.std.specs.Prelude.{◌≡◌, ◌==◌, Bool, ◌&&◌, ◌||◌, not, [], if◌then◌else◌}
+use Rattle.std.specs.Prelude.{◌≡◌, ◌==◌, Bool, true, false, ◌&&◌, ◌||◌, not, [], if◌then◌else◌}
 use Rattle.sqlite.specs.Tree.{Trees}
+use Rattle.bh_stored.specs.declared.stored.Edition.{Edition}
+use Rattle.bh_stored.specs.declared.stored.Edition.TheVariants.{First, Second, Third}
 use Rattle.bh_stored.specs.declared.stored.Stored.{Stored}
 
--- the rows of a database, whose tables of locks and of dates have none where they are not there
-abbrev pub seen : Bool → Trees → Trees
-seen has_locks d t = if (t == 26 || t == 28) && not has_locks then [] else d t
+-- whether a host of an edition has the tables of locks and of dates, and that of tallies
+abbrev pub has_locks : Edition → Bool
+has_locks First = false
+has_locks Second = true
+has_locks Third = true
+
+abbrev pub has_tallies : Edition → Bool
+has_tallies First = false
+has_tallies Second = false
+has_tallies Third = true
+
+-- the rows of a database, of which a table that a host of its edition does not have has none
+abbrev pub seen : Edition → Trees → Trees
+seen edition d t = if ((t == 26 || t == 28) && not (has_locks edition)) || (t == 30 && not (has_tallies edition)) then [] else d t
 
 -- they are those of a database
 pub record AreStoredIn (d : Trees) (s : Stored) : Type 0 where
@@ -21,3 +34,4 @@ pub record AreStoredIn (d : Trees) (s : Stored) : Type 0 where
   pub uses_is : s.uses.items ≡ d 23
   pub locks_is : s.locks.items ≡ d 26
   pub retains_is : s.retains.items ≡ d 28
+  pub tallies_is : s.tallies.items ≡ d 30

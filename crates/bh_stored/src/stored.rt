@@ -1,12 +1,13 @@
 //! The rows of a host's tables.
 
-ghost use Rattle.std.specs.Prelude.{◌≡◌, true, false, None, IfOk, OnOk};
+ghost use Rattle.std.specs.Prelude.{◌≡◌, true, None, IfOk, OnOk};
 ghost use Rattle.std.specs.List.{list_all};
 ghost use Rattle.sqlite_trees.specs.View.{IsClean};
 ghost use Rattle.bh_stored.specs.Cells.{is_fit};
 ghost use Rattle.bh_stored.specs.Fits.{AreFit, AreAllFit};
 ghost use Rattle.bh_stored.specs.Stored.{seen, AreStoredIn};
 ghost use Rattle.bh_stored.specs.Stores.{KeepsTrees};
+ghost use Rattle.bh_stored.specs.declared.stored.Edition.TheVariants.{First, Second, Third};
 
 use crate::cells::Kind::{self, Blob, Key, MaybeNumber, Number, Text};
 use crate::cells::{is_fit, number_in};
@@ -42,6 +43,18 @@ const LOCKS: [Kind; 2] = [Text, Text];
 
 const RETAINS: [Kind; 3] = [Text, Number, Number];
 
+const TALLIES: [Kind; 4] = [Text, Number, Number, Number];
+
+/// The edition of a host, by its version, which says what tables it has.
+#[derive(Clone, Copy, PartialEq, Eq)]
+pub enum Edition {
+    First,
+    /// With tables of locks and of dates.
+    Second,
+    /// With those and one of tallies.
+    Third,
+}
+
 /// As they are stored.
 #[derive(Drop)]
 pub struct Stored {
@@ -57,6 +70,7 @@ pub struct Stored {
     pub uses: Vec<Row>,
     pub locks: Vec<Row>,
     pub retains: Vec<Row>,
+    pub tallies: Vec<Row>,
 }
 
 /// The number of the first row that has other columns than of these kinds.
@@ -90,11 +104,11 @@ fn fit_rows<S: Store>(
 }
 
 impl Stored {
-    /// The rows of the tables that a host of either version has.
+    /// The rows of the tables that a host of each edition has.
     fn read_first<S: Store>(alloc: Global, store: &mut S) -> Result<Stored, Failure>
         ensures keeps { OnOk result (KeepsTrees (S.view store.old) (S.view store.new)) }
-        ensures stored { IfOk result (λ it. IsClean (S.view store.new) → AreStoredIn (seen false (S.view store.old).trees) it) }
-        ensures fit { OnOk result (IsClean (S.view store.new) → AreAllFit (seen false (S.view store.old).trees)) }
+        ensures stored { IfOk result (λ it. IsClean (S.view store.new) → AreStoredIn (seen First (S.view store.old).trees) it) }
+        ensures fit { OnOk result (IsClean (S.view store.new) → AreAllFit (seen First (S.view store.old).trees)) }
     {
         Ok(Stored {
             host: fit_rows(alloc, store, 0, &HOST)?,
@@ -109,21 +123,43 @@ impl Stored {
             uses: fit_rows(alloc, store, 23, &USES)?,
             locks: Vec::new(alloc),
             retains: Vec::new(alloc),
+            tallies: Vec::new(alloc),
         })
     }
 
-    /// All rows of the store of a host's database. One of version 1 has no tables of locks and of dates: none of their rows is there.
-    pub fn read<S: Store>(alloc: Global, store: &mut S, has_locks: bool) -> Result<Stored, Failure>
+    /// Those, and the rows of the tables of locks and of dates.
+    fn read_second<S: Store>(alloc: Global, store: &mut S) -> Result<Stored, Failure>
         ensures keeps { OnOk result (KeepsTrees (S.view store.old) (S.view store.new)) }
-        ensures stored { IfOk result (λ it. IsClean (S.view store.new) → AreStoredIn (seen has_locks (S.view store.old).trees) it) }
-        ensures fit { OnOk result (IsClean (S.view store.new) → AreAllFit (seen has_locks (S.view store.old).trees)) }
+        ensures stored { IfOk result (λ it. IsClean (S.view store.new) → AreStoredIn (seen Second (S.view store.old).trees) it) }
+        ensures fit { OnOk result (IsClean (S.view store.new) → AreAllFit (seen Second (S.view store.old).trees)) }
     {
         let mut stored = Stored::read_first(alloc, store)?;
-        if !has_locks {
-            return Ok(stored);
-        }
         stored.locks = fit_rows(alloc, store, 26, &LOCKS)?;
         stored.retains = fit_rows(alloc, store, 28, &RETAINS)?;
         Ok(stored)
+    }
+
+    /// And those of the table of tallies.
+    fn read_third<S: Store>(alloc: Global, store: &mut S) -> Result<Stored, Failure>
+        ensures keeps { OnOk result (KeepsTrees (S.view store.old) (S.view store.new)) }
+        ensures stored { IfOk result (λ it. IsClean (S.view store.new) → AreStoredIn (seen Third (S.view store.old).trees) it) }
+        ensures fit { OnOk result (IsClean (S.view store.new) → AreAllFit (seen Third (S.view store.old).trees)) }
+    {
+        let mut stored = Stored::read_second(alloc, store)?;
+        stored.tallies = fit_rows(alloc, store, 30, &TALLIES)?;
+        Ok(stored)
+    }
+
+    /// All rows of the store of a database of a host of this edition. Of a table that it does not have there are none.
+    pub fn read<S: Store>(alloc: Global, store: &mut S, edition: Edition) -> Result<Stored, Failure>
+        ensures keeps { OnOk result (KeepsTrees (S.view store.old) (S.view store.new)) }
+        ensures stored { IfOk result (λ it. IsClean (S.view store.new) → AreStoredIn (seen edition (S.view store.old).trees) it) }
+        ensures fit { OnOk result (IsClean (S.view store.new) → AreAllFit (seen edition (S.view store.old).trees)) }
+    {
+        match edition {
+            Edition::First => Stored::read_first(alloc, store),
+            Edition::Second => Stored::read_second(alloc, store),
+            Edition::Third => Stored::read_third(alloc, store),
+        }
     }
 }

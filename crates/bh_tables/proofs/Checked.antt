@@ -1,5 +1,5 @@
 -- What the CHECKs say of typed rows.
-use Rattle.std.proofs.Common.{inl, inr, arith, ◌≡◌, ◌≤◌, ℕ, ℤ, pos, ◌∷◌, [], List, ◌&&◌, not, true, false, Bool, Option, Some, None, refl, ap, ap₂, ◌∙◌, int_le}
+use Rattle.std.proofs.Common.{inl, inr, arith, ◌≡◌, ◌≤◌, ℕ, ℤ, pos, ◌∷◌, [], not, true, Bool, Option, Some, None, refl, ◌∙◌, int_le}
 use Rattle.std.proofs.lemmas.Int.{ints}
 use Rattle.std.specs.Cmp.Derive.{both_true}
 use Rattle.std.proofs.lemmas.Bool.{and_parts}
@@ -17,8 +17,8 @@ use Rattle.sqlite.specs.Term.{Term, eval}
 use Rattle.sqlite_rules.specs.Lists.{Has}
 use Rattle.sqlite_rules.proofs.ListLemmas.{test_has}
 use Rattle.sqlite_schema.specs.Rules.{passes_checks}
-use Rattle.bh_tables.specs.Schema.{Octets, is_natural, is_small, host_table, tenants_table, buckets_table, versions_table, blocks_table, refs_table, uploads_table, parts_table, uses_table, retains_table}
-use Rattle.bh_tables.specs.Typed.{HostRow, host_columns, TenantRow, tenant_columns, BucketRow, bucket_columns, VersionColumns, version_columns, BlockRow, block_columns, use_columns, RefRow, ref_columns, UploadRow, upload_columns, PartColumns, part_columns, RetainRow, retain_columns, number}
+use Rattle.bh_tables.specs.Schema.{Octets, is_natural, is_small, host_table, tenants_table, buckets_table, versions_table, blocks_table, refs_table, uploads_table, parts_table, uses_table, retains_table, tallies_table}
+use Rattle.bh_tables.specs.Typed.{HostRow, host_columns, TenantRow, tenant_columns, BucketRow, bucket_columns, VersionColumns, version_columns, BlockRow, block_columns, use_columns, RefRow, ref_columns, UploadRow, upload_columns, PartColumns, part_columns, RetainRow, retain_columns, tally_columns, number}
 use Rattle.bh_tables.specs.Bodies.{bare}
 use Rattle.bh_tables.specs.Shown.{is_marked_right}
 
@@ -86,6 +86,11 @@ part_checked id p = both_true (natural p.upload) (both_true (natural p.part) (bo
 
 pub retain_checked : (id : ℤ) (r : RetainRow) → passes_checks retains_table (Int id ∷ retain_columns r) ≡ true
 retain_checked id r = both_true (natural r.seq) (both_true (natural r.until) refl)
+
+pub tally_checked : (id : ℤ) (tenant : Octets) (versions markers objects : ℕ) → versions ≤ 4611686018427387904 → markers ≤ 4611686018427387904 → objects ≤ 4611686018427387904
+    → passes_checks tallies_table (Int id ∷ tally_columns (record { tenant = tenant; versions = pos versions; markers = pos markers; objects = pos objects })) ≡ true
+tally_checked id tenant versions markers objects few fewer fewest =
+    both_true (natural versions) (both_true (small versions few) (both_true (natural markers) (both_true (small markers fewer) (both_true (natural objects) (both_true (small objects fewest) refl)))))
 
 -- the row number of the host is 1
 pub host_checked : (h : HostRow) → passes_checks host_table (number 1 ∷ host_columns h) ≡ true

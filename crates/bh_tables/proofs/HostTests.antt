@@ -1,5 +1,5 @@
 -- The test says what it is to say.
-use Rattle.std.proofs.Common.{◌≡◌, ◌⊎◌, inl, inr, Bool, true, true≢false, cond, length, arith, List, [], ◌∷◌, map, pos, refl, sym, ap, ap₂, ◌∙◌, subst, Ordering, Less, Equal, Greater, is_lt}
+use Rattle.std.proofs.Common.{◌≡◌, ◌⊎◌, inl, inr, Bool, true, true≢false, cond, length, arith, ℕ, List, [], ◌∷◌, map, pos, refl, sym, ap, ap₂, ◌∙◌, subst, Ordering, Less, Equal, Greater, is_lt}
 use Rattle.std.specs.List.{AllByRecursion, list_all}
 use Rattle.std.specs.Coded.{Coded, coded_list}
 use Rattle.std.proofs.lemmas.Bool.{and_parts, and_from, cases_Bool, eqb-true, eq-eqb}
@@ -12,9 +12,9 @@ use Rattle.sqlite.specs.Schema.{Schema}
 use Rattle.sqlite_tied.specs.Compute.{everything}
 use Rattle.sqlite_schema.specs.contracts.schema.Schema as schema
 use Rattle.bh_rows.specs.Form.{Form, AreRows, typed}
-use Rattle.bh_tables.specs.Schema.{first_schema, host_schema}
-use Rattle.bh_tables.specs.Typed.{Totals, totals_of, HostRow, Tables, Raw, raw, first_raw, tables_in, first_tables_in, no_rows, AreHeld, IsHost, IsFirstHost, lock_form, retain_form, host_form, tenant_form, key_form, bucket_form, version_form, block_form, ref_form, upload_form, part_form, UseRow, use_columns, use_of, use_form}
-use Rattle.bh_tables.specs.Hosts.{same_code, same, ascends, coded_row, are_rows, are_counts, are_held, is_host, is_first_host, is_first_version, brought_over, first_shown, IsOfVersion1, tables_shown, tables_opened}
+use Rattle.bh_tables.specs.Schema.{first_schema, second_schema, host_schema}
+use Rattle.bh_tables.specs.Typed.{Totals, totals_of, untallied, HostRow, Tables, Raw, raw, first_raw, second_raw, tables_in, first_tables_in, no_rows, AreHeld, IsHost, IsFirstHost, IsSecondHost, lock_form, retain_form, tally_form, host_form, tenant_form, key_form, bucket_form, version_form, block_form, ref_form, upload_form, part_form, use_form}
+use Rattle.bh_tables.specs.Hosts.{same_code, same, ascends, coded_row, are_rows, are_these, are_held, is_host, is_first_host, is_second_host, is_of_version, brought_over, earlier_shown, IsOfVersion1, IsOfVersion2, tables_shown, tables_opened}
 
 -- ---- codes
 
@@ -70,16 +70,17 @@ module _ {T : Type 0} (form : Form T) (rows : List Row) where
   of_rows : AreRows form rows → are_rows form rows ≡ true
   of_rows h = and_from _ _ (of_each _ _ (λ r is. value_same coded_row r _ is) rows h.each) (of_rises rows h.rises)
 
--- counts are read back from their columns
-decoded : (us : List UseRow) → map (λ (r : Row). use_of (Int (pos 0) ∷ r)) (map use_columns us) ≡ us
-decoded [] = refl
-decoded (u ∷ us) = ap (λ l. u ∷ l) (decoded us)
+-- typed rows are read back from their columns
+module _ {T : Type 0} (form : Form T) where
+  decoded : (xs : List T) → map (λ (r : Row). form.decode (Int (pos 0) ∷ r)) (map form.encode xs) ≡ xs
+  decoded [] = refl
+  decoded (x ∷ xs) = ap₂ ◌∷◌ (form.back (Int (pos 0)) x) (decoded xs)
 
-counts_of : (rows : List Row) (uses : List UseRow) → are_counts rows uses ≡ true → typed use_form rows ≡ uses
-counts_of rows uses h = sym (decoded (typed use_form rows)) ∙ ap (map (λ (r : Row). use_of (Int (pos 0) ∷ r))) (same_value (coded_list coded_row) (map use_columns (typed use_form rows)) (map use_columns uses) h) ∙ decoded uses
+  these_of : (rows : List Row) (xs : List T) → are_these form rows xs ≡ true → typed form rows ≡ xs
+  these_of rows xs h = sym (decoded (typed form rows)) ∙ ap (map (λ (r : Row). form.decode (Int (pos 0) ∷ r))) (same_value (coded_list coded_row) (map form.encode (typed form rows)) (map form.encode xs) h) ∙ decoded xs
 
-of_counts : (rows : List Row) (uses : List UseRow) → typed use_form rows ≡ uses → are_counts rows uses ≡ true
-of_counts rows uses h = value_same (coded_list coded_row) (map use_columns (typed use_form rows)) (map use_columns uses) (ap (map use_columns) h)
+  of_these : (rows : List Row) (xs : List T) → typed form rows ≡ xs → are_these form rows xs ≡ true
+  of_these rows xs h = value_same (coded_list coded_row) (map form.encode (typed form rows)) (map form.encode xs) (ap (map form.encode) h)
 
 held_of : (sums : Totals) (r : Raw) → are_held sums r ≡ true → AreHeld sums r
 held_of sums r h =
@@ -95,6 +96,8 @@ held_of sums r h =
     let k = and_parts _ _ j.1 in
     let l = and_parts _ _ k.1 in
     let m = and_parts _ _ l.1 in
+    let n = and_parts _ _ m.1 in
+    let o = and_parts _ _ n.1 in
     record {
       host = rows_of host_form r.host a.0;
       tenants = rows_of (tenant_form sums) r.tenants b.0;
@@ -106,15 +109,18 @@ held_of sums r h =
       uploads = rows_of (upload_form sums) r.uploads i.0;
       parts = rows_of part_form r.parts j.0;
       uses = rows_of use_form r.uses k.0;
-      counts = counts_of r.uses sums.uses l.0;
+      counts = these_of use_form r.uses sums.uses l.0;
       locks = rows_of lock_form r.locks m.0;
-      retains = rows_of retain_form r.retains m.1;
+      retains = rows_of retain_form r.retains n.0;
+      tallies = rows_of tally_form r.tallies o.0;
+      tallied = these_of tally_form r.tallies sums.tallies o.1;
     }
 
 of_held : (sums : Totals) (r : Raw) → AreHeld sums r → are_held sums r ≡ true
 of_held sums r h = and_from _ _ (of_rows host_form r.host h.host) (and_from _ _ (of_rows (tenant_form sums) r.tenants h.tenants) (and_from _ _ (of_rows key_form r.keys h.keys) (and_from _ _ (of_rows bucket_form r.buckets h.buckets)
     (and_from _ _ (of_rows version_form r.versions h.versions) (and_from _ _ (of_rows block_form r.blocks h.blocks) (and_from _ _ (of_rows ref_form r.refs h.refs)
-    (and_from _ _ (of_rows (upload_form sums) r.uploads h.uploads) (and_from _ _ (of_rows part_form r.parts h.parts) (and_from _ _ (of_rows use_form r.uses h.uses) (and_from _ _ (of_counts r.uses sums.uses h.counts) (and_from _ _ (of_rows lock_form r.locks h.locks) (of_rows retain_form r.retains h.retains))))))))))))
+    (and_from _ _ (of_rows (upload_form sums) r.uploads h.uploads) (and_from _ _ (of_rows part_form r.parts h.parts) (and_from _ _ (of_rows use_form r.uses h.uses) (and_from _ _ (of_these use_form r.uses sums.uses h.counts) (and_from _ _ (of_rows lock_form r.locks h.locks)
+    (and_from _ _ (of_rows retain_form r.retains h.retains) (and_from _ _ (of_rows tally_form r.tallies h.tallies) (of_these tally_form r.tallies sums.tallies h.tallied))))))))))))))
 
 -- ---- databases
 
@@ -128,11 +134,19 @@ of_host db h = and_from _ _ (value_same schema.the_row.coded db.schema host_sche
 
 first_of : (db : Database) → is_first_host db ≡ true → IsFirstHost db
 unfolding is_first_host
-first_of db h = let parts = and_parts _ _ h in record { schema = same_value schema.the_row.coded db.schema first_schema parts.0; held = held_of (totals_of (first_tables_in db)) (first_raw db.trees) parts.1 }
+first_of db h = let parts = and_parts _ _ h in record { schema = same_value schema.the_row.coded db.schema first_schema parts.0; held = held_of (untallied (totals_of (first_tables_in db))) (first_raw db.trees) parts.1 }
 
 of_first : (db : Database) → IsFirstHost db → is_first_host db ≡ true
 unfolding is_first_host
-of_first db h = and_from _ _ (value_same schema.the_row.coded db.schema first_schema h.schema) (of_held (totals_of (first_tables_in db)) (first_raw db.trees) h.held)
+of_first db h = and_from _ _ (value_same schema.the_row.coded db.schema first_schema h.schema) (of_held (untallied (totals_of (first_tables_in db))) (first_raw db.trees) h.held)
+
+second_of : (db : Database) → is_second_host db ≡ true → IsSecondHost db
+unfolding is_second_host
+second_of db h = let parts = and_parts _ _ h in record { schema = same_value schema.the_row.coded db.schema second_schema parts.0; held = held_of (untallied (totals_of (tables_in db))) (second_raw db.trees) parts.1 }
+
+of_second : (db : Database) → IsSecondHost db → is_second_host db ≡ true
+unfolding is_second_host
+of_second db h = and_from _ _ (value_same schema.the_row.coded db.schema second_schema h.schema) (of_held (untallied (totals_of (tables_in db))) (second_raw db.trees) h.held)
 
 -- a host's database shows its tables
 pub host_shows : (db : Database) → IsHost db → tables_shown db ≡ tables_in db
@@ -149,39 +163,72 @@ shown_host db row there = elim (cases_Bool (is_host db)) [
 
 -- ---- once it is opened
 
--- a database of another schema than the first shows what it shows
-pub others_open : (db : Database) → (db.schema ≡ first_schema → ⊥) → tables_opened db ≡ tables_shown db
-unfolding tables_opened
-others_open db other = elim (cases_Bool (is_first_host db)) [
-  | inl is ↦ absurd (other (first_of db is).schema)
-  | inr none ↦ ap (λ b. cond b (first_shown db) (tables_shown db)) none
-]
+-- the three schemas have each another number of tables
+other_schemas : (db : Database) (a b : Schema) → (length a.tables ≡ length b.tables → ⊥) → db.schema ≡ a → db.schema ≡ b → ⊥
+other_schemas db a b apart is other = apart (ap (λ (s : Schema). length s.tables) (sym is ∙ other))
 
 pub other_schema : (db : Database) → db.schema ≡ host_schema → db.schema ≡ first_schema → ⊥
 unfolding everything
-other_schema db is first =
-    let counted : length host_schema.tables ≡ length first_schema.tables = ap (λ (s : Schema). length s.tables) (sym is ∙ first) in
-    absurd (omega (arith, counted))
+other_schema db = other_schemas db host_schema first_schema (λ same. omega (arith, same))
+
+pub unlike_second : (db : Database) → db.schema ≡ host_schema → db.schema ≡ second_schema → ⊥
+unfolding everything
+unlike_second db = other_schemas db host_schema second_schema (λ same. omega (arith, same))
+
+pub second_unlike_first : (db : Database) → db.schema ≡ second_schema → db.schema ≡ first_schema → ⊥
+unfolding everything
+second_unlike_first db = other_schemas db second_schema first_schema (λ same. omega (arith, same))
+
+-- a database of another schema than the first two shows what it shows
+pub others_open : (db : Database) → (db.schema ≡ first_schema → ⊥) → (db.schema ≡ second_schema → ⊥) → tables_opened db ≡ tables_shown db
+unfolding tables_opened
+others_open db unlike other = elim (cases_Bool (is_first_host db)) [
+  | inl is ↦ absurd (unlike (first_of db is).schema)
+  | inr none ↦ ap (λ b. cond b (earlier_shown 1 (first_tables_in db)) (cond (is_second_host db) (earlier_shown 2 (tables_in db)) (tables_shown db))) none ∙ elim (cases_Bool (is_second_host db)) [
+    | inl is ↦ absurd (other (second_of db is).schema)
+    | inr neither ↦ ap (λ b. cond b (earlier_shown 2 (tables_in db)) (tables_shown db)) neither
+  ]
+]
 
 -- so a host's shows its tables
 pub host_opens : (db : Database) → IsHost db → tables_opened db ≡ tables_in db
-host_opens db h = others_open db (other_schema db h.schema) ∙ host_shows db h
+host_opens db h = others_open db (other_schema db h.schema) (unlike_second db h.schema) ∙ host_shows db h
 
 -- one of a host of version 1 shows them as they are once it is brought over
 pub first_opens : (db : Database) → IsOfVersion1 db → tables_opened db ≡ brought_over (first_tables_in db)
 unfolding tables_opened
-first_opens db h = ap (λ b. cond b (first_shown db) (tables_shown db)) (of_first db h.first) ∙ ap (λ b. cond b (brought_over (first_tables_in db)) no_rows) h.version
+first_opens db h = ap (λ b. cond b (earlier_shown 1 (first_tables_in db)) (cond (is_second_host db) (earlier_shown 2 (tables_in db)) (tables_shown db))) (of_first db h.first)
+    ∙ ap (λ b. cond b (brought_over (first_tables_in db)) no_rows) h.version
 
--- and only one of either shows a row of the host
-pub opened_host : (db : Database) (row : HostRow) → (tables_opened db).host ≡ row ∷ [] → IsHost db ⊎ IsOfVersion1 db
+-- and so does one of a host of version 2
+pub second_opens : (db : Database) → IsOfVersion2 db → tables_opened db ≡ brought_over (tables_in db)
+unfolding tables_opened
+second_opens db h = elim (cases_Bool (is_first_host db)) [
+  | inl is ↦ absurd (second_unlike_first db h.second.schema (first_of db is).schema)
+  | inr none ↦ ap (λ b. cond b (earlier_shown 1 (first_tables_in db)) (cond (is_second_host db) (earlier_shown 2 (tables_in db)) (tables_shown db))) none
+      ∙ ap (λ b. cond b (earlier_shown 2 (tables_in db)) (tables_shown db)) (of_second db h.second) ∙ ap (λ b. cond b (brought_over (tables_in db)) no_rows) h.version
+]
+
+-- only tables whose row tells the version are shown once they are brought over
+earlier_told : (n : ℕ) (t : Tables) (row : HostRow) → (earlier_shown n t).host ≡ row ∷ [] → list_all (is_of_version n) t.host ≡ true
+earlier_told n t row there = elim (cases_Bool (list_all (is_of_version n) t.host)) [
+  | inl is ↦ is
+  | inr other ↦ let none : [] ≡ row ∷ [] = sym (ap (λ b. (cond b (brought_over t) no_rows).host) other) ∙ there in absurd (cc)
+]
+
+-- and only a database of one of the three shows a row of the host
+pub opened_host : (db : Database) (row : HostRow) → (tables_opened db).host ≡ row ∷ [] → IsHost db ⊎ (IsOfVersion1 db ⊎ IsOfVersion2 db)
 unfolding tables_opened
 opened_host db row there = elim (cases_Bool (is_first_host db)) [
-  | inl is ↦ inr (record { first = first_of db is; version = told (sym (ap (λ b. (cond b (first_shown db) (tables_shown db)).host) is) ∙ there) })
-  | inr other ↦ inl (shown_host db row (sym (ap (λ b. (cond b (first_shown db) (tables_shown db)).host) other) ∙ there))
+  | inl is ↦ inr (inl (record { first = first_of db is; version = earlier_told 1 (first_tables_in db) row (sym (ap (λ b. (cond b (earlier_shown 1 (first_tables_in db)) later).host) is) ∙ there) }))
+  | inr none ↦ after (sym (ap (λ b. (cond b (earlier_shown 1 (first_tables_in db)) later).host) none) ∙ there)
 ]
   where
-    told : (first_shown db).host ≡ row ∷ [] → list_all is_first_version (first_tables_in db).host ≡ true
-    told is = elim (cases_Bool (list_all is_first_version (first_tables_in db).host)) [
-      | inl first_version ↦ first_version
-      | inr other ↦ let nothing : [] ≡ row ∷ [] = sym (ap (λ b. (cond b (brought_over (first_tables_in db)) no_rows).host) other) ∙ is in absurd (cc)
+    later : Tables
+    later = cond (is_second_host db) (earlier_shown 2 (tables_in db)) (tables_shown db)
+
+    after : later.host ≡ row ∷ [] → IsHost db ⊎ (IsOfVersion1 db ⊎ IsOfVersion2 db)
+    after told = elim (cases_Bool (is_second_host db)) [
+      | inl is ↦ inr (inr (record { second = second_of db is; version = earlier_told 2 (tables_in db) row (sym (ap (λ b. (cond b (earlier_shown 2 (tables_in db)) (tables_shown db)).host) is) ∙ told) }))
+      | inr other ↦ inl (shown_host db row (sym (ap (λ b. (cond b (earlier_shown 2 (tables_in db)) (tables_shown db)).host) other) ∙ told))
     ]

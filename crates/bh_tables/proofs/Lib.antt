@@ -19,6 +19,7 @@ pub mod BlockTexts
 pub mod RefTexts
 pub mod UseTexts
 pub mod UsedTexts
+pub mod TallyTexts
 pub mod CurrentText
 pub mod UploadTexts
 pub mod PartTexts
@@ -27,6 +28,7 @@ pub mod DueText
 pub mod StoredLemmas
 pub mod UsedLemmas
 pub mod TotalLemmas
+pub mod TallyLemmas
 pub mod PartTotals
 pub mod OwnedLemmas
 pub mod AloneLemmas

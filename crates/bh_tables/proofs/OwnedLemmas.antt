@@ -1,6 +1,6 @@
 -- What the foreign keys of a host's schema say of its rows: no bucket is without its tenant, no version without its bucket, no part
 -- without its upload, and no reference without its block. So nothing is kept of a row that is new.
-use Rattle.std.proofs.Common.{◌≡◌, inl, inr, ℕ, pos, Bool, true, false, true≢false, ◌&&◌, ◌||◌, List, [], ◌∷◌, map, cond, refl, sym, ap, ap₂, subst, ◌∙◌, codes, sum_by, arith}
+use Rattle.std.proofs.Common.{◌≡◌, inl, inr, ℕ, pos, Bool, true, false, true≢false, ◌&&◌, ◌||◌, not, length, filter, List, [], ◌∷◌, map, refl, sym, ap, subst, ◌∙◌, codes, arith}
 use Rattle.std.specs.List.{list_any, AllByRecursion}
 use Rattle.std.specs.Ordering.{int_eq}
 use Rattle.std.specs.Cmp.Derive.{both_true}
@@ -14,13 +14,14 @@ use Rattle.sqlite_tied.specs.Compute.{everything}
 use Rattle.sqlite_typed.specs.Tests.{bytes_eq}
 use Rattle.sqlite_typed.proofs.TestLemmas.{same_bytes, at_texts, at_blobs, at_ints, last_term, then_term}
 use Rattle.sqlite_keyed.proofs.KeyedLemmas.{same_int}
+use Rattle.sqlite_keyed.proofs.ListLemmas.{filter_none, all_weaker}
 use Rattle.bh_rows.specs.Form.{typed}
 use Rattle.bh_rows.proofs.ObeyedLemmas.{has_parents}
 use Rattle.bh_tables.specs.Schema.{Octets, host_schema, buckets_table, versions_table, refs_table, uploads_table, parts_table, at, refers}
-use Rattle.bh_tables.specs.Typed.{Totals, BucketRow, VersionColumns, VersionRow, PartColumns, PartRow, RefRow, BlockRow, UploadRow, tenant_form, bucket_form, version_form, block_form, ref_form, upload_form, part_form, IsHostBy, tables_in, bytes_used, bytes_kept}
-use Rattle.bh_tables.specs.Bodies.{Name, same_name, ref_name, block_name, resolved, resolved_part}
-use Rattle.bh_tables.specs.Shown.{is_tenant, is_bucket, is_upload, is_block, is_use}
-use Rattle.bh_tables.proofs.TotalLemmas.{total_none, name_Decides, name_swap}
+use Rattle.bh_tables.specs.Typed.{Totals, TenantRow, tally_of, BucketRow, VersionColumns, VersionRow, PartColumns, PartRow, RefRow, UploadRow, tenant_form, bucket_form, version_form, block_form, ref_form, upload_form, part_form, IsHostBy, tables_in, bytes_used, bytes_kept}
+use Rattle.bh_tables.specs.Bodies.{Name, ref_name, block_name, resolved, resolved_part}
+use Rattle.bh_tables.specs.Shown.{is_tenant, is_bucket, is_upload, is_block, is_use, is_later}
+use Rattle.bh_tables.proofs.TotalLemmas.{total_none, name_Decides}
 
 -- rows that name a row that is not there are none
 none_without : {X P : Type 0} (k : X → Bool) (q : X → P → Bool) (kp : P → Bool) (xs : List X) (ps : List P) → ((x : X) → Has xs x → list_any (q x) ps ≡ true) → ((x : X) (p : P) → k x ≡ true → q x p ≡ true → kp p ≡ true)
@@ -105,3 +106,16 @@ module _ (sums : Totals) (db : Database) (sound : IsDatabase (record { schema = 
       (each_fails (resolved_part (tables_in db).refs (tables_in db).blocks) (λ (p : PartRow). bytes_eq p.tenant tenant && int_eq (pos p.upload) (pos upload)) (typed part_form (db.trees 18))
       (none_without (λ (p : PartColumns). bytes_eq p.tenant tenant && int_eq (pos p.upload) (pos upload)) (λ p u. is_upload p.tenant p.upload u) (is_upload tenant upload) (typed part_form (db.trees 18)) (tables_in db).uploads part_has
       (λ p u its is. let a = and_parts _ _ its in let b = and_parts _ _ is in both_true (same_owner p.tenant u.tenant tenant a.0 b.0) (subst (λ n. int_eq n (pos upload) ≡ true) (sym (same_int (pos u.upload) (pos p.upload) b.1)) a.1)) free))
+
+  -- and has no version and no marker
+  pub tenant_untallied : (t : TenantRow) → list_any (is_tenant t.tenant) (tables_in db).tenants ≡ false → tally_of (tables_in db).versions t ≡ record { tenant = t.tenant; versions = pos 0; markers = pos 0; objects = pos 0 }
+  tenant_untallied t free = λ i. record {
+    tenant = t.tenant;
+    versions = pos (length (nothing (λ v. int_eq (pos v.marker) (pos 0)) i));
+    markers = pos (length (nothing (λ v. int_eq (pos v.marker) (pos 1)) i));
+    objects = pos (length (nothing (λ v. int_eq (pos v.marker) (pos 0) && not (list_any (is_later v) (tables_in db).versions)) i));
+  }
+    where
+      nothing : (q : VersionRow → Bool) → filter (λ v. bytes_eq v.tenant t.tenant && q v) (tables_in db).versions ≡ []
+      nothing q = filter_none (λ v. bytes_eq v.tenant t.tenant && q v) (tables_in db).versions
+          (all_weaker _ _ (λ v none. ap (λ b. b && q v) none) (tables_in db).versions (each_fails (resolved (tables_in db).refs (tables_in db).blocks) (λ (v : VersionRow). bytes_eq v.tenant t.tenant) (typed version_form (db.trees 7)) (no_version t.tenant free)))

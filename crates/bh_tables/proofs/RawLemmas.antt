@@ -25,4 +25,5 @@ module _ (tree : ℕ) (db next : Trees) where
     uses = at 23 h.1.1.1.1.1.1.1.1.1.0 i;
     locks = at 26 h.1.1.1.1.1.1.1.1.1.1.0 i;
     retains = at 28 h.1.1.1.1.1.1.1.1.1.1.1.0 i;
+    tallies = at 30 h.1.1.1.1.1.1.1.1.1.1.1.1.0 i;
   }

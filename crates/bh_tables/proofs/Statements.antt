@@ -22,7 +22,7 @@ use Rattle.bh_rows.proofs.TextLemmas as text
 use Rattle.bh_tables.specs.Schema.{host_schema}
 use Rattle.bh_tables.specs.Typed.{Totals, IsHostBy, IsReadyBy, Tables, tables}
 use Rattle.bh_tables.proofs.Places.{Place, Goes, orderly, turned}
-use Rattle.bh_tables.proofs.Terms.{one_row}
+use Rattle.bh_tables.proofs.Terms.{one_row, two_rows}
 
 -- how a write may end, which tables it leaves, and which errors it gives
 pub record Writes (sums : Totals) (old new : State) (change : Tables → Tables) (allowed : Error → Type 0) (result : Result ℕ Error) : Type 0 where
@@ -165,6 +165,15 @@ module _ {sums : Totals} {T : Type 0} (p : Place sums T) (old new : State) (read
   selected_first rows_in result sql params m view order it ok err survives = record {
     asks = text.sorted_asks p.form host_schema p.table.tree old new ready_at sql params m view order one_row it rows_in result ok err survives;
     rows = λ clean. subst (λ l. IfOk result (λ x. rows_in x ≡ take 1 (map view (sort_by order (filter m l))))) (p.rows_are old.now) (text.select_sorted p.form host_schema p.table.tree old new ready_at sql params m view order one_row it rows_in result ok survives clean);
+  }
+
+  -- the first two
+  pub selected_two : {X : Type 0} (rows_in : X → List Row) (result : Result X Error) (sql : List ℕ) (params : Row) (m : T → Bool) (view : T → Row) (order : T → T → Ordering) → SortedText p.form host_schema p.table.tree sql params m view order two_rows
+      → (HasCleanDisk new → IfOk result (λ x. Shown sql params old new (rows_in x))) → (HasCleanDisk new → IfErr result (FailsToQuery sql params old new)) → Survives old new (CommitsShowing sql params old)
+      → Shows old new rows_in (λ t. take 2 (map view (sort_by order (filter m (p.rows t))))) result
+  selected_two rows_in result sql params m view order it ok err survives = record {
+    asks = text.sorted_asks p.form host_schema p.table.tree old new ready_at sql params m view order two_rows it rows_in result ok err survives;
+    rows = λ clean. subst (λ l. IfOk result (λ x. rows_in x ≡ take 2 (map view (sort_by order (filter m l))))) (p.rows_are old.now) (text.select_sorted p.form host_schema p.table.tree old new ready_at sql params m view order two_rows it rows_in result ok survives clean);
   }
 
   -- the sum of the rows that pass

@@ -1,5 +1,5 @@
 -- A write to a column that keeps what other rows have: the rows as they are stored, whatever that is, and what the database then is.
-use Rattle.std.proofs.Common.{◌≡◌, inl, inr, ℕ, ℤ, pos, Bool, true, false, List, [], ◌∷◌, ◌++◌, map, cond, refl, sym, ap, ap₂, subst, ◌∙◌}
+use Rattle.std.proofs.Common.{◌≡◌, inl, inr, ℕ, ℤ, Bool, true, false, List, [], ◌∷◌, map, cond, refl, sym, ap, ap₂, subst, ◌∙◌}
 use Rattle.std.proofs.lemmas.Bool.{cases_Bool}
 use Rattle.std.specs.List.{AllByRecursion}
 use Rattle.sqlite.specs.declared.types.Value.TheVariants.{Int}
@@ -14,7 +14,7 @@ use Rattle.sqlite_typed.specs.Columns.{int_of}
 use Rattle.bh_rows.specs.Form.{Form, AreRows, typed}
 use Rattle.bh_rows.specs.Texts.{Leaves}
 use Rattle.bh_tables.specs.Schema.{host_schema}
-use Rattle.bh_tables.specs.Typed.{Totals, TenantRow, TenantColumns, tenant_form, tenant_of, tenant_columns, stored_tenant_form, UploadRow, UploadColumns, upload_form, upload_of, upload_columns, stored_upload_form, UseRow, use_form, Raw, raw, AreHeld, IsHostBy, Tables, tables, tables_of}
+use Rattle.bh_tables.specs.Typed.{Totals, TenantColumns, tenant_form, tenant_columns, stored_tenant_form, UploadColumns, upload_form, upload_columns, stored_upload_form, UseRow, use_form, TallyRow, tally_form, raw, AreHeld, IsHostBy, tables, tables_of}
 use Rattle.bh_tables.proofs.RawLemmas.{raw_changed}
 
 -- ---- rows as they are shown, and as they are stored
@@ -95,6 +95,8 @@ tenants_turned before used cs old new host all l =
       counts = host.held.counts;
       locks = host.held.locks;
       retains = host.held.retains;
+      tallies = host.held.tallies;
+      tallied = host.held.tallied;
     } in (
       record { schema = ap (λ (d : Database). d.schema) l.now; held = subst (AreHeld after) (sym now_is) held },
       ap tables_of now_is ∙ ap (λ ts. record (tables_of was) { tenants = ts }) (sym (map-map (λ (c : TenantColumns). c.row) stored_tenant_form.decode rows) ∙ ap (map (λ (c : TenantColumns). c.row)) l.rows),
@@ -135,6 +137,8 @@ uploads_turned before kept cs old new host all l =
       counts = host.held.counts;
       locks = host.held.locks;
       retains = host.held.retains;
+      tallies = host.held.tallies;
+      tallied = host.held.tallied;
     } in (
       record { schema = ap (λ (d : Database). d.schema) l.now; held = subst (AreHeld after) (sym now_is) held },
       ap tables_of now_is ∙ ap (λ us. record (tables_of was) { uploads = us }) (sym (map-map (λ (c : UploadColumns). c.row) stored_upload_form.decode rows) ∙ ap (map (λ (c : UploadColumns). c.row)) l.rows),
@@ -161,7 +165,37 @@ uses_turned sums us old new host l =
       counts = l.rows;
       locks = host.held.locks;
       retains = host.held.retains;
+      tallies = host.held.tallies;
+      tallied = host.held.tallied;
     } in (
       record { schema = ap (λ (d : Database). d.schema) l.now; held = subst (AreHeld (record sums { uses = us })) (sym now_is) held },
+      ap tables_of now_is,
+    )
+
+-- ---- tallies
+
+-- the database keeps these tallies, and else is as it was
+pub tallies_turned : (sums : Totals) (ts : List TallyRow) (old new : State) → IsHostBy sums old.now → Leaves tally_form host_schema 30 old new ts → IsHostBy (record sums { tallies = ts }) new.now × (tables new ≡ tables old)
+tallies_turned sums ts old new host l =
+    let was = raw old.now.trees in
+    let now_is : raw new.now.trees ≡ record was { tallies = l.next 30 } = ap (λ (d : Database). raw d.trees) l.now ∙ raw_changed 30 old.now.trees l.next l.others in
+    let held : AreHeld (record sums { tallies = ts }) (record was { tallies = l.next 30 }) = record {
+      host = host.held.host;
+      tenants = host.held.tenants;
+      keys = host.held.keys;
+      buckets = host.held.buckets;
+      versions = host.held.versions;
+      blocks = host.held.blocks;
+      refs = host.held.refs;
+      uploads = host.held.uploads;
+      parts = host.held.parts;
+      uses = host.held.uses;
+      counts = host.held.counts;
+      locks = host.held.locks;
+      retains = host.held.retains;
+      tallies = l.held;
+      tallied = l.rows;
+    } in (
+      record { schema = ap (λ (d : Database). d.schema) l.now; held = subst (AreHeld (record sums { tallies = ts })) (sym now_is) held },
       ap tables_of now_is,
     )

@@ -12,3 +12,7 @@ is column param = op2 (Compare Eq Binary) (col 1 column) (col 0 param)
 -- LIMIT 1
 abbrev pub one_row : Term
 one_row = lit (Int (pos 1))
+
+-- LIMIT 2
+abbrev pub two_rows : Term
+two_rows = lit (Int (pos 2))

@@ -6,7 +6,7 @@ use Rattle.std.specs.Cmp.Derive.{both_true}
 use Rattle.std.specs.List.{list_any, AllByRecursion}
 use Rattle.std.specs.Ordering.{int_eq}
 use Rattle.std.proofs.lemmas.Bool.{and_parts, cases_Bool}
-use Rattle.std.proofs.lemmas.List.{take-map, map-append}
+use Rattle.std.proofs.lemmas.List.{take-map, map-append, length-map}
 use Rattle.std.proofs.lemmas.List.Sums.{sum_by-cons}
 use Rattle.sqlite_keyed.specs.Lists.{insert_sorted, sort_by, delete_where, update_where}
 use Rattle.sqlite_keyed.proofs.ListLemmas.{filter-map, map-map}
@@ -14,9 +14,9 @@ use Rattle.std.proofs.lemmas.Int.{ints}
 use Rattle.sqlite_typed.specs.Tests.{bytes_eq}
 use Rattle.sqlite_typed.proofs.TestLemmas.{same_bytes, bytes_eq_refl}
 use Rattle.bh_tables.specs.Schema.{Octets}
-use Rattle.bh_tables.specs.Typed.{Totals, totals_of, bytes_used, used_changed, use_among, counted, raised, lowered, lowered_by, is_named, UseRow, BlockRow, RefRow, VersionRow, PartRow, Tables, rebodied}
+use Rattle.bh_tables.specs.Typed.{totals_of, tally_of, bytes_used, used_changed, use_among, counted, raised, lowered, lowered_by, is_named, UseRow, BlockRow, RefRow, TenantRow, VersionRow, PartRow, Tables, rebodied}
 use Rattle.bh_tables.specs.Bodies.{Name, same_name, ref_name, block_name, placed, resolved_again, resolved_part_again}
-use Rattle.bh_tables.specs.Shown.{is_use, is_block, is_of_body, is_unreferenced, is_unused, by_place, by_name, by_use_name, shown_name, shown_use_name, unreferenced}
+use Rattle.bh_tables.specs.Shown.{is_use, is_block, is_of_body, is_unreferenced, is_unused, has_marker, is_later, is_current, by_place, by_name, by_use_name, shown_name, shown_use_name, unreferenced}
 
 -- ---- names
 
@@ -38,10 +38,10 @@ module _ {X : Type 0} (p : X → Bool) where
   abbrev one : X → ℕ
   one x = cond (p x) 1 0
 
-  many_cons : (x : X) (xs : List X) → many (x ∷ xs) ≡ one x + many xs
+  pub many_cons : (x : X) (xs : List X) → many (x ∷ xs) ≡ one x + many xs
   many_cons x xs = elim (p x) as (λ b. length (cond b (x ∷ filter p xs) (filter p xs)) ≡ cond b 1 0 + many xs) [ true ↦ omega (arith) | false ↦ omega (arith) ]
 
-  many_last : (xs : List X) (x : X) → many (xs ++ x ∷ []) ≡ many xs + one x
+  pub many_last : (xs : List X) (x : X) → many (xs ++ x ∷ []) ≡ many xs + one x
   many_last [] x = let it = many_cons x [] in omega (arith, it)
   many_last (y ∷ xs) x = let a = many_cons y (xs ++ x ∷ []) in let b = many_cons y xs in let c = many_last xs x in omega (arith, a, b, c)
 
@@ -58,7 +58,7 @@ module _ {X : Type 0} (p : X → Bool) where
   many_sorted o [] = refl
   many_sorted o (x ∷ xs) = let a = many_inserted o x (sort_by o xs) in let b = many_sorted o xs in let c = many_cons x xs in omega (arith, a, b, c)
 
-  many_parted : (m : X → Bool) (xs : List X) → many xs ≡ many (delete_where m xs) + many (filter m xs)
+  pub many_parted : (m : X → Bool) (xs : List X) → many xs ≡ many (delete_where m xs) + many (filter m xs)
   many_parted m [] = refl
   many_parted m (x ∷ xs) =
       let a = many_cons x xs in
@@ -82,6 +82,26 @@ sum_kept {X} g size same (x ∷ xs) = let a = sum_by-cons size (g x) (map g xs) 
 sum_seen : {X : Type 0} (g : X → X) (size : X → ℕ) (m : X → Bool) → ((x : X) → size (g x) ≡ size x) → ((x : X) → m (g x) ≡ m x) → (xs : List X) → sum_by size (filter m (map g xs)) ≡ sum_by size (filter m xs)
 sum_seen g size m same test xs = ap (sum_by size) (filter-map m g xs ∙ ap (map g) (λ i. filter (λ x. test x i) xs)) ∙ sum_kept g size same (filter m xs)
 
+-- nor do counts
+many_seen : {X : Type 0} (g : X → X) (m n : X → Bool) → ((x : X) → m (g x) ≡ n x) → (xs : List X) → length (filter m (map g xs)) ≡ length (filter n xs)
+many_seen g m n test xs = ap length (filter-map m g xs ∙ ap (map g) (λ i. filter (λ x. test x i) xs)) ∙ length-map (filter n xs) g
+
+module _ (refs : List RefRow) (blocks : List BlockRow) where
+  any_seen : (m : VersionRow → Bool) → ((v : VersionRow) → m (resolved_again refs blocks v) ≡ m v) → (vs : List VersionRow) → list_any m (map (resolved_again refs blocks) vs) ≡ list_any m vs
+  any_seen m test [] = refl
+  any_seen m test (v ∷ vs) = ap₂ ◌||◌ (test v) (any_seen m test vs)
+
+  tally_rebodied : (vs : List VersionRow) (t : TenantRow) → tally_of (map (resolved_again refs blocks) vs) t ≡ tally_of vs t
+  tally_rebodied vs t = λ i. record {
+    tenant = t.tenant;
+    versions = pos (many_seen (resolved_again refs blocks) (has_marker t.tenant 0) (has_marker t.tenant 0) (λ v. refl) vs i);
+    markers = pos (many_seen (resolved_again refs blocks) (has_marker t.tenant 1) (has_marker t.tenant 1) (λ v. refl) vs i);
+    objects = pos (many_seen (resolved_again refs blocks) (is_current t.tenant (map (resolved_again refs blocks) vs)) (is_current t.tenant vs) current vs i);
+  }
+    where
+      current : (v : VersionRow) → is_current t.tenant (map (resolved_again refs blocks) vs) (resolved_again refs blocks v) ≡ is_current t.tenant vs v
+      current v = ap (λ b. bytes_eq v.tenant t.tenant && (int_eq (pos v.marker) (pos 0) && not b)) (any_seen (is_later v) (λ w. refl) vs)
+
 -- other references and blocks change the counts of uses alone
 pub totals_rebodied : (t : Tables) (refs : List RefRow) (blocks : List BlockRow) → totals_of (rebodied t refs blocks) ≡ record (totals_of t) { uses = map (use_among refs) blocks }
 totals_rebodied t refs blocks = λ i. record {
@@ -89,6 +109,7 @@ totals_rebodied t refs blocks = λ i. record {
       + sum_seen (resolved_part_again refs blocks) (λ (p : PartRow). p.size) (λ p. bytes_eq p.tenant tenant) (λ p. refl) (λ p. refl) t.parts i);
   kept = λ q. pos (sum_seen (resolved_part_again refs blocks) (λ (p : PartRow). p.size) (λ p. bytes_eq p.tenant q.0 && int_eq (pos p.upload) (pos q.1)) (λ p. refl) (λ p. refl) t.parts i);
   uses = map (use_among refs) blocks;
+  tallies = map (λ x. tally_rebodied refs blocks t.versions x i) t.tenants;
 }
 
 -- ---- references come and go
@@ -334,18 +355,18 @@ pub turned_sum : (b : Bool) (after before more less : ℕ) → after + cond b le
 turned_sum true after before more less is = grind (arith, ints, is)
 turned_sum false after before more less is = ap pos (omega (arith, is))
 
--- ---- the bytes of a tenant, once its versions are others
+-- ---- the bytes of a tenant, once its versions are others; the tallies are those of the others (TallyLemmas)
 
 module _ (t : Tables) (versions : List VersionRow) (tenant : Octets) (more less : ℕ)
     (is : (x : Octets) → total (λ (v : VersionRow). v.size) (λ v. bytes_eq v.tenant x) versions + cond (bytes_eq x tenant) less 0 ≡ total (λ (v : VersionRow). v.size) (λ v. bytes_eq v.tenant x) t.versions + cond (bytes_eq x tenant) more 0) where
-  pub totals_versions : totals_of (record t { versions = versions }) ≡ used_changed tenant more less (totals_of t)
-  totals_versions = λ i. record (totals_of t) { used = λ x. at x i }
+  pub totals_versions : totals_of (record t { versions = versions }) ≡ record (used_changed tenant more less (totals_of t)) { tallies = map (tally_of versions) t.tenants }
+  totals_versions = λ i. record (totals_of (record t { versions = versions })) { used = λ x. at x i }
     where
       at : (x : Octets) → pos (bytes_used versions t.parts x) ≡ cond (bytes_eq x tenant) (pos (bytes_used t.versions t.parts x) +ℤ pos more -ℤ pos less) (pos (bytes_used t.versions t.parts x))
       at x = let one = is x in turned_sum (bytes_eq x tenant) (bytes_used versions t.parts x) (bytes_used t.versions t.parts x) more less (omega (arith, one))
 
 -- a version comes
-pub totals_version_added : (t : Tables) (v : VersionRow) → totals_of (record t { versions = t.versions ++ v ∷ [] }) ≡ used_changed v.tenant v.size 0 (totals_of t)
+pub totals_version_added : (t : Tables) (v : VersionRow) → totals_of (record t { versions = t.versions ++ v ∷ [] }) ≡ record (used_changed v.tenant v.size 0 (totals_of t)) { tallies = map (tally_of (t.versions ++ v ∷ [])) t.tenants }
 totals_version_added t v = totals_versions t (t.versions ++ v ∷ []) v.tenant v.size 0 (λ x. let one = total_more (λ (u : VersionRow). u.size) (λ (u : VersionRow). u.tenant) t.versions v x in none_off (bytes_eq x v.tenant) _ _ one)
   where
     none_off : (b : Bool) (m n : ℕ) → m ≡ n → m + cond b 0 0 ≡ n
@@ -354,7 +375,7 @@ totals_version_added t v = totals_versions t (t.versions ++ v ∷ []) v.tenant v
 
 -- versions of a tenant go
 pub totals_version_deleted : (t : Tables) (m : VersionRow → Bool) (tenant : Octets) (less : ℕ) → ((v : VersionRow) → m v ≡ true → v.tenant ≡ tenant) → sum_by (λ (v : VersionRow). v.size) (filter m t.versions) ≡ less
-    → totals_of (record t { versions = delete_where m t.versions }) ≡ used_changed tenant 0 less (totals_of t)
+    → totals_of (record t { versions = delete_where m t.versions }) ≡ record (used_changed tenant 0 less (totals_of t)) { tallies = map (tally_of (delete_where m t.versions)) t.tenants }
 totals_version_deleted t m tenant less owned held = totals_versions t (delete_where m t.versions) tenant 0 less (λ x. let one = total_less (λ (v : VersionRow). v.size) (λ (v : VersionRow). v.tenant) m tenant less owned t.versions held x in none_off (bytes_eq x tenant) _ _ one)
   where
     none_off : (b : Bool) (m n : ℕ) → m ≡ n → m ≡ n + cond b 0 0
@@ -363,15 +384,15 @@ totals_version_deleted t m tenant less owned held = totals_versions t (delete_wh
 
 -- they go, and another comes
 pub totals_version_replaced : (t : Tables) (m : VersionRow → Bool) (v : VersionRow) (less : ℕ) → ((u : VersionRow) → m u ≡ true → u.tenant ≡ v.tenant) → sum_by (λ (u : VersionRow). u.size) (filter m t.versions) ≡ less
-    → totals_of (record t { versions = delete_where m t.versions ++ v ∷ [] }) ≡ used_changed v.tenant v.size less (totals_of t)
+    → totals_of (record t { versions = delete_where m t.versions ++ v ∷ [] }) ≡ record (used_changed v.tenant v.size less (totals_of t)) { tallies = map (tally_of (delete_where m t.versions ++ v ∷ [])) t.tenants }
 totals_version_replaced t m v less owned held = totals_versions t (delete_where m t.versions ++ v ∷ []) v.tenant v.size less (λ x.
     let one = total_more (λ (u : VersionRow). u.size) (λ (u : VersionRow). u.tenant) (delete_where m t.versions) v x in
     let two = total_less (λ (u : VersionRow). u.size) (λ (u : VersionRow). u.tenant) m v.tenant less owned t.versions held x in
     omega (arith, one, two))
 
 -- a marker has no bytes
-pub totals_marker_added : (t : Tables) (v : VersionRow) → v.size ≡ 0 → totals_of (record t { versions = t.versions ++ v ∷ [] }) ≡ totals_of t
-totals_marker_added t v none = λ i. record (totals_of t) { used = λ x. ap pos (at x) i }
+pub totals_marker_added : (t : Tables) (v : VersionRow) → v.size ≡ 0 → totals_of (record t { versions = t.versions ++ v ∷ [] }) ≡ record (totals_of t) { tallies = map (tally_of (t.versions ++ v ∷ [])) t.tenants }
+totals_marker_added t v none = λ i. record (totals_of (record t { versions = t.versions ++ v ∷ [] })) { used = λ x. ap pos (at x) i }
   where
     no_share : (b : Bool) → cond b v.size 0 ≡ 0
     no_share true = none

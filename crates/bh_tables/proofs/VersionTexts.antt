@@ -28,11 +28,11 @@ use Rattle.bh_rows.proofs.ScanLemmas.{then_assoc}
 use Rattle.bh_tables.specs.Schema.{Octets, host_schema, versions_table, at}
 use Rattle.bh_tables.specs.Typed.{Totals, VersionColumns, VersionRow, RetainRow, version_form, bucket_form, retain_form, number, IsHostBy, tables_in}
 use Rattle.bh_tables.specs.Bodies.{bare, resolved}
-use Rattle.bh_tables.specs.Shown.{is_version, is_retain, is_dated, is_at, is_in_bucket, is_entry, is_bucket, is_marked_right, newer, by_id, shown_head, shown_seq, is_version_of, has_marker}
+use Rattle.bh_tables.specs.Shown.{is_version, is_retain, is_dated, is_at, is_in_bucket, is_entry, is_bucket, is_marked_right, newer, by_id, shown_head, shown_place, shown_seq, is_version_of, has_marker}
 use Rattle.bh_tables.proofs.Places.{Goes, versions}
 use Rattle.bh_tables.proofs.ResolvedLemmas.{any_resolved}
 use Rattle.bh_tables.proofs.Checked.{version_checked}
-use Rattle.bh_tables.proofs.Terms.{is, one_row}
+use Rattle.bh_tables.proofs.Terms.{is, one_row, two_rows}
 
 -- ---- a version in a bucket, whose entry number and whose id no other has, may be added
 
@@ -126,6 +126,39 @@ newest_shown tenant bucket okey = record {
   tests = λ id v. then_term (at_texts false Eq v.tenant tenant) (then_term (at_texts false Eq v.bucket bucket) (last_term (at_blobs false Eq v.okey okey)));
   shows = λ id v. refl;
   orders = λ a b. then_key (value_cmp-Int (pos b.1.seq) (pos a.1.seq)) (last_key (value_cmp-Int a.0 b.0));
+}
+
+-- the two newest
+pub newest_places_shown : (tenant bucket okey : Octets)
+    → SortedText version_form host_schema 7 (codes "SELECT seq, id, marker FROM versions WHERE tenant = ?1 AND bucket = ?2 AND okey = ?3 ORDER BY seq DESC, rowid LIMIT 2") (Text tenant ∷ Text bucket ∷ Blob okey ∷ [])
+    (λ v. is_at tenant bucket okey (bare v)) (λ v. shown_place (bare v)) (λ a b. newer (bare a) (bare b)) two_rows
+unfolding understood everything
+newest_places_shown tenant bucket okey = record {
+  test = is 1 0 ∷ is 3 1 ∷ is 4 2 ∷ [];
+  show = col 1 2 ∷ col 1 5 ∷ col 1 6 ∷ [];
+  keys = (col 1 2, record { collation = Binary; descending = true }) ∷ by_rowid;
+  names = codes "seq" ∷ codes "id" ∷ codes "marker" ∷ [];
+  means = record { is = refl; plain = (refl, refl); unlisted = refl; whole = refl; given = refl };
+  low = refl;
+  accepts = refl;
+  tests = λ id v. then_term (at_texts false Eq v.tenant tenant) (then_term (at_texts false Eq v.bucket bucket) (last_term (at_blobs false Eq v.okey okey)));
+  shows = λ id v. refl;
+  orders = λ a b. then_key (value_cmp-Int (pos b.1.seq) (pos a.1.seq)) (last_key (value_cmp-Int a.0 b.0));
+}
+
+pub place_shown : (tenant bucket okey : Octets) (version : ℕ)
+    → SelectText version_form host_schema 7 (codes "SELECT seq, id, marker FROM versions WHERE tenant = ?1 AND bucket = ?2 AND okey = ?3 AND id = ?4 ORDER BY rowid") (Text tenant ∷ Text bucket ∷ Blob okey ∷ number version ∷ [])
+    (λ v. is_version tenant bucket okey version (bare v)) (λ v. shown_place (bare v)) no_limit
+unfolding understood everything
+place_shown tenant bucket okey version = record {
+  test = is 1 0 ∷ is 3 1 ∷ is 4 2 ∷ is 5 3 ∷ [];
+  show = col 1 2 ∷ col 1 5 ∷ col 1 6 ∷ [];
+  names = codes "seq" ∷ codes "id" ∷ codes "marker" ∷ [];
+  means = record { is = refl; plain = (refl, refl); unlisted = refl; whole = refl; given = refl };
+  low = refl;
+  accepts = refl;
+  tests = λ id v. then_term (at_texts false Eq v.tenant tenant) (then_term (at_texts false Eq v.bucket bucket) (then_term (at_blobs false Eq v.okey okey) (last_term (at_ints false Eq (pos v.id) (pos version)))));
+  shows = λ id v. refl;
 }
 
 pub bucket_shown_first : (tenant bucket : Octets)

@@ -1,4 +1,5 @@
--- Whether a database is a host's, as a test, and what it then shows; and what one of a host of version 1 shows once it is brought over.
+-- Whether a database is a host's, as a test, and what it then shows; and what one of a host of version 1 or 2 shows once it is brought
+-- over.
 use Rattle.std.specs.Prelude.{◌≡◌, ◌==◌, ℕ, Bool, true, false, ◌&&◌, List, [], ◌∷◌, map, if◌then◌else◌}
 use Rattle.std.specs.List.{list_all}
 use Rattle.std.specs.Ordering.{is_lt}
@@ -12,10 +13,10 @@ use Rattle.sqlite.specs.Effect.{Database}
 use Rattle.sqlite_value.specs.contracts.value.Value as value
 use Rattle.sqlite_schema.specs.contracts.schema.Schema as schema
 use Rattle.bh_rows.specs.Form.{Form, typed}
-use Rattle.bh_tables.specs.Schema.{first_schema, host_schema}
-use Rattle.bh_tables.specs.Typed.{HostRow, Tables, Totals, totals_of, Raw, raw, first_raw, tables_in, first_tables_in, IsFirstHost, no_rows}
-use Rattle.bh_tables.specs.Typed.{lock_form, retain_form, host_form, tenant_form, key_form, bucket_form, version_form, block_form, ref_form}
-use Rattle.bh_tables.specs.Typed.{upload_form, part_form, UseRow, use_columns, use_form}
+use Rattle.bh_tables.specs.Schema.{first_schema, second_schema, host_schema}
+use Rattle.bh_tables.specs.Typed.{HostRow, Tables, Totals, totals_of, untallied, Raw, raw, first_raw, second_raw, tables_in}
+use Rattle.bh_tables.specs.Typed.{first_tables_in, IsFirstHost, IsSecondHost, no_rows, host_form, tenant_form, key_form, bucket_form}
+use Rattle.bh_tables.specs.Typed.{version_form, block_form, ref_form, upload_form, part_form, use_form, lock_form, retain_form, tally_form}
 
 -- ---- equality, by the codes that the logic gives to values
 
@@ -49,9 +50,9 @@ is_row form r = same coded_row r (Int (id_in (rowid r)) ∷ form.encode (form.de
 abbrev pub are_rows : {T : Type 0} → Form T → List Row → Bool
 are_rows form rows = list_all (is_row form) rows && ascends rows
 
--- the counts of uses are these
-abbrev pub are_counts : List Row → List UseRow → Bool
-are_counts rows uses = same (coded_list coded_row) (map use_columns (typed use_form rows)) (map use_columns uses)
+-- the stored rows are read as these
+abbrev pub are_these : {T : Type 0} → Form T → List Row → List T → Bool
+are_these form rows xs = same (coded_list coded_row) (map form.encode (typed form rows)) (map form.encode xs)
 
 abbrev pub are_held : Totals → Raw → Bool
 are_held sums r = are_rows host_form r.host && (are_rows (tenant_form sums) r.tenants
@@ -59,7 +60,8 @@ are_held sums r = are_rows host_form r.host && (are_rows (tenant_form sums) r.te
     && (are_rows version_form r.versions && (are_rows block_form r.blocks
     && (are_rows ref_form r.refs && (are_rows (upload_form sums) r.uploads
     && (are_rows part_form r.parts && (are_rows use_form r.uses
-    && (are_counts r.uses sums.uses && (are_rows lock_form r.locks && are_rows retain_form r.retains)))))))))))
+    && (are_these use_form r.uses sums.uses && (are_rows lock_form r.locks && (are_rows retain_form r.retains
+    && (are_rows tally_form r.tallies && are_these tally_form r.tallies sums.tallies)))))))))))))
 
 -- ---- databases
 
@@ -67,33 +69,44 @@ are_held sums r = are_rows host_form r.host && (are_rows (tenant_form sums) r.te
 unfoldable pub is_host : Database → Bool
 is_host db = same schema.the_row.coded db.schema host_schema && are_held (totals_of (tables_in db)) (raw db.trees)
 
--- a host's database under the first schema, in which no bucket is locked and no version has a date
-unfoldable pub is_first_host : Database → Bool
-is_first_host db = same schema.the_row.coded db.schema first_schema && are_held (totals_of (first_tables_in db)) (first_raw db.trees)
+-- a host's database under the second schema, in which no tally is kept
+unfoldable pub is_second_host : Database → Bool
+is_second_host db = same schema.the_row.coded db.schema second_schema
+    && are_held (untallied (totals_of (tables_in db))) (second_raw db.trees)
 
--- the tables of a host of version 1 as those of a host of version 2
+-- and under the first, in which no bucket is locked and no version has a date either
+unfoldable pub is_first_host : Database → Bool
+is_first_host db = same schema.the_row.coded db.schema first_schema
+    && are_held (untallied (totals_of (first_tables_in db))) (first_raw db.trees)
+
+-- the tables of a host of version 1 or 2 as those of a host of version 3
 abbrev pub with_version : ℕ → HostRow → HostRow
 with_version n h = record h { version = n }
 
-abbrev pub is_first_version : HostRow → Bool
-is_first_version h = h.version == 1
+abbrev pub is_of_version : ℕ → HostRow → Bool
+is_of_version n h = h.version == n
 
 abbrev pub brought_over : Tables → Tables
-brought_over tables = record tables { host = map (with_version 2) tables.host }
+brought_over tables = record tables { host = map (with_version 3) tables.host }
 
--- what a host of version 1 shows once it is brought over; one of the first schema whose row tells another version shows no row
-abbrev pub first_shown : Database → Tables
-first_shown db = if list_all is_first_version (first_tables_in db).host then brought_over (first_tables_in db) else no_rows
+-- what a host of an earlier version shows once it is brought over, if its row tells that version; else it shows no row
+abbrev pub earlier_shown : ℕ → Tables → Tables
+earlier_shown n tables = if list_all (is_of_version n) tables.host then brought_over tables else no_rows
 
--- whether a database is a host's of version 1
+-- whether a database is a host's of version 1, or of version 2
 pub record IsOfVersion1 (db : Database) : Type 0 where
   pub first : IsFirstHost db
-  pub version : list_all is_first_version (first_tables_in db).host ≡ true
+  pub version : list_all (is_of_version 1) (first_tables_in db).host ≡ true
+
+pub record IsOfVersion2 (db : Database) : Type 0 where
+  pub second : IsSecondHost db
+  pub version : list_all (is_of_version 2) (tables_in db).host ≡ true
 
 -- a host's tables; a database that is no host's shows no row
 unfoldable pub tables_shown : Database → Tables
 tables_shown db = if is_host db then tables_in db else no_rows
 
--- what it shows once it is opened as a host's, of either version
+-- what it shows once it is opened as a host's, of any version
 unfoldable pub tables_opened : Database → Tables
-tables_opened db = if is_first_host db then first_shown db else tables_shown db
+tables_opened db = if is_first_host db then earlier_shown 1 (first_tables_in db)
+    else (if is_second_host db then earlier_shown 2 (tables_in db) else tables_shown db)

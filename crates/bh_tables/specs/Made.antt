@@ -3,7 +3,7 @@ use Rattle.sqlite.specs.Schema.{Schema}
 use Rattle.sqlite.specs.Change.{created, indexed}
 use Rattle.bh_tables.specs.Schema.{no_schema, host_table, tenants_table, keys_table, buckets_table, versions_table, blocks_table}
 use Rattle.bh_tables.specs.Schema.{refs_table, uploads_table, parts_table, at, newest, refs_by_block, uploads_by_key, uploads_by_moment}
-use Rattle.bh_tables.specs.Schema.{uses_table, uses_by_count, first_schema, locks_table, retains_table}
+use Rattle.bh_tables.specs.Schema.{uses_table, uses_by_count, first_schema, locks_table, retains_table, second_schema, tallies_table}
 
 abbrev pub with_host : Schema
 with_host = created no_schema host_table
@@ -56,3 +56,7 @@ with_locks = created first_schema locks_table
 
 abbrev pub with_retains : Schema
 with_retains = created with_locks retains_table
+
+-- over the second schema
+abbrev pub with_tallies : Schema
+with_tallies = created second_schema tallies_table

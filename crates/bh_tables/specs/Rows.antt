@@ -24,8 +24,9 @@ pub maybe_back : (o : Option ℕ) → maybe_number (or_null number o) ≡ o
 maybe_back None = refl
 maybe_back (Some n) = refl
 
--- ---- what is kept of other rows: of a tenant the bytes that its versions and parts have, of an upload those of its parts, and of
--- each block, in the order of the blocks, how many references name it. The columns and the table that hold it have CHECKs from 0 to 2^62
+-- ---- what is kept of other rows: of a tenant the bytes that its versions and parts have, of an upload those of its parts, of each
+-- block, in the order of the blocks, how many references name it, and of each tenant, in the order of the tenants, how many versions,
+-- markers and current versions it has. The columns and the tables that hold it have CHECKs from 0 to 2^62
 
 pub record UseRow : Type 0 where
   pub digest : Octets
@@ -41,10 +42,32 @@ use_of r = record { digest = bytes_of (column r 1); ord = column_number (column 
 abbrev pub use_form : Form UseRow
 use_form = record { encode = use_columns; decode = use_of; back = λ _ x. refl }
 
+pub record TallyRow : Type 0 where
+  pub tenant : Octets
+  pub versions : ℤ
+  pub markers : ℤ
+  -- the versions that are the newest entries of their keys
+  pub objects : ℤ
+
+abbrev pub tally_columns : TallyRow → Row
+tally_columns t = Text t.tenant ∷ Int t.versions ∷ Int t.markers ∷ Int t.objects ∷ []
+
+abbrev pub tally_read : Row → TallyRow
+tally_read r = record {
+  tenant = bytes_of (column r 1);
+  versions = int_of (column r 2);
+  markers = int_of (column r 3);
+  objects = int_of (column r 4);
+}
+
+abbrev pub tally_form : Form TallyRow
+tally_form = record { encode = tally_columns; decode = tally_read; back = λ _ x. refl }
+
 pub record Totals : Type 0 where
   pub used : Octets → ℤ
   pub kept : Octets × ℕ → ℤ
   pub uses : List UseRow
+  pub tallies : List TallyRow
 
 -- ---- the host: one row, whose id is the row's number and so is no column of the record
 

@@ -1,5 +1,5 @@
--- The schema of a host as a value: twelve tables and five indexes, each as its CREATE text defines it. The first schema, of
--- hosts of version 1, is that without the last two tables.
+-- The schema of a host as a value: thirteen tables and five indexes, each as its CREATE text defines it. The second schema, of
+-- hosts of version 2, is that without the last table, and the first, of hosts of version 1, without the last three.
 use Rattle.std.specs.Prelude.{ℕ, true, false, [], ◌∷◌, ◌++◌, List, map, Some, None, codes, pos}
 use Rattle.sqlite.specs.Collation.TheVariants.{Binary}
 use Rattle.sqlite.specs.declared.types.Value.TheVariants.{Null, Int, Text as Words}
@@ -140,6 +140,12 @@ abbrev pub retains_table : Table
 retains_table = table (codes "retains") (given (codes "tenant") Text ∷ given (codes "seq") Integer ∷ given (codes "until") Integer ∷ [])
     (1 ∷ 2 ∷ []) [] (refers (1 ∷ 2 ∷ []) (codes "versions") ∷ []) (is_natural 2 ∷ is_natural 3 ∷ [])
 
+-- how many versions, markers and current versions each tenant has. They are no columns of tenants, since the store can't add any
+abbrev pub tallies_table : Table
+tallies_table = table (codes "tallies") (given (codes "tenant") Text ∷ given (codes "versions") Integer ∷ given (codes "markers") Integer
+    ∷ given (codes "objects") Integer ∷ []) (1 ∷ []) [] (refers (1 ∷ []) (codes "tenants") ∷ [])
+    (is_natural 2 ∷ is_small 2 ∷ is_natural 3 ∷ is_small 3 ∷ is_natural 4 ∷ is_small 4 ∷ [])
+
 -- ---- the schema of them all
 
 -- the table, kept in this tree
@@ -226,10 +232,18 @@ first_schema = record {
 }
 
 -- of version 2
-abbrev pub host_schema : Schema
-host_schema = record {
+abbrev pub second_schema : Schema
+second_schema = record {
   tables = first_schema.tables ++ at 26 locks_table ∷ at 28 retains_table ∷ [];
   indexes = first_schema.indexes ++ auto (codes "sqlite_autoindex_locks_1") 27 26 (1 ∷ 2 ∷ [])
       ∷ auto (codes "sqlite_autoindex_retains_1") 29 28 (1 ∷ 2 ∷ []) ∷ [];
+  views = [];
+}
+
+-- of version 3
+abbrev pub host_schema : Schema
+host_schema = record {
+  tables = second_schema.tables ++ at 30 tallies_table ∷ [];
+  indexes = second_schema.indexes ++ auto (codes "sqlite_autoindex_tallies_1") 31 30 (1 ∷ []) ∷ [];
   views = [];
 }

@@ -10,8 +10,9 @@ use Rattle.sqlite_typed.specs.Columns.{or_null}
 use Rattle.sqlite_typed.specs.Tests.{bytes_eq, bytes_cmp}
 use Rattle.bh_tables.specs.Schema.{Octets}
 pub use Rattle.bh_tables.specs.Bodies.{Name, same_name, block_name, ref_name, body_name, part_name, by_place}
+pub use Rattle.bh_tables.specs.Entries.{has_marker, is_later, is_current, current_versions, marked}
 use Rattle.bh_tables.specs.Typed.{Totals, UseRow, HostRow, TenantRow, KeyRow, BucketRow, VersionRow, BlockRow, RefRow, UploadRow, PartRow}
-use Rattle.bh_tables.specs.Typed.{LockRow, RetainRow, number}
+use Rattle.bh_tables.specs.Typed.{LockRow, RetainRow, TallyRow, number}
 
 -- ---- the row of a primary key, or of the unique key of versions
 
@@ -160,24 +161,7 @@ is_version_of tenant v = bytes_eq v.tenant tenant
 abbrev pub is_part_used : Octets → PartRow → Bool
 is_part_used tenant p = bytes_eq p.tenant tenant
 
--- ---- the rows of a tenant that are counted
-
--- those whose column `marker` is this
-abbrev pub has_marker : Octets → ℕ → VersionRow → Bool
-has_marker tenant marker v = bytes_eq v.tenant tenant && int_eq (pos v.marker) (pos marker)
-
--- an entry of the same key that is newer
-abbrev pub is_later : VersionRow → VersionRow → Bool
-is_later v later = bytes_eq later.tenant v.tenant
-    && (bytes_eq later.bucket v.bucket && (bytes_eq later.okey v.okey && int_lt (pos v.seq) (pos later.seq)))
-
--- whether a version is the newest entry of its key
-abbrev pub is_current : Octets → List VersionRow → VersionRow → Bool
-is_current tenant versions v = bytes_eq v.tenant tenant && (int_eq (pos v.marker) (pos 0) && not (list_any (is_later v) versions))
-
--- the versions that are
-abbrev pub current_versions : Octets → List VersionRow → List VersionRow
-current_versions tenant versions = filter (is_current tenant versions) versions
+-- ---- the keys and uploads of a tenant
 
 abbrev pub is_owned_key : Octets → KeyRow → Bool
 is_owned_key tenant k = bytes_eq k.tenant tenant
@@ -228,6 +212,10 @@ shown_quota sums t = Text t.tenant ∷ number t.quota ∷ Int (sums.used t.tenan
 abbrev pub shown_used : Totals → TenantRow → Row
 shown_used sums t = Int (sums.used t.tenant) ∷ []
 
+-- a tenant's counts
+abbrev pub shown_tally : TallyRow → Row
+shown_tally t = Int t.versions ∷ Int t.markers ∷ Int t.objects ∷ []
+
 abbrev pub shown_key : KeyRow → Row
 shown_key k = Text k.name ∷ []
 
@@ -254,6 +242,10 @@ shown_until r = number r.until ∷ []
 -- a version without its bytes
 abbrev pub shown_head : VersionRow → Row
 shown_head v = number v.seq ∷ number v.id ∷ number v.marker ∷ number v.stamp ∷ number v.size ∷ Text v.checksum ∷ []
+
+-- its place among the entries of its key, and what it is
+abbrev pub shown_place : VersionRow → Row
+shown_place v = number v.seq ∷ number v.id ∷ number v.marker ∷ []
 
 abbrev pub shown_seq : VersionRow → Row
 shown_seq v = number v.seq ∷ []

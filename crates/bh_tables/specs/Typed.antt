@@ -9,8 +9,9 @@ use Rattle.sqlite.specs.Tree.{Trees}
 use Rattle.sqlite.specs.Effect.{Database}
 use Rattle.sqlite.specs.State.{State, HasCleanDisk}
 use Rattle.bh_rows.specs.Form.{AreRows, typed}
-use Rattle.bh_tables.specs.Schema.{Octets, first_schema, host_schema}
+use Rattle.bh_tables.specs.Schema.{Octets, first_schema, second_schema, host_schema}
 use Rattle.bh_tables.specs.Bodies.{Name, same_name, block_name, ref_name, resolved, resolved_again, resolved_part, resolved_part_again}
+use Rattle.bh_tables.specs.Entries.{has_marker, current_versions}
 pub use Rattle.bh_tables.specs.Rows.{Totals, column_number, maybe_number, number, maybe_back, HostRow, host_columns, host_of, host_form}
 pub use Rattle.bh_tables.specs.Rows.{TenantRow, tenant_columns, tenant_of, tenant_form, TenantColumns, stored_tenant_form, KeyRow}
 pub use Rattle.bh_tables.specs.Rows.{key_columns, key_of, key_form, BucketRow, bucket_columns, bucket_of, bucket_form, VersionColumns}
@@ -18,7 +19,7 @@ pub use Rattle.bh_tables.specs.Rows.{version_columns, version_of, version_form, 
 pub use Rattle.bh_tables.specs.Rows.{UseRow, use_columns, use_of, use_form, RefRow, ref_columns, ref_of, ref_form, UploadRow}
 pub use Rattle.bh_tables.specs.Rows.{upload_columns, upload_of, upload_form, UploadColumns, stored_upload_form, PartColumns, part_columns}
 pub use Rattle.bh_tables.specs.Rows.{part_of, part_form, PartRow, LockRow, lock_columns, lock_of, lock_form, RetainRow, retain_columns}
-pub use Rattle.bh_tables.specs.Rows.{retain_of, retain_form}
+pub use Rattle.bh_tables.specs.Rows.{retain_of, retain_form, TallyRow, tally_columns, tally_read, tally_form}
 
 -- ---- all tables
 
@@ -64,6 +65,7 @@ pub record Raw : Type 0 where
   pub uses : List Row
   pub locks : List Row
   pub retains : List Row
+  pub tallies : List Row
 
 abbrev pub raw : Trees → Raw
 raw db = record {
@@ -79,11 +81,15 @@ raw db = record {
   uses = db 23;
   locks = db 26;
   retains = db 28;
+  tallies = db 30;
 }
 
--- under the first schema, which has no table of locks and none of dates
+-- under the second schema, which has no table of tallies, and under the first, which has none of locks and of dates either
+abbrev pub second_raw : Trees → Raw
+second_raw db = record (raw db) { tallies = [] }
+
 abbrev pub first_raw : Trees → Raw
-first_raw db = record (raw db) { locks = []; retains = [] }
+first_raw db = record (second_raw db) { locks = []; retains = [] }
 
 abbrev pub tables_of : Raw → Tables
 tables_of r = record {
@@ -124,6 +130,8 @@ pub record AreHeld (sums : Totals) (r : Raw) : Type 0 where
   pub counts : typed use_form r.uses ≡ sums.uses
   pub locks : AreRows lock_form r.locks
   pub retains : AreRows retain_form r.retains
+  pub tallies : AreRows tally_form r.tallies
+  pub tallied : typed tally_form r.tallies ≡ sums.tallies
 
 -- what a database has in its tables, and a state of the store in those of the database that it sees
 abbrev pub tables_in : Database → Tables
@@ -132,7 +140,7 @@ tables_in db = tables_of (raw db.trees)
 abbrev pub tables : State → Tables
 tables s = tables_in s.now
 
--- and what one of the first schema has
+-- and what one of the first schema has; under the second it has what it has under a host's, since tallies are no table of these
 abbrev pub first_tables_in : Database → Tables
 first_tables_in db = tables_of (first_raw db.trees)
 
@@ -149,13 +157,28 @@ abbrev pub bytes_kept : List PartRow → Octets → ℕ → ℕ
 bytes_kept parts tenant upload =
     sum_by (λ (p : PartRow). p.size) (filter (λ p. bytes_eq p.tenant tenant && int_eq (pos p.upload) (pos upload)) parts)
 
+-- a tally of these numbers
+abbrev pub tally : Octets → ℕ → ℕ → ℕ → TallyRow
+tally tenant versions markers objects =
+    record { tenant = tenant; versions = pos versions; markers = pos markers; objects = pos objects }
+
+-- how many versions, markers and current versions a tenant has
+abbrev pub tally_of : List VersionRow → TenantRow → TallyRow
+tally_of versions t = tally t.tenant (length (filter (has_marker t.tenant 0) versions))
+    (length (filter (has_marker t.tenant 1) versions)) (length (current_versions t.tenant versions))
+
 -- what is to be kept of rows
 abbrev pub totals_of : Tables → Totals
 totals_of t = record {
   used = λ tenant. pos (bytes_used t.versions t.parts tenant);
   kept = λ q. pos (bytes_kept t.parts q.0 q.1);
   uses = map (use_among t.refs) t.blocks;
+  tallies = map (tally_of t.versions) t.tenants;
 }
+
+-- where there is no table of tallies
+abbrev pub untallied : Totals → Totals
+untallied sums = record sums { tallies = [] }
 
 -- the count of this block
 abbrev pub is_named : Name → UseRow → Bool
@@ -177,6 +200,28 @@ abbrev pub lowered_by : List RefRow → List UseRow → List UseRow
 lowered_by [] uses = uses
 lowered_by (r ∷ rs) uses = lowered_by rs (lowered (ref_name r) uses)
 
+-- the tally of this tenant
+abbrev pub is_tally : Octets → TallyRow → Bool
+is_tally tenant t = bytes_eq t.tenant tenant
+
+-- other tallies are kept
+abbrev pub tallied : (List TallyRow → List TallyRow) → Totals → Totals
+tallied change sums = record sums { tallies = change sums.tallies }
+
+abbrev pub set_to : ℕ → ℕ → ℕ → TallyRow → TallyRow
+set_to versions markers objects t = tally t.tenant versions markers objects
+
+-- of each count of a tenant so many more and so many fewer
+abbrev pub recounted : ℕ × ℕ → ℕ × ℕ → ℕ × ℕ → TallyRow → TallyRow
+recounted versions markers objects t = record t {
+  versions = t.versions +ℤ pos versions.0 -ℤ pos versions.1;
+  markers = t.markers +ℤ pos markers.0 -ℤ pos markers.1;
+  objects = t.objects +ℤ pos objects.0 -ℤ pos objects.1;
+}
+
+abbrev pub tally_changed : Octets → ℕ × ℕ → ℕ × ℕ → ℕ × ℕ → Totals → Totals
+tally_changed tenant versions markers objects = tallied (update_where (is_tally tenant) (recounted versions markers objects))
+
 -- so many bytes more and so many fewer are kept of a tenant, and of an upload
 abbrev pub used_changed : Octets → ℕ → ℕ → Totals → Totals
 used_changed tenant more less sums =
@@ -195,10 +240,14 @@ pub record IsHostBy (sums : Totals) (db : Database) : Type 0 where
 abbrev pub IsHost : Database → Type 0
 IsHost db = IsHostBy (totals_of (tables_in db)) db
 
--- the database is a host's of the first schema
+-- the database is a host's of the first schema, or of the second
 pub record IsFirstHost (db : Database) : Type 0 where
   pub schema : db.schema ≡ first_schema
-  pub held : AreHeld (totals_of (first_tables_in db)) (first_raw db.trees)
+  pub held : AreHeld (untallied (totals_of (first_tables_in db))) (first_raw db.trees)
+
+pub record IsSecondHost (db : Database) : Type 0 where
+  pub schema : db.schema ≡ second_schema
+  pub held : AreHeld (untallied (totals_of (tables_in db))) (second_raw db.trees)
 
 -- if the store returned what was written and the connection is open, the database is a host's
 abbrev pub IsReadyBy : Totals → State → Type 0

@@ -1,5 +1,5 @@
 -- What is kept of a tenant and of an upload, once parts come or go.
-use Rattle.std.proofs.Common.{◌≡◌, ℕ, pos, true, List, [], ◌∷◌, map, filter, Some, None, Ok, Err, Result, IfOk, IfErr, slice_get, sym, ap, ◌∙◌, subst, unsigned_abs}
+use Rattle.std.proofs.Common.{◌≡◌, ℕ, pos, true, List, [], ◌∷◌, map, filter, Some, None, Ok, Err, Result, IfOk, IfErr, slice_get, refl, sym, ap, ◌∙◌, subst, unsigned_abs}
 use Rattle.std.proofs.lemmas.Bool.{and_parts}
 use Rattle.sqlite.specs.Effect.{IsDatabase}
 use Rattle.sqlite.specs.Order.{Row}
@@ -11,9 +11,10 @@ use Rattle.bh_rows.specs.Means.{is_trouble}
 use Rattle.bh_tables.specs.Schema.{Octets, host_schema}
 use Rattle.bh_tables.specs.Typed.{totals_of, number, bytes_kept, used_changed, kept_changed, PartColumns, PartRow, UploadRow, Tables, tables_in}
 use Rattle.bh_tables.specs.Bodies.{resolved_part}
-use Rattle.bh_tables.specs.Shown.{is_part, is_part_of, is_upload, shown_kept}
+use Rattle.bh_tables.specs.Shown.{is_tenant, is_part, is_part_of, is_upload, shown_kept}
 use Rattle.bh_tables.proofs.AloneLemmas.{part_bytes}
 use Rattle.bh_tables.proofs.PartTotals.{upload_name, totals_parts_deleted, totals_part_replaced}
+use Rattle.bh_tables.proofs.TallyLemmas.{totals_tenant_changed}
 use Rattle.bh_view.proofs.FilterLemmas.{first_passes}
 use Rattle.bh_view.proofs.FindLemmas.{first_find}
 use Rattle.bh_schema.specs.Layer.{standing, IsIntact, IsOpen, IsStateClean, IsInside}
@@ -51,7 +52,8 @@ pub placed_law : (s : State) → IsLive s → IsStateClean s → IsInside (stand
 placed_law s live clean inside p next less held =
     let t = tables_in (standing s).now in
     let bytes = part_bytes (totals_of t) (standing s).now (sound_at s live clean inside) inside.host p.tenant p.upload p.part ∙ held in
-    sym (totals_part_replaced (with_next_entry p.tenant next t) (is_part p.tenant p.upload p.part) (resolved_part t.refs t.blocks p) less (own_number p.tenant p.upload p.part) bytes)
+    sym (totals_part_replaced (with_next_entry p.tenant next t) (is_part p.tenant p.upload p.part) (resolved_part t.refs t.blocks p) less (own_number p.tenant p.upload p.part) bytes
+    ∙ ap (λ s. kept_changed (p.tenant, p.upload) p.size less (used_changed p.tenant p.size less s)) (totals_tenant_changed t (is_tenant p.tenant) (λ x. record x { next_entry = next }) (λ x. refl)))
 
 -- the parts of an upload go
 pub taken_law : (t : Tables) (tenant : Octets) (upload less : ℕ) → bytes_kept t.parts tenant upload ≡ less → kept_changed (tenant, upload) 0 less (used_changed tenant 0 less (totals_of t)) ≡ totals_of (without_parts tenant upload t)

@@ -3,7 +3,8 @@ ghost use Rattle.bh_schema.specs.Connections.{IsClean, tables, InTransaction};
 ghost use Rattle.bh_schema.specs.Calls.{MayRead};
 ghost use Rattle.bh_usage.specs.Counted.{entries_in, bytes_in, used_in, rows_in};
 
-use bh_schema::rows::counts::{Entry, TenantSum, entry_count, object_count, tenant_sum};
+use bh_schema::rows::counts::{TenantSum, tenant_sum};
+use bh_schema::rows::tallies::find_tally;
 use sqlite::{Alter, Connection, Error, ErrorCode};
 
 /// How many entries a tenant's keys have.
@@ -33,6 +34,7 @@ pub struct RowCounts {
     pub uploads: u64,
 }
 
+/// Those of its tally: none of its versions is read. Each tenant has one, so a tenant without is one who isn't there, as no caller has it.
 fn entry_counts<S: Alter>(
     connection: &mut Connection<S>,
     tenant: &str,
@@ -42,14 +44,15 @@ fn entry_counts<S: Alter>(
     ensures counts { IfOk result (λ counts. IsClean S.Store connection.new
         → counts ≡ entries_in tenant.now (tables S.Store connection.old)) }
 {
-    let markers = entry_count(connection, tenant, Entry::Marker)?;
-    let objects = object_count(connection, tenant)?;
-    let versions = entry_count(connection, tenant, Entry::Version)?;
-    Ok(EntryCounts {
-        markers,
-        objects,
-        versions,
-    })
+    let found = find_tally(connection, tenant)?;
+    match found {
+        Some(tally) => Ok(EntryCounts {
+            markers: tally.markers,
+            objects: tally.objects,
+            versions: tally.versions,
+        }),
+        None => Err(Error::SqliteFailure(ErrorCode::DatabaseCorrupt)),
+    }
 }
 
 /// The bytes of a tenant who uses so many: those of its parts are added up, and the others are its versions'.

@@ -28,6 +28,7 @@ pub mod DeleteLemmas
 pub mod RowLemmas
 pub mod PurgeLemmas
 pub mod UsedLemmas
+pub mod NewestLemmas
 pub mod UsageLemmas
 pub mod JoinLemmas
 pub mod NameLemmas

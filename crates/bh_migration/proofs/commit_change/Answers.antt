@@ -1,9 +1,9 @@
 use Rattle.std.proofs.Common.{ap, sym, subst, ◌∙◌}
 use Rattle.sqlite.specs.Held.{state}
-use Rattle.bh_tables.specs.Typed.{IsFirstHost}
 use Rattle.bh_rows.specs.Means.{is_trouble}
-use Rattle.bh_schema.specs.Layer.{Standing, standing}
+use Rattle.bh_schema.specs.Layer.{Standing}
 use Rattle.bh_schema.proofs.Finds.{handed_on}
+use Rattle.bh_migration.specs.Migration.{IsEarlierHost}
 use Rattle.bh_migration.proofs.Stages.{may_leave}
 use Rattle.bh_migration.proofs.commit_change.Goals as goal
 
@@ -20,4 +20,4 @@ pub returns-in_err-change-clause-trouble : goal.returns-in_err-change-clause-tro
 returns-in_err-change-clause-trouble g c = handed_on _ _ _ c.from_residual-in_err-change.ensures (λ e same intact unlimited host.
     let before = c.change.ensures.within.follows.intact intact in
     let begun = c.in_ok-begin.ensures.begins before in
-    ap is_trouble same ∙ c.in_err-change.ensures.trouble intact (c.begin.ensures.within.follows.limit ∙ unlimited) (subst (λ (x : Standing). IsFirstHost x.now) (sym begun) (host (c.begin.ensures.within.follows.clean (record { intact = before; is_open = (c.in_ok-begin.ensures.opens before).1 })))))
+    ap is_trouble same ∙ c.in_err-change.ensures.trouble intact (c.begin.ensures.within.follows.limit ∙ unlimited) (subst (λ (x : Standing). IsEarlierHost c.args.version x.now) (sym begun) (host (c.begin.ensures.within.follows.clean (record { intact = before; is_open = (c.in_ok-begin.ensures.opens before).1 })))))

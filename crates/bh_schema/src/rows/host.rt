@@ -32,7 +32,7 @@ pub fn set_latest<S: Alter>(connection: &mut Connection<S>, stamp: u64) -> Resul
     write(connection, "UPDATE host SET latest = ?1", &[number(stamp)])
 }
 
-/// Adds the row of a new host, of version 2, whose last stamp is 0 and whose blocks are named by the function of this number.
+/// Adds the row of a new host, of version 3, whose last stamp is 0 and whose blocks are named by the function of this number.
 pub fn insert_host<S: Alter>(
     connection: &mut Connection<S>,
     min_part: u64,
@@ -47,7 +47,7 @@ pub fn insert_host<S: Alter>(
     ensures holds { OnOk result (Becomes S.Store connection.old connection.new
         (λ rows. record rows {
           host = rows.host ++ record {
-            version = 2;
+            version = 3;
             latest = 0;
             min_part = min_part;
             max_body = max_body;
@@ -59,7 +59,7 @@ pub fn insert_host<S: Alter>(
 {
     write(
         connection,
-        "INSERT INTO host (version, latest, min_part, max_body, digest) VALUES (2, 0, ?1, ?2, ?3)",
+        "INSERT INTO host (version, latest, min_part, max_body, digest) VALUES (3, 0, ?1, ?2, ?3)",
         &[number(min_part), number(max_body), number(digest)],
     )
 }

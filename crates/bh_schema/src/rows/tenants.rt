@@ -2,14 +2,15 @@ ghost use Rattle.std.specs.Prelude.{◌≡◌, ◌++◌, ◌∷◌, [], ◌<◌,
 ghost use Rattle.bh_tables.specs.Typed.{used_changed};
 ghost use Rattle.bh_tables.specs.Shown.{is_tenant};
 ghost use Rattle.bh_schema.specs.Calls.{Reads, Writes, WritesOn};
-ghost use Rattle.bh_schema.specs.Connections.{IsClean, tables, InTransaction, InMidst, Rewrites, Becomes, IsTrouble, IsTroubleIf};
-ghost use Rattle.bh_schema.specs.Written.{with_next, with_numbers};
+ghost use Rattle.bh_schema.specs.Connections.{IsClean, tables, InTransaction, InMidst, Rewrites, Enters, Becomes, IsTrouble, IsTroubleIf};
+ghost use Rattle.bh_schema.specs.Written.{with_tenant, with_next, with_numbers};
 ghost use Rattle.bh_schema.specs.OwnNumbers.{with_number, IsTextOf};
 ghost use Rattle.bh_schema.specs.Rows.{tenant_numbers, tenant_account, IsNewTenant};
 ghost use Rattle.bh_schema.specs.Views.{numbers_reading, account_reading};
 
 use crate::rows::number::number;
 use crate::rows::reading::{FromRow, first_of};
+use crate::rows::tallies::insert_tally;
 use crate::rows::writing::write;
 use sqlite::types::ToSql;
 use sqlite::{Alter, Connection, Error, Row};
@@ -124,6 +125,28 @@ pub fn find_account<S: Alter>(
     first_of(&rows)
 }
 
+/// The row of a tenant, each of whose counters gives 1 next: the first part of that write.
+fn insert_tenant_row<S: Alter>(
+    connection: &mut Connection<S>,
+    name: &str,
+    quota: u64,
+) -> Result<usize, Error>
+    requires inside { InTransaction S.Store connection.old }
+    requires small { quota < 2 ^ 63 }
+    ensures writes { WritesOn S.Store connection.old connection.new result }
+    ensures enters { OnOk result (Enters S.Store connection.old connection.new (λ sums. sums) (with_tenant name.now quota)) }
+    ensures free { OnOk result (IsClean S.Store connection.new
+        → IsNewTenant (tables S.Store connection.old) name.now) }
+    ensures trouble { IfErr result (IsTroubleIf S.Store connection.old connection.new
+        (IsNewTenant (tables S.Store connection.old) name.now)) }
+{
+    write(
+        connection,
+        "INSERT INTO tenants (tenant, quota, next_version, next_upload, next_entry, used) VALUES (?1, ?2, 1, 1, 1, 0)",
+        &[name.to_sql(), number(quota)],
+    )
+}
+
 /// Adds a tenant, each of whose counters gives 1 next.
 pub fn insert_tenant<S: Alter>(
     connection: &mut Connection<S>,
@@ -134,18 +157,14 @@ pub fn insert_tenant<S: Alter>(
     requires small { quota < 2 ^ 63 }
     ensures writes { Writes S.Store connection.old connection.new result }
     ensures holds { OnOk result (Becomes S.Store connection.old connection.new
-        (λ rows. record rows {
-          tenants = rows.tenants
-              ++ record { tenant = name.now; quota = quota; next_version = 1; next_upload = 1; next_entry = 1 } ∷ [];
-        })) }
+        (with_tenant name.now quota)) }
     ensures trouble { IfErr result (IsTroubleIf S.Store connection.old connection.new
         (IsNewTenant (tables S.Store connection.old) name.now)) }
 {
-    write(
-        connection,
-        "INSERT INTO tenants (tenant, quota, next_version, next_upload, next_entry, used) VALUES (?1, ?2, 1, 1, 1, 0)",
-        &[name.to_sql(), number(quota)],
-    )
+    // Asked for what it ensures: a tenant that is not there has no version.
+    let _schema = connection.schema();
+    insert_tenant_row(connection, name, quota)?;
+    insert_tally(connection, name)
 }
 
 /// Sets a number of the tenant's.

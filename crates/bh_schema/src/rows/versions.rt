@@ -1,20 +1,23 @@
-ghost use Rattle.std.specs.Prelude.{◌≡◌, ◌++◌, ◌∷◌, [], ◌<◌, ◌^◌, Some, find, take, option_map, IfOk, IfErr, OnOk};
+ghost use Rattle.std.specs.Prelude.{◌≡◌, ◌++◌, ◌∷◌, [], ◌<◌, ◌^◌, true, Option, Some, find, take, option_map, IfOk, IfErr, OnOk};
+ghost use Rattle.bh_rows.specs.Means.{is_trouble};
 ghost use Rattle.std.specs.Str.{IsUtf8};
 ghost use Rattle.bh_tables.specs.Typed.{VersionRow as Stored};
-ghost use Rattle.bh_tables.specs.Bodies.{resolved};
 ghost use Rattle.bh_tables.specs.Shown.{is_version};
 ghost use Rattle.bh_schema.specs.Calls.{Reads, Writes, WritesOn};
-ghost use Rattle.bh_schema.specs.Connections.{IsClean, tables, InTransaction, InMidst, Rewrites, Becomes, IsTroubleIf};
+ghost use Rattle.bh_schema.specs.Connections.{IsClean, tables, InTransaction, InMidst, Rewrites, Enters, Becomes, IsTrouble, IsTroubleIf};
 ghost use Rattle.bh_schema.specs.Rows.{seen_head, newest_at, IsNewVersion};
 ghost use Rattle.bh_schema.specs.Views.{head_seen, head_reading};
-ghost use Rattle.bh_schema.specs.Written.{with_version, without_version, with_next, with_numbers, bytes_of_id};
+ghost use Rattle.bh_schema.specs.Tallies.{place_of, marker_in, place_after, coming, going, entries_changed, IsNewer};
+ghost use Rattle.bh_schema.specs.Written.{with_version, with_marker, without_version, with_next, with_numbers, bytes_of_id};
 
 use crate::rows::number::number;
+use crate::rows::places::{NewestPlaces, Place, newest_places, place_of_id};
 use crate::rows::reading::{FromRow, first_of};
+use crate::rows::tallies::{EntryChange, recount};
 use crate::rows::tenants::{use_entry, use_less, use_numbers};
 use crate::rows::writing::write;
 use sqlite::types::ToSql;
-use sqlite::{Alter, Connection, Error, Row};
+use sqlite::{Alter, Connection, Error, ErrorCode, Row};
 
 /// What is kept of a version or a marker beside its bytes.
 #[derive(Drop)]
@@ -177,6 +180,141 @@ fn remove_version<S: Alter>(
     )
 }
 
+/// The row of a delete marker: in the midst of a write of its tenant's tally.
+fn insert_marker_row<S: Alter>(
+    connection: &mut Connection<S>,
+    marker: &NewMarker<'_>,
+) -> Result<usize, Error>
+    requires midst { InMidst S.Store connection.old }
+    requires seq { marker.now.seq < 2 ^ 63 }
+    requires id { marker.now.id < 2 ^ 63 }
+    requires stamp { marker.now.stamp < 2 ^ 63 }
+    ensures writes { WritesOn S.Store connection.old connection.new result }
+    ensures rewrites { OnOk result (Rewrites S.Store connection.old connection.new (λ sums. sums) (with_marker marker.now)) }
+    ensures trouble { IfErr result (IsTroubleIf S.Store connection.old connection.new (IsClean S.Store connection.old
+        → IsNewVersion (tables S.Store connection.old) marker.now.tenant.now marker.now.bucket.now marker.now.okey.now
+        marker.now.seq marker.now.id)) }
+{
+    write(
+        connection,
+        "INSERT INTO versions (tenant, seq, bucket, okey, id, marker, stamp, size, sum) VALUES (?1, ?2, ?3, ?4, ?5, 1, ?6, 0, '')",
+        &[
+            marker.tenant.to_sql(),
+            number(marker.seq),
+            marker.bucket.to_sql(),
+            marker.okey.to_sql(),
+            number(marker.id),
+            number(marker.stamp),
+        ],
+    )
+}
+
+/// The marker of the newest entry of a key, which is to be older than one of this number.
+fn marker_before(newest: Option<Place>, seq: u64) -> Result<Option<u64>, Error>
+    ensures read { IfOk result (λ marker. (o : Option Stored) → newest ≡ option_map place_of o → marker ≡ option_map marker_in o) }
+    ensures older { IfOk result (λ marker. (v : Stored) → newest ≡ option_map place_of (Some v) → v.seq < seq) }
+    ensures trouble { IfErr result (λ e. is_trouble e ≡ true) }
+{
+    match newest {
+        None => Ok(None),
+        Some(place) => {
+            if place.seq < seq {
+                Ok(Some(place.marker))
+            } else {
+                Err(Error::SqliteFailure(ErrorCode::DatabaseCorrupt))
+            }
+        }
+    }
+}
+
+/// A tenant's tally once a new entry of a key comes: the first part of that write.
+fn entry_comes<S: Alter>(
+    connection: &mut Connection<S>,
+    tenant: &str,
+    bucket: &str,
+    okey: &[u8],
+    seq: u64,
+    marker: u64,
+) -> Result<(), Error>
+    requires inside { InTransaction S.Store connection.old }
+    ensures writes { WritesOn S.Store connection.old connection.new result }
+    ensures enters { OnOk result (Enters S.Store connection.old connection.new
+        (entries_changed tenant.now (coming tenant.now bucket.now okey.now marker (tables S.Store connection.old))) (λ rows. rows)) }
+    ensures newer { OnOk result (IsClean S.Store connection.new
+        → IsNewer tenant.now bucket.now okey.now seq (tables S.Store connection.old)) }
+    ensures trouble { IfErr result (IsTrouble S.Store connection.old connection.new) }
+{
+    // Asked for what it ensures: one entry of a tenant has a number at most.
+    let _schema = connection.schema();
+    let newest = newest_places(connection, tenant, bucket, okey)?;
+    let before = marker_before(newest.first, seq)?;
+    recount(
+        connection,
+        tenant,
+        EntryChange {
+            come: Some(marker),
+            gone: None,
+            after: Some(marker),
+            before,
+        },
+    )
+}
+
+fn marker_of(place: Option<Place>) -> Option<u64>
+    ensures { (o : Option Stored) → place ≡ option_map place_of o → result ≡ option_map marker_in o }
+{
+    match place {
+        None => None,
+        Some(found) => Some(found.marker),
+    }
+}
+
+/// The newest entry of a key once the one with this id is gone, of the two newest before.
+fn newest_after(newest: NewestPlaces, id: u64) -> Option<Place>
+    ensures { result ≡ place_after id newest }
+{
+    match newest.first {
+        None => None,
+        Some(place) => {
+            if place.id == id {
+                newest.second
+            } else {
+                Some(place)
+            }
+        }
+    }
+}
+
+/// A tenant's tally once the entry of a key with this id goes: the first part of that write.
+fn entry_goes<S: Alter>(
+    connection: &mut Connection<S>,
+    tenant: &str,
+    bucket: &str,
+    okey: &[u8],
+    id: u64,
+) -> Result<(), Error>
+    requires inside { InTransaction S.Store connection.old }
+    requires small { id < 2 ^ 63 }
+    ensures writes { WritesOn S.Store connection.old connection.new result }
+    ensures enters { OnOk result (Enters S.Store connection.old connection.new
+        (entries_changed tenant.now (going tenant.now bucket.now okey.now id (tables S.Store connection.old))) (λ rows. rows)) }
+{
+    // Asked for what it ensures: one entry of a key has an id at most.
+    let _schema = connection.schema();
+    let newest = newest_places(connection, tenant, bucket, okey)?;
+    let gone = place_of_id(connection, tenant, bucket, okey, id)?;
+    recount(
+        connection,
+        tenant,
+        EntryChange {
+            come: None,
+            gone: marker_of(gone),
+            after: marker_of(newest_after(newest, id)),
+            before: marker_of(newest.first),
+        },
+    )
+}
+
 /// Adds a version, whose bytes are those of the body of its name. The tenant's next entry takes this number.
 pub fn add_version<S: Alter>(
     connection: &mut Connection<S>,
@@ -193,6 +331,16 @@ pub fn add_version<S: Alter>(
     ensures holds { OnOk result (Becomes S.Store connection.old connection.new
         (λ rows. with_version version.now (with_next version.now.tenant.now next rows))) }
 {
+    // Asked for what it ensures: one entry of a tenant has a number at most.
+    let _schema = connection.schema();
+    entry_comes(
+        connection,
+        version.tenant,
+        version.bucket,
+        version.okey,
+        version.seq,
+        0,
+    )?;
     use_entry(connection, version.tenant, next, version.size, 0)?;
     insert_version(connection, version)?;
     Ok(())
@@ -216,6 +364,16 @@ pub fn add_numbered<S: Alter>(
     ensures holds { OnOk result (Becomes S.Store connection.old connection.new
         (λ rows. with_version version.now (with_numbers version.now.tenant.now next_version next_entry rows))) }
 {
+    // Asked for what it ensures: one entry of a tenant has a number at most.
+    let _schema = connection.schema();
+    entry_comes(
+        connection,
+        version.tenant,
+        version.bucket,
+        version.okey,
+        version.seq,
+        0,
+    )?;
     use_numbers(
         connection,
         version.tenant,
@@ -238,36 +396,22 @@ pub fn insert_marker<S: Alter>(
     requires id { marker.now.id < 2 ^ 63 }
     requires stamp { marker.now.stamp < 2 ^ 63 }
     ensures writes { Writes S.Store connection.old connection.new result }
-    ensures holds { OnOk result (Becomes S.Store connection.old connection.new
-        (λ rows. record rows {
-          versions = rows.versions ++ resolved rows.refs rows.blocks (record {
-            tenant = marker.now.tenant.now;
-            seq = marker.now.seq;
-            bucket = marker.now.bucket.now;
-            okey = marker.now.okey.now;
-            id = marker.now.id;
-            marker = 1;
-            stamp = marker.now.stamp;
-            size = 0;
-            checksum = [];
-          }) ∷ [];
-        })) }
+    ensures holds { OnOk result (Becomes S.Store connection.old connection.new (with_marker marker.now)) }
     ensures trouble { IfErr result (IsTroubleIf S.Store connection.old connection.new
         (IsNewVersion (tables S.Store connection.old) marker.now.tenant.now marker.now.bucket.now marker.now.okey.now
         marker.now.seq marker.now.id)) }
 {
-    write(
+    // Asked for what it ensures: one entry of a tenant has a number at most.
+    let _schema = connection.schema();
+    entry_comes(
         connection,
-        "INSERT INTO versions (tenant, seq, bucket, okey, id, marker, stamp, size, sum) VALUES (?1, ?2, ?3, ?4, ?5, 1, ?6, 0, '')",
-        &[
-            marker.tenant.to_sql(),
-            number(marker.seq),
-            marker.bucket.to_sql(),
-            marker.okey.to_sql(),
-            number(marker.id),
-            number(marker.stamp),
-        ],
-    )
+        marker.tenant,
+        marker.bucket,
+        marker.okey,
+        marker.seq,
+        1,
+    )?;
+    insert_marker_row(connection, marker)
 }
 
 /// Takes the version or marker of a key with this id away, which has so many bytes.
@@ -290,6 +434,7 @@ pub fn delete_version<S: Alter>(
 {
     // Asked for what it ensures: one entry of a key has an id at most.
     let _schema = connection.schema();
+    entry_goes(connection, tenant, bucket, okey, id)?;
     use_less(connection, tenant, size)?;
     remove_version(connection, tenant, bucket, okey, id)?;
     Ok(())

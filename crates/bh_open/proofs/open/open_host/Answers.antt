@@ -2,8 +2,26 @@ use Rattle.std.proofs.Common.{Ok, Err, IfOk, IfErr, ◌≡◌, subst}
 use Rattle.sqlite.specs.Held.{state}
 use Rattle.bh_schema.specs.Layer.{standing, IsStateClean}
 use Rattle.bh_open.specs.Opening.{Finds, Opens}
-use Rattle.bh_open.proofs.Steps.{shows, host_of, rests, tells, names}
+use Rattle.bh_open.specs.Versions.{schema_of}
+use Rattle.bh_open.proofs.Steps.{shows, host_of, rests, tells, names, any_schema}
 use Rattle.bh_open.proofs.open.open_host.Goals as goal
+
+pub returns-in-Ok-found-clause-schema : goal.returns-in-Ok-found-clause-schema
+returns-in-Ok-found-clause-schema g c =
+    let old = standing (state g.S.Store c.args.connection) in
+    any_schema c.in-Ok-found.found.version old.now.schema (subst (λ r. IfOk r (λ f. old.now.schema ≡ schema_of f.version)) c.in-Ok-found.is c.in-Ok.ensures.schema)
+
+pub returns-in-Ok-found-clause-same : goal.returns-in-Ok-found-clause-same
+returns-in-Ok-found-clause-same g c clean =
+    let old = standing (state g.S.Store c.args.connection) in
+    let new = state g.S.Store c.find_and_bring.new.connection in
+    (subst (λ r. IfOk r (λ f. IsStateClean new → Opens f.version old (standing new))) c.in-Ok-found.is c.in-Ok.ensures.opens clean).same
+
+pub returns-in-Ok-found-clause-brought : goal.returns-in-Ok-found-clause-brought
+returns-in-Ok-found-clause-brought g c clean =
+    let old = standing (state g.S.Store c.args.connection) in
+    let new = state g.S.Store c.find_and_bring.new.connection in
+    (subst (λ r. IfOk r (λ f. IsStateClean new → Opens f.version old (standing new))) c.in-Ok-found.is c.in-Ok.ensures.opens clean).brought
 
 pub returns-in-Ok-found-clause-shows : goal.returns-in-Ok-found-clause-shows
 returns-in-Ok-found-clause-shows g c =

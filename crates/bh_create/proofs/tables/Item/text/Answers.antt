@@ -54,3 +54,6 @@ returns-in-Locks c = rw c.in-Locks.is (table_text item.Locks refl creates.makes_
 
 pub returns-in-Retains : goal.returns-in-Retains
 returns-in-Retains c = rw c.in-Retains.is (table_text item.Retains refl creates.makes_retains creates.free_retains)
+
+pub returns-in-Tallies : goal.returns-in-Tallies
+returns-in-Tallies c = rw c.in-Tallies.is (table_text item.Tallies refl creates.makes_tallies creates.free_tallies)

@@ -1,9 +1,11 @@
-use Rattle.std.proofs.Common.{refl}
 use Rattle.sqlite.specs.Held.{state}
 use Rattle.bh_tables.specs.Typed.{totals_of, tables}
+use Rattle.bh_tables.specs.Shown.{is_tenant}
 use Rattle.bh_tables.proofs.Places.{tenants}
-use Rattle.bh_schema.proofs.Calls.{updated}
-use Rattle.bh_schema.proofs.OwnNumbers.{number_may}
+use Rattle.bh_tables.proofs.TallyLemmas.{totals_tenant_changed}
+use Rattle.bh_schema.specs.OwnNumbers.{own_number}
+use Rattle.bh_schema.proofs.Calls.{updated_so}
+use Rattle.bh_schema.proofs.OwnNumbers.{number_may, number_named}
 use Rattle.bh_schema.proofs.rows.tenants.set_number.Goals as goal
 
 pub returns : goal.returns
@@ -11,5 +13,5 @@ returns g c =
     let h = rw (c.to_sql.ensures, c.number.ensures) at c.write.ensures in
     let old = state g.S.Store c.args.connection.now in
     let sums = totals_of (tables old) in
-    let w = updated tenants old (state g.S.Store c.write.new.connection) c.requires.inside (λ t l. refl) c.write.result h.live (c.text.ensures sums c.args.tenant.now c.args.n) (number_may sums c.args.tenant.now c.args.which c.args.n) h.runs h.survives in
+    let w = updated_so tenants old (state g.S.Store c.write.new.connection) c.requires.inside c.write.result h.live (totals_tenant_changed (tables old) (is_tenant c.args.tenant.now) (own_number c.args.which c.args.n) (number_named c.args.which c.args.n)) (c.text.ensures sums c.args.tenant.now c.args.n) (number_may sums c.args.tenant.now c.args.which c.args.n) h.runs h.survives in
     record { writes = record { within = w.within; opens = w.opens; inside = w.inside }; holds = w.holds; trouble = w.trouble }

@@ -1,14 +1,44 @@
-use Rattle.std.proofs.Common.{refl}
-use Rattle.bh_schema.specs.Layer.{standing}
+use Rattle.std.proofs.Common.{refl, ap, sym, subst, ◌∙◌}
+use Rattle.std.proofs.lemmas.Result.{on_ok_weaker, IfErr-weaker}
 use Rattle.sqlite.specs.Held.{state}
-use Rattle.bh_tables.proofs.VersionTexts.{marker_inserted, new_version}
-use Rattle.bh_schema.proofs.VersionCalls.{inserted}
+use Rattle.bh_tables.specs.Typed.{Tables, tables_in}
+use Rattle.bh_schema.specs.Layer.{standing}
+use Rattle.bh_schema.specs.Rows.{IsNewVersion}
+use Rattle.bh_schema.specs.Tallies.{coming, entries_changed}
+use Rattle.bh_schema.specs.Written.{marker_columns_of, with_marker}
+use Rattle.bh_schema.proofs.Storing.{within_then}
+use Rattle.bh_schema.proofs.VersionSteps.{then_entered, ended_so, marker_law}
 use Rattle.bh_schema.proofs.rows.versions.insert_marker.Goals as goal
 
-pub returns : goal.returns
-returns g c =
-    let v = c.args.marker.now in
-    let h = rw (c.to_sql.ensures, c.number.ensures, c.to_sql-2.ensures, c.to_sql-3.ensures, c.number-2.ensures, c.number-3.ensures) at c.write.ensures in
-    let old = state g.S.Store c.args.connection.now in
-    let w = inserted old (state g.S.Store c.write.new.connection) c.requires.inside c.write.result h.live refl (marker_inserted v.tenant.now v.bucket.now v.okey.now v.seq v.id v.stamp) (λ clean is. new_version (standing old).now (c.requires.inside clean).host _ refl is.unnumbered is.free is.owned) h.runs h.survives in
-    record { writes = record { within = w.within; opens = w.opens; inside = w.inside }; holds = w.holds; trouble = w.trouble }
+pub returns-clause-holds : goal.returns-clause-holds
+returns-clause-holds g c = on_ok_weaker c.insert_marker_row.result (λ rewrites clean.
+    let m = c.args.marker.now in
+    let a = state g.S.Store c.args.connection.now in
+    let b = state g.S.Store c.entry_comes.new.connection in
+    let e = state g.S.Store c.insert_marker_row.new.connection in
+    let one = c.in_ok-entry_comes.ensures in
+    let two = c.insert_marker_row.ensures.writes in
+    let counted = entries_changed m.tenant.now (coming m.tenant.now m.bucket.now m.okey.now 1 (tables_in (standing a).now)) in
+    let middle = two.within.follows.clean clean in
+    ended_so a e counted (with_marker m) (λ so. one.writes.within.follows.clean (two.within.follows.clean so))
+    (then_entered a b e counted (λ s. s) (λ t. t) (with_marker m) two.within.follows.clean one.enters rewrites)
+    (λ was. marker_law a c.schema-schema.ensures.live was (c.requires.inside was) (marker_columns_of m) (one.newer middle) refl) clean) c.insert_marker_row.ensures.rewrites
+
+pub returns-clause-writes : goal.returns-clause-writes
+returns-clause-writes g c =
+    let a = state g.S.Store c.args.connection.now in
+    let b = state g.S.Store c.entry_comes.new.connection in
+    let e = state g.S.Store c.insert_marker_row.new.connection in
+    let one = c.in_ok-entry_comes.ensures.writes in
+    let two = c.insert_marker_row.ensures.writes in
+    record {
+      within = within_then a b e one.opens one.within two.within;
+      opens = on_ok_weaker c.insert_marker_row.result (λ stays intact up. stays intact (one.opens (two.within.follows.intact intact) up)) two.opens;
+      inside = on_ok_weaker c.insert_marker_row.result (λ holds clean. (holds clean).within) (returns-clause-holds g c);
+    }
+
+pub returns-clause-trouble : goal.returns-clause-trouble
+returns-clause-trouble g c = IfErr-weaker c.insert_marker_row.result _ _ (λ e told intact unlimited is.
+    let m = c.args.marker.now in
+    let one = c.in_ok-entry_comes.ensures in
+    told intact (one.writes.within.follows.limit ∙ unlimited) (λ middle. subst (λ (t : Tables). IsNewVersion t m.tenant.now m.bucket.now m.okey.now m.seq m.id) (sym (one.enters middle).is) is)) c.insert_marker_row.ensures.trouble

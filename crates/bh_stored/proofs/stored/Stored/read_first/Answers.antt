@@ -38,4 +38,5 @@ returns-clause-fit g c clean10 =
       uses = subst (λ (t : Trees). AreFit use_kinds (t 23)) (kept9.trees clean9) (c.in_ok-fit_rows-10.ensures.fit clean10);
       locks = record { fit = refl; rises = tt };
       retains = record { fit = refl; rises = tt };
+      tallies = record { fit = refl; rises = tt };
     }

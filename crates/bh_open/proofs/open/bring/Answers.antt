@@ -1,0 +1,35 @@
+use Rattle.std.proofs.Common.{◌≡◌, inl, inr, sym, subst}
+use Rattle.std.proofs.lemmas.Result.{on_ok_weaker}
+use Rattle.sqlite.specs.Held.{state}
+use Rattle.bh_schema.specs.Layer.{standing}
+use Rattle.bh_open.specs.Opening.{Opens}
+use Rattle.bh_open.specs.Versions.{schema_of}
+use Rattle.bh_open.proofs.Steps.{opens_brought, opens_same, left_over}
+use Rattle.bh_open.proofs.open.bring.Goals as goal
+
+pub returns-in-First-clause-opens : goal.returns-in-First-clause-opens
+returns-in-First-clause-opens g c = on_ok_weaker c.bring_over.result (λ settles clean.
+    let old = standing (state g.S.Store c.args.connection.now) in
+    let schema = c.requires.schema (c.bring_over.ensures.follows.clean clean) in
+    opens_brought c.args.version old (standing (state g.S.Store c.bring_over.new.connection)) schema (inl (subst (λ v. old.now.schema ≡ schema_of v) c.in-First.is schema)) (settles clean)) c.bring_over.ensures.settles
+
+pub returns-in-First-clause-crash : goal.returns-in-First-clause-crash
+returns-in-First-clause-crash g c =
+    let old = state g.S.Store c.args.connection.now in
+    left_over old (state g.S.Store c.bring_over.new.connection) c.bring_over.ensures.follows (λ clean. inl (subst (λ v. (standing old).now.schema ≡ schema_of v) c.in-First.is (c.requires.schema clean))) c.bring_over.ensures.crash
+
+pub returns-in-Second-clause-opens : goal.returns-in-Second-clause-opens
+returns-in-Second-clause-opens g c = on_ok_weaker c.bring_over-in-Second.result (λ settles clean.
+    let old = standing (state g.S.Store c.args.connection.now) in
+    let schema = c.requires.schema (c.bring_over-in-Second.ensures.follows.clean clean) in
+    opens_brought c.args.version old (standing (state g.S.Store c.bring_over-in-Second.new.connection)) schema (inr (subst (λ v. old.now.schema ≡ schema_of v) c.in-Second.is schema)) (settles clean)) c.bring_over-in-Second.ensures.settles
+
+pub returns-in-Second-clause-crash : goal.returns-in-Second-clause-crash
+returns-in-Second-clause-crash g c =
+    let old = state g.S.Store c.args.connection.now in
+    left_over old (state g.S.Store c.bring_over-in-Second.new.connection) c.bring_over-in-Second.ensures.follows (λ clean. inr (subst (λ v. (standing old).now.schema ≡ schema_of v) c.in-Second.is (c.requires.schema clean))) c.bring_over-in-Second.ensures.crash
+
+pub returns-in-Third-clause-opens : goal.returns-in-Third-clause-opens
+returns-in-Third-clause-opens g c clean =
+    let old = standing (state g.S.Store c.args.connection.now) in
+    subst (λ v. Opens v old old) (sym c.in-Third.is) (opens_same old (subst (λ v. old.now.schema ≡ schema_of v) c.in-Third.is (c.requires.schema clean)) (c.requires.outside clean) (c.requires.committed clean))
