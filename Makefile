@@ -1,164 +1,50 @@
-# demo: the main job on its stored run. try FILE=..: a script of your own. build: the proved program. test: all examples and
-# tests, on the programs of `make gate` where they are of these sources, else without proof, in minutes. gate: every proof and
-# stored run, from nothing. times: the gate, and then what each crate cost, in seconds of a processor ('tools/gate-times
-# COMMAND..' tells it of any run). wrong-bodies: tries and stamps the wrong bodies whose stamp isn't true any more
-# (wrong-bodies/README.md); of one crate by CRATE=bh_docs. stamps: what CI asks of them, which stamps
-# aren't true, and those of one crate refused anew. lint: the layout of all sources.
-# bench: the program's speed and memory; lookups: the time of lookups by key at 1,000 and 100,000 rows; versions:
-# that of requests on many versions and keys; serving: puts and gets over sockets beside nginx; digests: puts by both digest
-# functions; bodies: those of small and great bodies, new and known, and their memory; copies: how many bytes are copied for
-# each of a body; blocks: the time of a block among 1,000 and 100,000; uploads: that of a part
-# among 1,000 and 10,000; pages: that of pages of a listing; quotas: what a quota and rules for uploads cost; sweeps: a
-# sweep among 10,000 and 100,000 blocks in use; totals: what needn't be added up (PROGRAM=.. BEFORE=..: two programs in one run);
-# telling: an operator's lines beside clients, and what that port costs;
-# shards: one, two and four hosts behind one nginx, each tenant on one of them;
-# profile: the instructions of a put and of a get, and the functions that take
-# most (all bench/README.md).
-# stops: `serve` and commands killed, refused what they ask of the disk, and on a full disk, minutes (PROGRAM=..: of another bucketd);
-# breaks: connections that break after each byte; ample: drawn events by a script and by a file's server. opening: how long a file
-# is opened, and in how much memory; migration: how long one of an earlier version is, the first time (bench/README.md). memory: the stored
-# run, and connections, with each allocation refused in turn. others: drawn scripts of two tenants, each of whom is answered as
-# where the other's events, sweeps and reports are left out. front: nginx before the program, as deploy/nginx.conf has it, and slow
-# clients. hostile: what is made to break the program, at its full size; edits: ten minutes of edited requests, by a script and
-# over a socket.
-.PHONY: demo try build test gate times wrong-bodies stamps lint bench lookups versions serving digests bodies copies blocks uploads pages quotas sweeps totals telling shards profile memory others stops breaks ample opening migration front hostile edits
+# 'make help' says what each target does: the text behind '##' of its line.
+.PHONY: help demo try build test gate times wrong-bodies lint bench install uninstall deb manual gateway s3
 
-demo:
+help: ## this list
+	@awk -F ':.*## ' '/^[a-z0-9-]+:.*## / { printf "make %-13s %s\n", $$1, $$2 }' $(firstword $(MAKEFILE_LIST))
+
+demo: ## the main job, on its stored run
 	@tools/bucketd <crates/bucketd/stdin
 
-try:
+try: ## a script of your own: FILE=your.script
 	@tools/bucketd <"$(or $(FILE),$(error make try FILE=your.script))"
 
-build:
-	@tools/build
+build: ## the proved program, crates/bucketd/out/bucketd; CPU=x86-64-v3: for processors with AVX2, out/x86-64-v3/bucketd
+	@CPU="$(CPU)" tools/build
 
-test:
-	@tools/test
+test: ## all tests, without proof in minutes; NAME=crash, files, ..: one subject at its full size; ALL=1; PROGRAM=path
+	@$(if $(filter clients,$(NAME)),tools/clients $(if $(PROGRAM),"$(PROGRAM)"),tools/test $(if $(ALL),--all) $(if $(PROGRAM),--program "$(PROGRAM)") $(if $(NAME),--full $(NAME)))
 
-gate:
+gate: ## every proof and stored run, from nothing
 	@tools/gate
 
-times:
+times: ## the gate, and then what each crate cost, in seconds of a processor
 	@tools/gate-times tools/gate
 
-wrong-bodies:
+wrong-bodies: ## tries and stamps the wrong bodies whose stamp isn't true any more (wrong-bodies/README.md); CRATE=bh_docs
 	@tools/wrong-bodies $(CRATE)
 
-stamps:
-	@tools/wrong-bodies --demand
-
-lint:
+lint: ## the layout of all sources
 	@tools/lint-layout
 
-bench:
-	@bench/run.py
+bench: ## measures: NAME=pages, serving, .. (bench/README.md), else the speed and memory of scripts; PROGRAM=path
+	@bench/$(or $(NAME),run).py $(if $(PROGRAM),"$(PROGRAM)") $(if $(BEFORE),"$(BEFORE)")
 
-lookups:
-	@bench/lookups.py
+install: ## the proved program (CPU=x86-64-v3: that one), or PROGRAM=path, with page, completions and units, below PREFIX=/usr/local, below DESTDIR
+	@PREFIX="$(PREFIX)" DESTDIR="$(DESTDIR)" PROGRAM="$(PROGRAM)" CPU="$(CPU)" tools/install
 
-versions:
-	@bench/versions.py
-
-serving:
-	@bench/serving.py
-
-telling:
-	@bench/telling.py $(PROGRAM)
-
-digests:
-	@bench/digests.py $(PROGRAM)
-
-bodies:
-	@bench/bodies.py $(PROGRAM)
-
-copies:
-	@bench/copies.py $(PROGRAM)
-
-blocks:
-	@bench/blocks.py
-
-uploads:
-	@bench/uploads.py
-
-pages:
-	@bench/pages.py
-
-quotas:
-	@bench/quotas.py
-
-sweeps:
-	@bench/sweeps.py
-
-totals:
-	@bench/totals.py $(PROGRAM) $(BEFORE)
-
-shards:
-	@bench/shards.py $(PROGRAM)
-
-profile:
-	@bench/profile.py
-
-memory:
-	@tools/memory
-
-others:
-	@tools/draw-others
-
-stops:
-	@tools/stops $(PROGRAM)
-
-breaks:
-	@tools/breaks $(PROGRAM)
-
-ample:
-	@tools/ample $(PROGRAM)
-
-opening:
-	@bench/opening.py $(PROGRAM)
-
-migration:
-	@bench/migration.py $(PROGRAM)
-
-hostile:
-	@tools/hostile $(PROGRAM) --long
-
-edits:
-	@tools/draw-hostile $(PROGRAM) --seconds 600
-
-front:
-	@tools/front --each $(PROGRAM)
-
-# For a machine that runs a host (docs/OPERATING.md). install: the proved program, or PROGRAM=.., its page for man, completions for
-# bash, units and nginx's configuration, below PREFIX=/usr/local, which is below DESTDIR where that is given; uninstall takes them
-# away. manual: makes the page and the completions of what the program's help says.
-.PHONY: install uninstall manual
-
-install:
-	@PREFIX="$(PREFIX)" DESTDIR="$(DESTDIR)" PROGRAM="$(PROGRAM)" tools/install
-
-uninstall:
+uninstall: ## takes away what install put there, and leaves every host
 	@PREFIX="$(PREFIX)" DESTDIR="$(DESTDIR)" tools/install --remove
 
-manual:
-	@tools/manual $(PROGRAM)
+deb: ## Debian's packages of it and of the gateway, in deploy/out; PROGRAM=path; PROGRAM_V3=path, one built for x86-64-v3
+	@PROGRAM="$(PROGRAM)" PROGRAM_V3="$(PROGRAM_V3)" GATEWAY="$(GATEWAY)" VERSION="$(VERSION)" INTO="$(INTO)" tools/deb
 
-# The gateway, a second program for stock S3 clients (gateway/, in Go; needs Debian's golang-go). gateway: builds it, as
-# gateway/out/gateway. s3: a tenant, a key, the gateway and an aws-cli, in one screen. test-gateway: its tests, before the proved
-# program. clients: stock S3 clients through it, each that is there, and docs/CLIENTS.md. serving-s3: puts and gets through it
-# beside bucketd itself, radosgw and nginx (bench/GATEWAY.md).
-.PHONY: gateway s3 test-gateway clients serving-s3
+manual: ## makes the page for man and the completions of what the program's help says
+	@tools/manual $(if $(PROGRAM),"$(PROGRAM)")
 
-gateway:
-	@if command -v go >/dev/null; then cd gateway && go build -o out/gateway . && echo gateway/out/gateway; else echo "no Go is here (Debian's golang-go): the gateway is not built"; fi
+gateway: ## builds the gateway for stock S3 clients, gateway/out/gateway (Debian's golang-go)
+	@gateway/build
 
-s3:
-	@tools/s3 $(PROGRAM)
-
-test-gateway:
-	@tools/test-gateway $(PROGRAM)
-
-clients:
-	@tools/clients $(PROGRAM)
-
-serving-s3:
-	@bench/gateway.py $(PROGRAM)
+s3: ## a tenant, a key, the gateway and an aws-cli, in one screen
+	@tools/s3 $(if $(PROGRAM),"$(PROGRAM)")

@@ -13,8 +13,7 @@ import sys
 import tempfile
 import time
 
-from events import program_of
-from server import SHARED_MEMORY, Server
+from server import SHARED_MEMORY, Server, proved_program
 
 FEW, MANY = 1000, 100000
 COUNT = 1000
@@ -58,7 +57,7 @@ def microseconds(program, rows):
 
 
 def main():
-    program = program_of(sys.argv[1:])
+    program = proved_program(sys.argv[1:])
     few, many = microseconds(program, FEW), microseconds(program, MANY)
     print(f"{'microseconds a block':>20} {FEW:>9} {MANY:>9} {'ratio':>6}")
     for kind, least, most in zip(KINDS, few, many):

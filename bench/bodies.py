@@ -12,14 +12,13 @@ the share of SHA-256 in puts of 16 MiB, by Linux's perf.
 """
 import os
 import re
-import shutil
 import statistics
 import subprocess
 import sys
 import tempfile
 import time
 
-from server import PlainServer, SHARED_MEMORY, Server
+from server import SHARED_MEMORY, PlainServer, Server, need, proved_program
 
 SIZES = [(1 << 10, 300), (1 << 16, 200), (1 << 20, 40), (1 << 24, 8)]
 COUNTS = [100, 1000, 10000]
@@ -78,9 +77,9 @@ def memory(program):
 
 def great(program):
     with in_folder(SHARED_MEMORY) as folder, Server(program, folder, limits=("--max-body", str(1 << 30))) as server:
-        took, _ = server.ask(b"PUT", "?versioning", b" " * (1 << 30), b"400 Bad Request")
+        took, _ = server.ask("PUT", "?versioning", b" " * (1 << 30), b"400 Bad Request")
         print(f"a document of 1 GiB, refused: peak {server.memory('VmHWM'):.0f} MB; {took / 1000:.1f} s", flush=True)
-        took, _ = server.ask(b"GET", "?versioning", b" " * (1 << 30))
+        took, _ = server.ask("GET", "?versioning", b" " * (1 << 30))
         print(f"1 GiB that nothing reads: peak {server.memory('VmHWM'):.0f} MB; {took / 1000:.1f} s", flush=True)
     body = os.urandom(1 << 30)
     with in_folder(SHARED_MEMORY) as folder, Server(program, folder, "--timeout", "2", limits=("--max-body", str(len(body)))) as server:
@@ -125,8 +124,7 @@ def shares(program, kind, act):
 
 
 def digest(program):
-    if not shutil.which("perf"):
-        sys.exit("perf isn't there: apt-get install linux-perf")
+    need(perf="linux-perf")
     shares(program, "PUT, new", lambda server, n, body: server.put(f"/x{n}", body))
     shares(program, "PUT, known", lambda server, n, body: server.put(f"/y{n}", body))
     shares(program, "GET", lambda server, n, body: server.get(f"/x{n}", body))
@@ -135,9 +133,7 @@ def digest(program):
 def main():
     parts = {"sizes": sizes, "growth": growth, "memory": memory, "great": great, "plain": plain, "digest": digest}
     words = sys.argv[1:]
-    program = os.path.abspath(words.pop(0) if words and words[0] not in parts else "crates/bucketd/out/bucketd")
-    if not os.path.exists(program):
-        sys.exit(f"{program} isn't there: 'make build' makes it")
+    program = proved_program([words.pop(0)] if words and words[0] not in parts else [])
     for name in words or parts:
         parts[name](program)
 

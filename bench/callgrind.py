@@ -8,9 +8,9 @@ import sys
 import time
 
 from events import request
+from server import make_host
 
 KEY = ("green$k1", "greensecret")
-FOLDER = "/dev/shm" if os.path.isdir("/dev/shm") else None
 
 
 def counted(folder, words, drive=None, text=None):
@@ -60,8 +60,7 @@ def serving(program, file, texts, *options):
 def filled(program, folder, first, *options):
     """A host, made with these options, with a tenant and its bucket, which a server has answered these."""
     file = os.path.join(folder, "host")
-    for words in (["init", *options], ["tenant-add", "--tenant", "green", "--quota", str(1 << 50)], ["key-add", "--tenant", "green", "--name", "k1", "--secret", "greensecret"]):
-        subprocess.run([program, words[0], "--file", file] + words[1:], check=True, stdout=subprocess.DEVNULL)
+    make_host(program, file, ["green"], *options, quota=1 << 50)
     words, drive = serving(program, file, [request("PUT", *KEY, "/plans", "")] + first)
     child = subprocess.Popen(words, stderr=subprocess.DEVNULL)
     drive()

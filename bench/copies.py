@@ -11,7 +11,7 @@ import subprocess
 import sys
 import tempfile
 
-from server import SHARED_MEMORY, Server
+from server import SHARED_MEMORY, Server, proved_program
 
 BENCH = os.path.dirname(os.path.abspath(__file__))
 SIZES = [1 << 20, 1 << 24]
@@ -37,17 +37,16 @@ class CountedServer(Server):
 
 
 def counted(program, folder, library, acts):
-    """The bytes copied by a server that is asked so, beside the connection that looks whether it listens."""
+    """The bytes copied by a server that is asked so, beside a connection that closes without a byte."""
     with CountedServer(program, folder, library, 1 + len(acts)) as server:
         for act in acts:
             act(server)
+        server.socket().close()
         return server.copied()
 
 
 def main():
-    program = os.path.abspath(sys.argv[1] if len(sys.argv) > 1 else "crates/bucketd/out/bucketd")
-    if not os.path.exists(program):
-        sys.exit(f"{program} isn't there: 'make build' makes it")
+    program = proved_program(sys.argv[1:])
     with tempfile.TemporaryDirectory(dir=SHARED_MEMORY) as folder:
         library = os.path.join(folder, "count_copies.so")
         words = ["cc", "-O2", "-fno-builtin", "-shared", "-fPIC", "-o", library, os.path.join(BENCH, "count_copies.c")]
@@ -58,7 +57,7 @@ def main():
         for size in SIZES:
             body, other = os.urandom(size), os.urandom(size)
             put, put_other = (lambda it: it.put("/x", body)), (lambda it: it.put("/y", other))
-            first = counted(program, folder, library, [put])
+            counted(program, folder, library, [put])
             for name, act in (("PUT", put_other), ("GET", lambda it: it.get("/x", body))):
                 opened = counted(program, folder, library, [])
                 print(f"{name:>8} {size:>9} {(counted(program, folder, library, [act]) - opened) / size:>21.2f}", flush=True)

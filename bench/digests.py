@@ -11,14 +11,13 @@ blocks of 65,536 bytes, one transaction a body, with a log that is synced (`jour
 """
 import hashlib
 import os
-import shutil
 import sqlite3
 import statistics
 import sys
 import tempfile
 import time
 
-from server import Asked, Server
+from server import Asked, Server, need, proved_program
 from serving import start_nginx
 
 SIZES = [(1 << 10, 200), (1 << 16, 100), (1 << 20, 30), (1 << 24, 8)]
@@ -37,7 +36,7 @@ class Nginx(Asked):
         self.process.wait()
 
     def put(self, key, body):
-        return self.ask(b"PUT", key, body, status=b"201 Created", headers=b"connection: close\r\n")[0]
+        return self.ask("PUT", key, body, status=b"201 Created", fields=["connection: close"])[0]
 
 
 def spent(process):
@@ -84,11 +83,8 @@ def commits(folder, bodies):
 
 
 def main():
-    program = os.path.abspath(sys.argv[1] if len(sys.argv) > 1 else "crates/bucketd/out/bucketd")
-    if not os.path.exists(program):
-        sys.exit(f"{program} isn't there: 'make build' makes it")
-    if not shutil.which("nginx"):
-        sys.exit("nginx isn't there: apt-get install nginx-light")
+    program = proved_program(sys.argv[1:])
+    need(nginx="nginx-light")
     with tempfile.TemporaryDirectory(dir=os.environ.get("FOLDER", ".")) as folder:
         places = {name: os.path.join(os.path.abspath(folder), name) for name in ("sha256", "fast", "nginx")}
         for place in places.values():

@@ -40,11 +40,3 @@ def answered(program, first, last):
     if process.wait() != 0 or text.count(MARK) != MARKS:
         sys.exit(f"an event was answered otherwise than it should be: status {process.returncode}, {bytes(text[-300:])}")
     return bytes(text).replace(MARK, b""), 1e6 * (begun - started), 1e6 * (ended - begun)
-
-
-def program_of(words):
-    """The bucketd that was named, or the proved one."""
-    path = os.path.abspath(words[0] if words else "crates/bucketd/out/bucketd")
-    if not os.path.exists(path):
-        sys.exit(f"{path} isn't there: 'make build' makes it")
-    return path

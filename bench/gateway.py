@@ -22,13 +22,11 @@ import socket
 import subprocess
 import sys
 import tempfile
-import time
 import uuid
 
-TOP = os.path.dirname(os.path.dirname(os.path.abspath(__file__)))
-sys.path.insert(0, os.path.join(TOP, "tools"))
-from s3_requests import build_gateway, make_host  # noqa: E402
-from server import free_port  # noqa: E402
+from server import TOP, await_listener, free_port, proved_program
+from host import Program
+from s3_requests import build_gateway, make_host, write_keys
 
 SIZES = [(1 << 10, "1 KiB"), (1 << 16, "64 KiB"), (1 << 20, "1 MiB"), (1 << 24, "16 MiB")]
 CLIENTS = [1, 8, 64]
@@ -68,31 +66,20 @@ rgw frontends = beast endpoint=127.0.0.1:{port} tcp_nodelay=1
 """
 
 
-def wait_for(port):
-    for _ in range(3000):
-        try:
-            return socket.create_connection(("127.0.0.1", port), timeout=5).close()
-        except ConnectionRefusedError:
-            time.sleep(0.02)
-    sys.exit("a server didn't start")
-
-
-class Server:
-    """A process, and how the load asks it."""
+class Server(Program):
+    """A process that listens, how the load asks it, and other processes that end with it."""
 
     def __init__(self, name, words, port, mode="s3", id="green$k1", scheme="http", more=()):
-        self.name, self.mode, self.id, self.url = name, mode, id, f"{scheme}://127.0.0.1:{port}"
-        self.process, self.more = subprocess.Popen(words, stdout=subprocess.DEVNULL, stderr=subprocess.DEVNULL), more
-        wait_for(port)
-
-    def peak(self):
-        with open(f"/proc/{self.process.pid}/status") as text:
-            return int(re.search(r"VmHWM:\s+(\d+)", text.read()).group(1)) / 1024
+        super().__init__(words, port)
+        self.name, self.mode, self.id, self.url, self.more = name, mode, id, f"{scheme}://127.0.0.1:{port}", more
+        if not await_listener(self.process, port):
+            sys.exit(f"{name} didn't start: {self.lines()}")
 
     def end(self):
-        for it in (self.process, *self.more):
+        for it in self.more:
             it.terminate()
-        for it in (self.process, *self.more):
+        super().end(signal.SIGTERM)
+        for it in self.more:
             it.wait()
 
 
@@ -164,8 +151,7 @@ def added(tests, builds, folder, program, sizes, seconds):
     """Medians in turns of bare bucketd (or the stand-in) and of gateways before it, by a bare socket and by Go's client of HTTP."""
     at, port = os.path.join(folder, "ours"), free_port()
     if program == "stand-in":
-        with open(os.open(os.path.join(at, "keys"), os.O_CREAT | os.O_WRONLY, 0o600), "w") as keys:
-            keys.write("green$k1 greensecret\n")
+        write_keys(at, ["green"])
         os.environ["STANDIN"] = f"127.0.0.1:{port}"
         words = [tests, "-test.run", "^TestStandin$", "-test.timeout", "0"]
     else:
@@ -177,7 +163,7 @@ def added(tests, builds, folder, program, sizes, seconds):
                 it = start_gateway(f"{os.path.basename(build)}, {name}", build, folder, "--host", f"127.0.0.1:{port}", "--alone")
                 it.mode = mode
                 servers.append(it)
-        print("| Request | | median, ms | added | quartile | added | processor time, ms |\n|---|---|---|---|---|---|---|", flush=True)
+        print("| Request | | median, ms | added | least | added | processor time, ms |\n|---|---|---|---|---|---|---|", flush=True)
         for size, shown in sizes:
             for method in ("PUT", "GET"):
                 plans = [{"Mode": it.mode, "URL": it.url, "ID": it.id, "Secret": "greensecret", "Method": method, "Size": size, "Seconds": seconds,
@@ -185,7 +171,7 @@ def added(tests, builds, folder, program, sizes, seconds):
                 done = subprocess.run([tests, "-test.run", "^TestAdded$", "-test.v"], env={**os.environ, "ADDED": json.dumps(plans)}, capture_output=True, text=True)
                 found = [json.loads(it) for it in re.findall(r"^ADDED (.*)$", done.stdout, re.M)]
                 for server, it in zip(servers, found):
-                    more = [f"{it[name]:.3f} | {it[name] - found[0][name]:.3f}" for name in ("p50", "p25")]
+                    more = [f"{it[name]:.3f} | {it[name] - found[0][name]:.3f}" for name in ("p50", "least")]
                     print(f"| {method} {shown} | {server.name} | {more[0]} | {more[1]} | {it['spent']:.3f} |", flush=True)
                 print(f"{method} {shown}: {found[0]['count']} requests each" if found else done.stdout[-500:], file=sys.stderr)
     finally:
@@ -223,7 +209,7 @@ def memory(tests, build, folder, host, sizes, seconds):
         for method in ("PUT", "GET"):
             it = start_gateway("gateway", build, folder, "--host", f"127.0.0.1:{host}", "--alone")
             load(tests, it, method, size, 64, seconds)
-            print(f"| {method} {shown} | {it.peak():.0f} |", flush=True)
+            print(f"| {method} {shown} | {it.memory('VmHWM'):.0f} |", flush=True)
             it.end()
 
 
@@ -254,15 +240,13 @@ def main():
     if program == "stand-in":
         tables = ["added"]
     else:
-        program = os.path.abspath(program)
-        if not os.path.exists(program):
-            sys.exit(f"{program} isn't there: 'make build' makes it")
+        program = proved_program([program])
     with tempfile.TemporaryDirectory(dir=os.environ.get("FOLDER", ".")) as folder:
         folder = os.path.abspath(folder)
         build, tests, ours = build_gateway(folder), os.path.join(folder, "tests"), os.path.join(folder, "ours")
         if not build:
             sys.exit("no Go is here: apt-get install golang-go")
-        subprocess.run(["go", "test", "-c", "-o", tests, "."], cwd=os.path.join(TOP, "gateway"), check=True)
+        subprocess.run(["go", "test", "-c", "-o", tests, "./internal/s3"], cwd=os.path.join(TOP, "gateway"), check=True)
         subprocess.run("openssl req -x509 -newkey ec -pkeyopt ec_paramgen_curve:prime256v1 -nodes -keyout tls.key -out tls.pem -days 2 -subj /CN=localhost".split(),
                        cwd=folder, check=True, capture_output=True)
         os.makedirs(ours)

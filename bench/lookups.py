@@ -10,7 +10,8 @@ the greater table takes more than 3 times as long.
 import re
 import sys
 
-from events import answered, line, program_of, request
+from events import answered, line, request
+from server import proved_program
 
 FEW, MANY = 1000, 100000
 LOOKUPS = 10000
@@ -71,7 +72,7 @@ def run(program, script, is_right):
 
 
 def main():
-    program = program_of(sys.argv[1:])
+    program = proved_program(sys.argv[1:])
     print(f"{'lookup':>12} {'rows':>7} {'filled in, s':>12} {'lookups':>8} {'microseconds a lookup':>21} {'ratio':>6}")
     is_flat = True
     for lookup in (authenticate, get):

@@ -20,28 +20,19 @@ import sys
 import tempfile
 import time
 
-TOP = os.path.dirname(os.path.dirname(os.path.abspath(__file__)))
-sys.path.insert(0, os.path.join(TOP, "tools"))
-from s3_requests import Client, Gateway, build_gateway, make_host  # noqa: E402
+from server import SHARED_MEMORY as FOLDER, proved_program, request
+from s3_requests import Client, Gateway, build_gateway, make_host
 
-FOLDER = "/dev/shm" if os.path.isdir("/dev/shm") else None
-HEAD = "%s %s HTTP/1.1\r\nhost: h\r\nx-access-key: green$k1\r\nx-secret-key: greensecret\r\n%s\r\n"
 
 
 def key(n):
     return f"d{n // 1000:04d}/k{n % 1000:03d}"
 
 
-def inner_port(gateway):
-    with open(f"/proc/{gateway.child()}/cmdline") as text:
-        words = text.read().split("\0")
-    return int(words[words.index("--port") + 1])
-
-
 def bare(port, method, target):
     """An answer of bucketd itself."""
     with socket.create_connection(("127.0.0.1", port)) as link:
-        link.sendall((HEAD % (method, target, "content-length: 0\r\n" if method == "PUT" else "")).encode())
+        link.sendall(request("green", method, target, b"" if method == "PUT" else None))
         answer = b""
         while part := link.recv(1 << 20):
             answer += part
@@ -52,7 +43,7 @@ def bare(port, method, target):
 
 def put(build, program, folder, count):
     gateway = Gateway(build, program, folder)
-    port = inner_port(gateway)
+    port = gateway.inner_port()
     bare(port, "PUT", "/plans")
     begun = time.monotonic()
     for n in range(count):
@@ -123,9 +114,7 @@ def main():
     while words[:1] in (["--keys"], ["--puts"]):
         count, puts = (int(words[1]), puts) if words[0] == "--keys" else (count, int(words[1]))
         words = words[2:]
-    program = os.path.abspath(words[0] if words else os.path.join(TOP, "crates/bucketd/out/bucketd"))
-    if not os.path.exists(program):
-        sys.exit(f"{program} isn't there: 'make build' makes it")
+    program = proved_program(words)
     print(f"load before: {open('/proc/loadavg').read().split()[:3]}")
     with tempfile.TemporaryDirectory(dir=FOLDER) as folder:
         build = build_gateway(folder)
@@ -136,7 +125,7 @@ def main():
         write_rows(os.path.join(folder, "host"), puts, count)
         gateway = Gateway(build, program, folder)
         try:
-            client, port = Client(gateway.port), inner_port(gateway)
+            client, port = Client(gateway.port), gateway.inner_port()
             pages("the gateway", count, lambda query: client.ask("GET", "/plans", query=query)[2].decode(),
                   lambda text: (re.findall("<NextContinuationToken>(.*?)<", text) or [None])[0], lambda text: re.findall("<Key>(.*?)</Key>", text))
             pages("bucketd", count, lambda query: json.loads(bare(port, "GET", "/plans?" + query).split(b"\r\n\r\n", 1)[1]),

@@ -15,8 +15,8 @@ import statistics
 import sys
 import tempfile
 
-from opening import PROGRAM, fill, listens, make, sum_of, used
-from server import SHARED_MEMORY, Server
+from opening import fill, listens, make, sum_of, used
+from server import SHARED_MEMORY, Server, proved_program
 
 PAGE, HEAD, FRAME = 4096, 32, 4096 + 24
 TURNS = 9
@@ -66,7 +66,7 @@ def measured(program, megabytes):
     try:
         file, kept = make(program, folder, PAGE, True), {it: os.path.join(folder, f"version-{it}") for it in (1, 2, 3)}
         with Server(program, folder) as on:
-            on.ask(b"PUT", "", b"")
+            on.ask("PUT", "", b"")
         fill(program, folder, megabytes * 10**6)
         used(program, file)
         for version in (2, 1):
@@ -89,7 +89,7 @@ def measured(program, megabytes):
 
 
 def main():
-    program = os.path.abspath(sys.argv[1]) if sys.argv[1:] else PROGRAM
+    program = proved_program(sys.argv[1:2])
     print("| File, MB | of version | opened, s of a processor, least | the middle one | pages written |\n|---|---|---|---|---|")
     results = [measured(program, it) for it in [int(it) for it in sys.argv[2:]] or [1, 100]]
     sys.exit(0 if all(results) else 1)

@@ -20,10 +20,8 @@ import sys
 import tempfile
 import time
 
-from server import SHARED_MEMORY, Server, free_port
+from server import SHARED_MEMORY, Server, await_listener, free_port, make_host, proved_program
 
-TOP = os.path.dirname(os.path.dirname(os.path.abspath(__file__)))
-PROGRAM = os.path.join(TOP, "crates/bucketd/out/bucketd")
 OBJECT = 4 << 20
 # Bytes that the log may have where it isn't copied into the file yet: fewer than 10,000 pages of 4 KiB.
 LOGGED = 32 << 20
@@ -60,12 +58,7 @@ def make(program, folder, size, has_sums):
     file = os.path.join(folder, "host")
     if (size, has_sums) != (4096, True):
         make_empty(file, size, has_sums)
-    words = [["init"], ["tenant-add", "--tenant", "green", "--quota", str(1 << 40)], ["key-add", "--tenant", "green", "--name", "k1", "--secret", "greensecret"]]
-    for command, *options in words:
-        done = subprocess.run([program, command, "--file", file, *options], capture_output=True, text=True)
-        if done.returncode != 0:
-            sys.exit(f"{command} on pages of {size} bytes{' with sums' if has_sums else ''}: {done.stdout}{done.stderr}")
-    return file
+    return make_host(program, file, ["green"])
 
 
 def fill(program, folder, total):
@@ -81,13 +74,10 @@ def listens(program, file):
     """Seconds until a server listens, by the clock and of a processor, and the greatest resident memory so far in 2^20 bytes. It is
     killed then."""
     port = free_port()
-    table = f"0100007F:{port:04X}"
     before = time.perf_counter()
     process = subprocess.Popen([program, "serve", "--file", file, "--port", str(port), "--count", "1"], stderr=subprocess.DEVNULL)
-    while not any(line.split()[1] == table for line in open("/proc/net/tcp")):
-        if process.poll() is not None:
-            sys.exit("the server doesn't open the file")
-        time.sleep(0.002)
+    if not await_listener(process, port):
+        sys.exit("the server doesn't open the file")
     seconds = time.perf_counter() - before
     with open(f"/proc/{process.pid}/status") as status:
         memory = int(re.search(r"VmHWM:\s+(\d+)", status.read()).group(1)) / 1024
@@ -111,7 +101,7 @@ def row(program, file, name, size, has_sums):
 
 
 def main():
-    program = os.path.abspath(sys.argv[1]) if sys.argv[1:] else PROGRAM
+    program = proved_program(sys.argv[1:2])
     sizes = [int(it) for it in sys.argv[2:]] or [10, 100]
     print("| File, MB | Log, MB | Pages | after | until it listens, s | of a processor, s | resident, MB | `usage`, s |\n|---|---|---|---|---|---|---|---|")
     for megabytes in sizes:
@@ -120,7 +110,7 @@ def main():
             try:
                 file = make(program, folder, size, has_sums)
                 with Server(program, folder) as on:
-                    on.ask(b"PUT", "", b"")
+                    on.ask("PUT", "", b"")
                 fill(program, folder, megabytes * 10**6)
                 used(program, file)
                 row(program, file, "a clean end", size, has_sums)

@@ -15,12 +15,12 @@ import sys
 import tempfile
 import time
 
-from events import answered, line, program_of, request
+from events import answered, line, request
+from server import SHARED_MEMORY as FOLDER, proved_program
 
 REQUESTS = 200
 GREATEST_RATIO = 1.5
 STEP = 7919
-FOLDER = "/dev/shm" if os.path.isdir("/dev/shm") else None
 
 
 def http(method, path, body=None):
@@ -66,7 +66,7 @@ def sqlite_milliseconds(keys, starts):
 
 
 def main():
-    program = program_of(sys.argv[1:])
+    program = proved_program(sys.argv[1:])
     print("milliseconds a page".ljust(44) + f"{'bucketd':>10}{'SQLite':>10}")
     pages = []
     for many in (10_000, 100_000):

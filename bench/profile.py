@@ -15,12 +15,12 @@ what runs beside it, and say nothing of the kernel. Each byte that the C library
 `rep movsb` (a `memset` of 4 KiB, a `memcpy` of 64 KiB) counts as an instruction.
 """
 import argparse
-import os
 import sys
 import tempfile
 
-from callgrind import FOLDER, KEY, counted, filled, served
+from callgrind import KEY, counted, filled, served
 from events import line, request
+from server import SHARED_MEMORY as FOLDER, proved_program
 
 NOW = 1_700_000_000
 FEW = {1024: 20, 65536: 10, 16777216: 1}
@@ -95,12 +95,10 @@ def main():
     parser = argparse.ArgumentParser(usage=__doc__)
     parser.add_argument("--digest", default="sha256")
     parser.add_argument("--cache-blocks", default="0")
-    parser.add_argument("program", nargs="?", default="crates/bucketd/out/bucketd")
+    parser.add_argument("program", nargs="?")
     parser.add_argument("sizes", nargs="*", type=int, default=sorted(FEW))
     options = parser.parse_args()
-    program = os.path.abspath(options.program)
-    if not os.path.exists(program):
-        sys.exit(f"{program} isn't there: 'make build' makes it")
+    program = proved_program([options.program] if options.program else [])
     for size in options.sizes:
         profiled(program, size, ["--digest", options.digest], ["--cache-blocks", options.cache_blocks])
 

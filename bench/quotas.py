@@ -12,8 +12,8 @@ import re
 import sys
 import tempfile
 
-from events import answered, line, program_of, request
-from server import SHARED_MEMORY, Server
+from events import answered, line, request
+from server import SHARED_MEMORY, Server, proved_program
 
 REQUESTS = 500
 GREATEST_RATIO = 1.3
@@ -53,7 +53,7 @@ def served_microseconds(program, objects):
 
 
 def main():
-    program = program_of(sys.argv[1:])
+    program = proved_program(sys.argv[1:])
     shapes = [10, 1000, 10_000]
     objects = {many: [http("PUT", f"/plans/k{n}", "") for n in range(many)] for many in shapes}
     timed = {

@@ -8,7 +8,6 @@ Four tenants put and get objects in turn. Each list is a script of 1,000 or of 5
 """
 import hashlib
 import os
-import resource
 import subprocess
 import sys
 import tempfile
@@ -16,6 +15,7 @@ import time
 
 import events
 from events import line
+from server import proved_program
 
 TENANTS = ["green", "blue", "red", "white"]
 GREATEST_SCRIPT = 1 << 26
@@ -45,9 +45,7 @@ def script(requests, size):
 
 
 def main():
-    program = sys.argv[1] if len(sys.argv) > 1 else "crates/bucketd/out/bucketd"
-    if not os.path.exists(program):
-        sys.exit(f"{program} isn't there: 'make build' makes it")
+    program = proved_program(sys.argv[1:])
     print(f"{'requests':>9} {'puts':>6} {'body':>7} {'seconds':>8} {'requests/s':>11} {'body MB/s':>10} {'peak MB':>8} {'in + out MB':>12} {'SHA-256 alone, s':>17}")
     for size in (1024, 65536):
         for requests in (1000, 5000):

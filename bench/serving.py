@@ -8,45 +8,19 @@ in the environment names another place). Requests come one after another.
 """
 import os
 import re
-import shutil
-import socket
 import subprocess
 import sys
 import tempfile
-import time
+
+from server import Server, await_listener, free_port, need, proved_program
 
 SIZES = [(1 << 10, 2000), (1 << 16, 1000), (1 << 20, 200), (1 << 24, 20)]
 FIELDS = ["-H", "x-access-key: green$k1", "-H", "x-secret-key: greensecret"]
 CONFIG = """{user}daemon off; worker_processes 1; pid {at}/pid; error_log {at}/error.log;
 events {{}}
-http {{ access_log off; client_max_body_size 32m; client_body_temp_path {at}/temp; proxy_temp_path {at}/t1; fastcgi_temp_path {at}/t2;
+http {{ sendfile on; tcp_nopush on; access_log off; client_max_body_size 32m; client_body_temp_path {at}/temp; proxy_temp_path {at}/t1; fastcgi_temp_path {at}/t2;
 uwsgi_temp_path {at}/t3; scgi_temp_path {at}/t4; server {{ listen 127.0.0.1:{port}; location / {{ root {at}/files; dav_methods PUT DELETE; }} }} }}
 """
-
-
-def free_port():
-    with socket.socket() as s:
-        s.bind(("127.0.0.1", 0))
-        return s.getsockname()[1]
-
-
-def wait_for(port):
-    for _ in range(500):
-        try:
-            return socket.create_connection(("127.0.0.1", port), timeout=5).close()
-        except ConnectionRefusedError:
-            time.sleep(0.02)
-    sys.exit("a server didn't start")
-
-
-def start_bucketd(program, folder):
-    file, port = os.path.join(folder, "host"), free_port()
-    for words in (["init"], ["tenant-add", "--tenant", "green", "--quota", str(1 << 40)], ["key-add", "--tenant", "green", "--name", "k1", "--secret", "greensecret"]):
-        subprocess.run([program, words[0], "--file", file, *words[1:]], check=True, stdout=subprocess.DEVNULL)
-    server = subprocess.Popen([program, "serve", "--file", file, "--port", str(port), "--count", str(1 << 30)])
-    wait_for(port)
-    subprocess.run(["curl", "-s", "-X", "PUT", "-d", "", *FIELDS, f"http://127.0.0.1:{port}/plans"], check=True)
-    return server, port
 
 
 def start_nginx(folder):
@@ -57,7 +31,7 @@ def start_nginx(folder):
     with open(os.path.join(folder, "nginx.conf"), "w") as out:
         out.write(CONFIG.format(user=user, at=folder, port=port))
     server = subprocess.Popen(["nginx", "-c", os.path.join(folder, "nginx.conf")], stderr=subprocess.DEVNULL)
-    wait_for(port)
+    await_listener(server, port)
     return server, port
 
 
@@ -75,23 +49,14 @@ def ab(port, requests, body=None):
     return median, float(re.search(r"Requests per second:\s+([\d.]+)", text).group(1))
 
 
-def resident(process):
-    with open(f"/proc/{process.pid}/status") as file:
-        return int(re.search(r"VmRSS:\s+(\d+)", file.read()).group(1)) / 1024
-
-
 def main():
-    program = sys.argv[1] if len(sys.argv) > 1 else "crates/bucketd/out/bucketd"
-    if not os.path.exists(program):
-        sys.exit(f"{program} isn't there: 'make build' makes it")
-    for tool in ("nginx", "ab", "curl"):
-        if not shutil.which(tool):
-            sys.exit(f"{tool} isn't there: apt-get install nginx-light apache2-utils curl")
+    program = proved_program(sys.argv[1:])
+    need(nginx="nginx-light", ab="apache2-utils")
     with tempfile.TemporaryDirectory(dir=os.environ.get("FOLDER", ".")) as folder:
         folder = os.path.abspath(folder)
         os.makedirs(os.path.join(folder, "ours"))
         os.makedirs(os.path.join(folder, "nginx"))
-        ours, port = start_bucketd(program, os.path.join(folder, "ours"))
+        ours = Server(program, os.path.join(folder, "ours"))
         nginx, other = start_nginx(os.path.join(folder, "nginx"))
         try:
             print(f"{'request':>8} {'bytes':>9} {'bucketd ms':>11} {'nginx ms':>9} {'ratio':>6} {'bucketd/s':>10} {'nginx/s':>9} {'resident MB':>12}")
@@ -102,12 +67,11 @@ def main():
                 for kind in ("PUT", "GET"):
                     sent = body if kind == "PUT" else None
                     theirs, their_rate = ab(other, requests, sent)
-                    our, our_rate = ab(port, requests, sent)
-                    print(f"{kind:>8} {size:>9} {our:>11.3f} {theirs:>9.3f} {our / theirs:>6.2f} {our_rate:>10.0f} {their_rate:>9.0f} {resident(ours):>12.1f}", flush=True)
+                    our, our_rate = ab(ours.port, requests, sent)
+                    print(f"{kind:>8} {size:>9} {our:>11.3f} {theirs:>9.3f} {our / theirs:>6.2f} {our_rate:>10.0f} {their_rate:>9.0f} {ours.memory('VmRSS'):>12.1f}", flush=True)
         finally:
-            ours.kill()
+            ours.end()
             nginx.terminate()
-            ours.wait()
             nginx.wait()
 
 

@@ -14,17 +14,13 @@ import argparse
 import json
 import os
 import re
-import shutil
 import socket
 import subprocess
 import sys
 import tempfile
-import time
 from http.client import HTTPConnection
 
-TOP = os.path.dirname(os.path.dirname(os.path.abspath(__file__)))
-sys.path.insert(0, os.path.join(TOP, "tools"))
-from served import Server, command, free_port, listens
+from server import TOP, await_listener, command, free_port, host, need, proved_program
 
 CONNECTIONS = 32
 SIZE = 1024
@@ -58,7 +54,7 @@ class Host:
     def __init__(self, program, file, tenants):
         command(program, file, "init")
         operators = free_port()
-        self.server = Server(program, file, "--operator-port", str(operators), said=subprocess.DEVNULL)
+        self.server = host.Server(program, file, "--operator-port", str(operators))
         self.port = self.server.port
         for tenant in tenants:
             answers = [told(operators, "tenant-add", tenant, quota=1 << 40), told(operators, "key-add", tenant, name="k1", secret=tenant + "secret")]
@@ -106,10 +102,8 @@ class Front:
             with open(os.path.join(folder, name), "w") as out:
                 out.write(text)
         self.process = subprocess.Popen(["nginx", "-c", os.path.join(folder, "nginx.conf")], stderr=subprocess.DEVNULL)
-        while not listens(self.port):
-            if self.process.poll() is not None:
-                sys.exit("nginx doesn't start")
-            time.sleep(0.01)
+        if not await_listener(self.process, self.port):
+            sys.exit("nginx doesn't start")
 
     def end(self):
         self.process.terminate()
@@ -149,17 +143,13 @@ def measured(program, folder, number, options):
 
 def main():
     parser = argparse.ArgumentParser(usage=__doc__)
-    parser.add_argument("program", nargs="?", default="crates/bucketd/out/bucketd")
+    parser.add_argument("program", nargs="*")
     parser.add_argument("--tenants", type=int, default=40)
     parser.add_argument("--seconds", type=int, default=5)
     parser.add_argument("--hosts", default="1,2,4")
     options = parser.parse_args()
-    program = os.path.abspath(options.program)
-    if not os.path.exists(program):
-        sys.exit(f"{program} isn't there: 'make build' makes it")
-    for tool in ("nginx", "wrk"):
-        if not shutil.which(tool):
-            sys.exit(f"{tool} isn't there: apt-get install nginx-light wrk")
+    program = proved_program(options.program)
+    need(nginx="nginx-light", wrk="wrk")
     print(f"{'hosts':>5} {'GET/s':>8} {'of linear':>9} {'PUT/s':>8} {'of linear':>9}")
     first = None
     for number in map(int, options.hosts.split(",")):

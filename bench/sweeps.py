@@ -14,8 +14,7 @@ import sys
 import tempfile
 import time
 
-from events import program_of
-from server import SHARED_MEMORY, Server
+from server import SHARED_MEMORY, Server, proved_program
 
 DUE = 1000
 EACH = 100
@@ -33,11 +32,11 @@ def filled(program, folder, tenants):
         command(program, "key-add", file, "--tenant", tenant, "--name", "k1", "--secret", "greensecret")
     with Server(program, folder) as server:
         for tenant, is_deleted in tenants:
-            server.ask(b"PUT", "", b"", tenant=tenant)
+            server.ask("PUT", "", b"", tenant=tenant)
             for n in range(EACH):
-                server.ask(b"PUT", f"/k{n}", b"%s has %d" % (tenant.encode(), n), tenant=tenant)
+                server.ask("PUT", f"/k{n}", b"%s has %d" % (tenant.encode(), n), tenant=tenant)
                 if is_deleted:
-                    server.ask(b"DELETE", f"/k{n}", status=b"204 No Content", tenant=tenant)
+                    server.ask("DELETE", f"/k{n}", status=b"204 No Content", tenant=tenant)
     return file
 
 
@@ -78,7 +77,7 @@ def measured(program, used):
 
 
 def main():
-    program = program_of(sys.argv[1:])
+    program = proved_program(sys.argv[1:])
     print(f"{'blocks in use':>14} {'removed, us each':>17} {'passed over, us each':>21} {'report, ms':>11}")
     for used in (10_000, 100_000):
         idle, swept, report = measured(program, used)

@@ -15,9 +15,9 @@ import tempfile
 import threading
 import time
 
-from server import CREDENTIALS, Server, free_port
+from server import Server, free_port, proved_program, request
 
-GET = b"GET /plans/x HTTP/1.1\r\n" + CREDENTIALS + b"\r\n"
+GET = request("green", "GET", "/plans/x", None)
 LINE = b'{"op":"usage","tenant":"green"}\n'
 ROUNDS, SECONDS = 6, 2
 
@@ -47,15 +47,9 @@ def client(port, until, counts, slot):
         counts[slot] += 1
 
 
-def processor(server):
-    """The microseconds of a processor that a server has taken."""
-    with open(f"/proc/{server.process.pid}/schedstat") as text:
-        return int(text.read().split()[0]) / 1000
-
-
 def rate(server, clients, beside=None):
     """Gets a second, and the server's microseconds for one; and what is done beside them."""
-    port, before = server.port, processor(server)
+    port, before = server.port, server.spent()
     counts, until = [0] * clients, time.monotonic() + SECONDS
     threads = [threading.Thread(target=client, args=(port, until, counts, slot)) for slot in range(clients)]
     for thread in threads:
@@ -64,7 +58,7 @@ def rate(server, clients, beside=None):
         beside(until)
     for thread in threads:
         thread.join()
-    return sum(counts) / SECONDS, (processor(server) - before) / max(sum(counts), 1)
+    return sum(counts) / SECONDS, 1e6 * (server.spent() - before) / max(sum(counts), 1)
 
 
 def timed(port, data, wanted, took):
@@ -89,7 +83,7 @@ def told(name, took):
 
 
 def main():
-    program = os.path.abspath(sys.argv[1] if sys.argv[1:] else "crates/bucketd/out/bucketd")
+    program = proved_program(sys.argv[1:])
     folder = tempfile.mkdtemp(dir="/dev/shm")
     servers = []
     try:

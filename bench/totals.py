@@ -13,9 +13,9 @@ import statistics
 import sys
 import tempfile
 
-from callgrind import FOLDER, KEY, filled, served
-from events import answered, line, program_of, request
-from server import SHARED_MEMORY, Server
+from callgrind import KEY, filled, served
+from events import answered, line, request
+from server import SHARED_MEMORY, Server, proved_program
 
 NOW = 1_700_000_000
 FEW, MORE = 10, 60
@@ -32,7 +32,7 @@ def puts(name, many, size):
 
 def instructions(program, objects, last):
     """Those of one of the last requests, where the tenant has so many objects: two servers on copies of a file differ by them."""
-    with tempfile.TemporaryDirectory(dir=FOLDER) as folder:
+    with tempfile.TemporaryDirectory(dir=SHARED_MEMORY) as folder:
         file = filled(program, folder, puts("k", objects, 16))
         few, many = (sum(served(program, file, last[:count]).values()) for count in (FEW, FEW + MORE))
         return (many - few) / MORE
@@ -74,8 +74,8 @@ def copy_milliseconds(program):
     body = os.urandom(1 << 24)
     with tempfile.TemporaryDirectory(dir=SHARED_MEMORY) as folder, Server(program, folder) as server:
         server.put("/one", body)
-        copies = [server.ask(b"PUT", f"/c{n}", b"", headers=b"x-amz-copy-source: /plans/one\r\n")[0] for n in range(COPIES)]
-        deletes = [server.ask(b"DELETE", f"/c{n}", status=b"204 No Content")[0] for n in range(COPIES)]
+        copies = [server.ask("PUT", f"/c{n}", b"", fields=["x-amz-copy-source: /plans/one"])[0] for n in range(COPIES)]
+        deletes = [server.ask("DELETE", f"/c{n}", status=b"204 No Content")[0] for n in range(COPIES)]
     return statistics.median(copies), statistics.median(deletes)
 
 
@@ -87,7 +87,7 @@ def told(name, found):
 
 
 def main():
-    programs = [program_of(sys.argv[1:2]), *(os.path.abspath(it) for it in sys.argv[2:3])]
+    programs = [proved_program(sys.argv[1:2]), *(os.path.abspath(it) for it in sys.argv[2:3])]
     last = puts("new", FEW + MORE, 1024)
     few, many = (told(f"PUT of 1 KiB among {it:,} objects, instructions", [instructions(program, it, last) for program in programs]) for it in OBJECTS)
     told("GET /?usage at 10,000 objects, ms", [usage_milliseconds(it) for it in programs])

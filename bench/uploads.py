@@ -10,12 +10,10 @@ more than 1.5 times as long among 10,000 in any of them.
 import base64
 import hashlib
 import json
-import os
-import subprocess
 import sys
 import tempfile
 
-from server import SHARED_MEMORY, Server
+from server import SHARED_MEMORY, Server, proved_program
 
 FEW, MANY = 1000, 10_000
 RUNS = 3
@@ -26,19 +24,19 @@ KINDS = ["put", "completed", "read", "aborted"]
 class AnyParts(Server):
     """A host whose parts may have any size."""
 
-    def command(self, program, name, *words):
-        super().command(program, name, *words, *(["--min-part", "0"] if name == "init" else []))
+    def __init__(self, program, folder):
+        super().__init__(program, folder, limits=("--min-part", "0"))
 
     def begin(self):
-        return json.loads(self.ask(b"POST", "/x?uploads", b"")[1])["UploadId"]
+        return json.loads(self.ask("POST", "/x?uploads", b"")[1])["UploadId"]
 
     def put_parts(self, upload, count):
         """The milliseconds of all."""
-        return sum(self.ask(b"PUT", f"/x?uploadId={upload}&partNumber={part}", b"%d" % (part % 10))[0] for part in range(count, 0, -1))
+        return sum(self.ask("PUT", f"/x?uploadId={upload}&partNumber={part}", b"%d" % (part % 10))[0] for part in range(count, 0, -1))
 
     def complete(self, upload, count):
         named = json.dumps({"Parts": [{"PartNumber": part} for part in range(1, count + 1)]}, separators=(",", ":")).encode()
-        milliseconds, told = self.ask(b"POST", f"/x?uploadId={upload}", named)
+        milliseconds, told = self.ask("POST", f"/x?uploadId={upload}", named)
         digests = b"".join(hashlib.sha256(b"%d" % (part % 10)).digest() for part in range(1, count + 1))
         wanted = f"{base64.b64encode(hashlib.sha256(digests).digest()).decode()}-{count}"
         if json.loads(told)["ChecksumSHA256"] != wanted:
@@ -55,7 +53,7 @@ def milliseconds_a_part(program, count):
         read = server.get("/x", b"".join(b"%d" % (part % 10) for part in range(1, count + 1)))
         upload = server.begin()
         server.put_parts(upload, count)
-        aborted = server.ask(b"DELETE", f"/x?uploadId={upload}", status=b"204 No Content")[0]
+        aborted = server.ask("DELETE", f"/x?uploadId={upload}", status=b"204 No Content")[0]
     return [time / count for time in (put, completed, read, aborted)]
 
 
@@ -64,7 +62,7 @@ def least(program, count):
 
 
 def main():
-    program = sys.argv[1] if len(sys.argv) > 1 else "crates/bucketd/out/bucketd"
+    program = proved_program(sys.argv[1:])
     few, many = least(program, FEW), least(program, MANY)
     print(f"{'milliseconds a part':>20} {FEW:>9} {MANY:>9} {'ratio':>6}")
     for kind, short, long in zip(KINDS, few, many):

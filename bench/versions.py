@@ -10,7 +10,8 @@ with 10.
 import re
 import sys
 
-from events import answered, line, program_of, request
+from events import answered, line, request
+from server import proved_program
 
 REQUESTS = 5000
 GREATEST_RATIO = 2
@@ -54,7 +55,7 @@ def microseconds(program, kind, versions, keys):
 
 
 def main():
-    program = program_of(sys.argv[1:])
+    program = proved_program(sys.argv[1:])
     shapes = [(10, 1), (100, 1), (10000, 1), (1, 10000)]
     print("microseconds a request".ljust(24) + "".join(f"{f'{versions} x {keys} keys':>18}" for versions, keys in shapes))
     kinds = ["get newest", "head newest", "get by id", "put", "delete"]

@@ -1,4 +1,4 @@
-# made by tools/manual of what 'bucketd help' says: it isn't changed by hand
+# made by tools/manual from the output of 'bucketd help': don't edit it by hand
 
 _bucketd() {
     local word=${COMP_WORDS[COMP_CWORD]} before=${COMP_WORDS[COMP_CWORD - 1]} words= option
@@ -35,7 +35,7 @@ _bucketd() {
         sweep) words=" --file --limit --at --clock-leap --force --help " ;;
         backup) words=" --file --to --help " ;;
         export) words=" --file --tenant --to --help " ;;
-        import) words=" --file --from --help " ;;
+        import) words=" --file --from --clock-leap --force --help " ;;
         serve) words=" --file --port --count --log --timeout --clock-leap --force --block-size --cache-blocks --cache-bytes --operator-port --operator-secret-file --help " ;;
         tell) words=" --port --secret-file --help " ;;
         help) [ "$COMP_CWORD" -gt 2 ] || words=" script init tenant-add quota key-add key-remove keys usage tenants report check sweep backup export import serve tell " ;;

@@ -1,3 +1,3 @@
 module bucketd/gateway
 
-go 1.19
+go 1.21

@@ -1,20 +1,20 @@
 """Requests to S3, signed by an implementation of Signature V4 of its own (Amazon S3 API Reference, "Authenticating Requests"),
-and a gateway before a `bucketd serve` on a new host: for tools/test-gateway, tools/clients and bench/gateway.py."""
+and a gateway before a `bucketd serve` on a new host: for tools/test-gateway, tools/clients and bench/."""
 import base64
 import hashlib
 import hmac
 import os
 import re
 import shutil
-import socket
+import signal
 import subprocess
-import sys
-import tempfile
 import time
 import urllib.parse
-from http.client import HTTPConnection, HTTPSConnection
+from http.client import HTTPConnection
 
-TOP = os.path.dirname(os.path.dirname(os.path.abspath(__file__)))
+import host
+from host import TOP
+
 SIGNED, SIGNED_TRAILER, TRAILER = (f"STREAMING-{it}" for it in
                                    ("AWS4-HMAC-SHA256-PAYLOAD", "AWS4-HMAC-SHA256-PAYLOAD-TRAILER", "UNSIGNED-PAYLOAD-TRAILER"))
 
@@ -139,53 +139,46 @@ def build_gateway(folder):
     if not shutil.which("go"):
         return None
     path = os.path.join(folder, "gateway")
-    subprocess.run(["go", "build", "-o", path, "."], cwd=os.path.join(TOP, "gateway"), check=True)
+    subprocess.run(["go", "build", "-o", path, "./cmd/gateway"], cwd=os.path.join(TOP, "gateway"), check=True)
     return path
 
 
-def make_host(program, folder, tenants, *options):
-    """A new host, and the key file of its tenants, by name and quota."""
-    file = os.path.join(folder, "host")
-    subprocess.run([program, "init", "--file", file, *options], check=True, capture_output=True)
+def write_keys(folder, tenants):
+    """The key file of tenants, for their gateway alone."""
     with open(os.open(os.path.join(folder, "keys"), os.O_CREAT | os.O_WRONLY, 0o600), "w") as keys:
-        for tenant, quota in tenants.items():
-            subprocess.run([program, "tenant-add", "--file", file, "--tenant", tenant, "--quota", str(quota)], check=True, capture_output=True)
-            subprocess.run([program, "key-add", "--file", file, "--tenant", tenant, "--name", "k1", "--secret", f"{tenant}secret"], check=True, capture_output=True)
-            keys.write(f"{tenant}$k1 {tenant}secret\n")
+        keys.writelines(f"{it}$k1 {it}secret\n" for it in tenants)
 
 
-class Gateway:
-    """A gateway that serves the host in a folder, and starts bucketd itself."""
+def make_host(program, folder, tenants, *options):
+    """A new host that takes great parts, and the key file of its tenants, by name and quota."""
+    host.make_host(program, os.path.join(folder, "host"), tenants, "--max-body", str(1 << 30), *options)
+    write_keys(folder, tenants)
+
+
+class Gateway(host.Program):
+    """A gateway with the keys in a folder. It starts a bucketd on the host in that folder itself, where a program is named."""
 
     def __init__(self, gateway, program, folder, *options):
-        self.log = open(os.path.join(folder, "gateway.log"), "w+")
         words = [gateway, "--listen", "127.0.0.1:0", "--keys", os.path.join(folder, "keys"), "--spool", folder]
         if program:
             words += ["--serve", os.path.join(folder, "host"), "--program", program]
-        self.process = subprocess.Popen([*words, *options], stderr=self.log, stdout=self.log)
-        self.port = None
-        while self.port is None:
-            time.sleep(0.02)
-            found = re.search(r"listening on https?://[^:]+:(\d+)", self.text())
-            if found:
-                self.port = int(found.group(1))
-            elif self.process.poll() is not None:
-                sys.exit(f"the gateway ended: {self.text()}")
+        super().__init__([*words, *options])
+        self.port = self.announced(r".*listening on https?://[^:]+:(\d+).*")
 
     def text(self):
-        with open(self.log.name) as text:
-            return text.read()
+        return "\n".join(self.lines())
+
+    def inner_port(self):
+        """The port that its bucketd told last."""
+        return self.announced(r"listening on 127\.0\.0\.1:(\d+)", last=True)
 
     def child(self):
         """The process of bucketd."""
-        with open(f"/proc/{self.process.pid}/task/{self.process.pid}/children") as children:
-            found = children.read().split()
+        found = []
         for task in os.listdir(f"/proc/{self.process.pid}/task"):
             with open(f"/proc/{self.process.pid}/task/{task}/children") as children:
                 found += children.read().split()
         return int(found[0]) if found else None
 
     def end(self):
-        if self.process.poll() is None:
-            self.process.terminate()
-        return self.process.wait(60)
+        return super().end(signal.SIGTERM)[0]

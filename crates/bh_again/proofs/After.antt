@@ -14,18 +14,23 @@ use Rattle.bh_tables.specs.Schema.{host_schema}
 use Rattle.bh_tables.specs.Typed.{Tables}
 use Rattle.bh_tables.proofs.HostTests.{others_open, other_schema, unlike_second}
 use Rattle.bh_view.specs.Bodies.{IsSoundHost}
-use Rattle.bh_storage.specs.Calls.{IsAtRest}
+use Rattle.bh_storage.specs.Calls.{Seen, IsAtRest}
+use Rattle.bh_storage.specs.declared.storage.Storage as storage
 use Rattle.bh_cache.specs.Kept.{KeptBlocks}
 use Rattle.bh_schema.specs.Layer.{standing}
 use Rattle.bh_schema.specs.declared.host.Host.{Host}
-use Rattle.bh_schema.specs.Storage.{IsOpen, seen, seen_in, beside, left, left_in}
+use Rattle.bh_schema.specs.Storage.{IsIntact, IsOpen, seen, seen_in, beside, left, left_in}
 use Rattle.bh_schema.proofs.Storing.{sound_host}
 use Rattle.bh_open.specs.Versions.{IsEarlierSchema, IsTypedIfEarlier}
 use Rattle.bh_open.specs.declared.open.Opened.{Opened}
 use Rattle.bh_host.specs.Runs.{Told}
 use Rattle.bh_host.specs.Turns.{Applied, WouldApply}
+use Rattle.bh_kept.specs.Over.{StandsOver, KeptStandsOver}
+use Rattle.bh_connection.specs.Connections.{IsApplied, HasAnswered}
 use Rattle.bh_connection.specs.declared.served.End.{End}
-use Rattle.bh_again.specs.Stops.{seen_again, IsCleanAgain, CameBack, ComesBack, AllLeft, AllShown, kept_of, IsLeft, IsOlder, IsReopened, HasApplied, HasReplied, IsReady, AddsSound, IsLeftBy, IsLeftSince, Survives, AfterStop, AfterReply, OpensSound, StaysSound}
+use Rattle.bh_kept.specs.declared.host.KeptHost.{KeptHost}
+use Rattle.bh_again.specs.Found as storages
+use Rattle.bh_again.specs.Stops.{seen_again, IsCleanAgain, CameBack, ComesBack, AllLeft, AllShown, kept_of, IsLeft, IsOlder, IsReopened, IsReady, AfterStop, AfterReply, AfterKeptStop, AfterKeptReply, OpensSound, StaysSound}
 
 -- ---- a database of the present version, and one of sound tables
 
@@ -73,79 +78,122 @@ stays_sound digest old new adds were intact x leaves = elim (adds intact x leave
   | inr sound ↦ sound
 ]
 
--- ---- after an event
+-- ---- after a stop
 
-module _ {D G : Type 0} {g : Ghosts D} (digest : Octets → Octets) (event : Arrival) (old new : Host (FileStore D g) G) (opened : Opened (FileStore D g))
-    (ready : IsReady digest new) (again : IsReopened new opened) (clean : IsCleanAgain opened) where
-  -- of a store that no fault has shut, what stood after the event
-  came_back : IsOpen over_files new → CameBack (seen over_files new).now opened
+module _ {D G : Type 0} {g : Ghosts D} (digest : Octets → Octets) (host : Host (FileStore D g) G) (opened : Opened (FileStore D g))
+    (ready : IsReady digest host) (again : IsReopened host opened) (clean : IsCleanAgain opened) where
+  -- of a store that no fault has shut, what stood before the stop
+  came_back : IsOpen over_files host → CameBack (seen over_files host).now opened
   came_back up =
       let it = ready (again.intact clean, up) in
-      let shown : tables_shown (kept_of new) ≡ (seen over_files new).now = sym (kept_shown new.cache new.limits (file_state new.connection)) ∙ it.committed in
-      let schema = sound_schema digest (kept_of new) (subst (IsSoundHost digest) (sym shown) it.sound) in
-      subst (λ (x : Tables). CameBack x opened) shown (present_back opened (kept_of new) schema (again.came_back clean up))
+      let shown : tables_shown (kept_of host) ≡ (seen over_files host).now = sym (kept_shown host.cache host.limits (file_state host.connection)) ∙ it.committed in
+      let schema = sound_schema digest (kept_of host) (subst (IsSoundHost digest) (sym shown) it.sound) in
+      subst (λ (x : Tables). CameBack x opened) shown (present_back opened (kept_of host) schema (again.came_back clean up))
 
-  rests : IsOpen over_files new → IsAtRest (IsSoundHost digest) (seen_again opened)
-  rests up = (came_back up).rest digest (ready (again.intact clean, up)).sound
-
-  merely_rests : AddsSound digest old new → AllLeft (IsSoundHost digest) old → ∥ IsAtRest (IsSoundHost digest) (seen_again opened) ∥₁
-  merely_rests adds were = ∥∥₁_map (again.merely clean) (λ it.
-      let all = stays_sound digest old new adds were (again.intact clean) in
-      (present_back opened it.0 (left_schema new digest all it.0 it.1) it.2).rest digest (all (tables_shown it.0) (left_shown new it.0 it.1)))
+  merely_rests : AllLeft (IsSoundHost digest) host → ∥ IsAtRest (IsSoundHost digest) (seen_again opened) ∥₁
+  merely_rests all = ∥∥₁_map (again.merely clean) (λ it.
+      (present_back opened it.0 (left_schema host digest all it.0 it.1) it.2).rest digest (all (tables_shown it.0) (left_shown host it.0 it.1)))
 
   -- what is said of all that a crash may leave is said of what an open finds, or that was brought over
-  found : (P : Tables → Type 0) → ((x : Tables) → left over_files new x → P x) → ∥ (P (seen_again opened).now ⊎ IsOlder new (seen_again opened).now) ∥₁
+  found : (P : Tables → Type 0) → ((x : Tables) → left over_files host x → P x) → ∥ (P (seen_again opened).now ⊎ IsOlder host (seen_again opened).now) ∥₁
   found P says = ∥∥₁_map (again.merely clean) (λ it. each it.0 it.1 it.2)
     where
-      each : (db : Database) → IsLeft new db → ComesBack db opened → P (seen_again opened).now ⊎ IsOlder new (seen_again opened).now
+      each : (db : Database) → IsLeft host db → ComesBack db opened → P (seen_again opened).now ⊎ IsOlder host (seen_again opened).now
       each db may back = elim back.schema [
         | inl first ↦ older (inl first)
         | inr later ↦ elim later [
           | inl second ↦ older (inr second)
-          | inr third ↦ inl (subst P (sym (present_back opened db third back).tables) (says (tables_shown db) (left_shown new db may)))
+          | inr third ↦ inl (subst P (sym (present_back opened db third back).tables) (says (tables_shown db) (left_shown host db may)))
         ]
       ]
         where
-          older : IsEarlierSchema db.schema → P (seen_again opened).now ⊎ IsOlder new (seen_again opened).now
+          older : IsEarlierSchema db.schema → P (seen_again opened).now ⊎ IsOlder host (seen_again opened).now
           older earlier = inr (record { db = db; may = may; schema = earlier; shown = λ typed. (back.came_back typed).tables })
 
-  leaves : (told : Told) → HasApplied event told old new → IsLeftBy event told old new (seen_again opened).now
+-- ---- after an event on a storage that stands over a host
+
+module _ {D G H : Type 0} {g : Ghosts D} (IsIntactOf IsOpenOf : H → Type 0) (seen_of : H → Seen) (left_of : H → Tables → Type 0) (digest : Octets → Octets)
+    (event : Arrival) (old new : H) (host : Host (FileStore D g) G) (opened : Opened (FileStore D g)) (over : StandsOver IsIntactOf IsOpenOf (IsSoundHost digest) seen_of left_of new host)
+    (ready : storages.IsReady IsIntactOf IsOpenOf seen_of left_of digest new) (again : IsReopened host opened) (clean : IsCleanAgain opened) where
+  whole : IsIntactOf new
+  whole = over.intact.1 (again.intact clean)
+
+  host_ready : IsReady digest host
+  host_ready c = let it = ready (over.intact.1 c.0, over.opened.1 c.1) in subst (IsAtRest (IsSoundHost digest)) (over.same it) it
+
+  came : IsOpenOf new → CameBack (seen_of new).now opened
+  came up = subst (λ (s : Seen). CameBack s.now opened) (sym (over.same (ready (whole, up)))) (came_back digest host opened host_ready again clean (over.opened.0 up))
+
+  rests : IsOpenOf new → IsAtRest (IsSoundHost digest) (seen_again opened)
+  rests up = (came up).rest digest (ready (whole, up)).sound
+
+  merely : storages.AddsSound IsIntactOf IsOpenOf seen_of left_of digest old new → storages.AllLeft IsIntactOf IsOpenOf seen_of left_of (IsSoundHost digest) old → ∥ IsAtRest (IsSoundHost digest) (seen_again opened) ∥₁
+  merely adds were = merely_rests digest host opened host_ready again clean (λ x leaves. elim (adds whole x ((over.leaves x).1 leaves)) [
+    | inl before ↦ were x before
+    | inr sound ↦ sound
+  ])
+
+  found_of : (P : Tables → Type 0) → ((x : Tables) → left_of new x → P x) → ∥ (P (seen_again opened).now ⊎ IsOlder host (seen_again opened).now) ∥₁
+  found_of P says = found digest host opened host_ready again clean P (λ x leaves. says x ((over.leaves x).1 leaves))
+
+  leaves : (told : Told) → IsApplied IsIntactOf IsOpenOf seen_of left_of event told old new → storages.IsLeftBy IsIntactOf IsOpenOf seen_of left_of (IsOlder host) event told old new (seen_again opened).now
   leaves (None, reply) applied = (
-    λ up. (came_back up).tables ∙ (applied.applied (again.intact clean) up).1,
-    found (λ x. left over_files old x ⊎ (IsOpen over_files old × WouldApply event (seen over_files old).now x)) (applied.crash (again.intact clean)),
+    λ up. (came up).tables ∙ (applied.applied whole up).1,
+    found_of (λ x. left_of old x ⊎ (IsOpenOf old × WouldApply event (seen_of old).now x)) (applied.crash whole),
   )
   leaves (Some m, reply) applied =
-      let did = applied.applied (again.intact clean) in
-      subst (λ (x : Tables). Applied event (seen over_files old).now x (Some m) reply) (sym (came_back did.1).tables) did.2
+      let did = applied.applied whole in
+      subst (λ (x : Tables). Applied event (seen_of old).now x (Some m) reply) (sym (came did.1).tables) did.2
 
-  pub survives : (told : Told) → HasApplied event told old new → Survives digest (IsLeftBy event told old new) old new opened
-  survives told applied = record { tables = leaves told applied; rest = rests; merely = merely_rests }
+  pub survives : (told : Told) → IsApplied IsIntactOf IsOpenOf seen_of left_of event told old new
+      → storages.Survives IsIntactOf IsOpenOf seen_of left_of digest (storages.IsLeftBy IsIntactOf IsOpenOf seen_of left_of (IsOlder host) event told old new) old new (seen_again opened)
+  survives told applied = record { tables = leaves told applied; rest = rests; merely = merely }
 
   -- a reply went out since
-  leaves_since : (told : Told) (ended : End) → HasReplied event told ended old new → IsLeftSince event told old new (seen_again opened).now
+  leaves_since : (told : Told) (ended : End) → HasAnswered IsIntactOf IsOpenOf seen_of left_of event told ended old new
+      → storages.IsLeftSince IsIntactOf IsOpenOf seen_of left_of (IsOlder host) event told old new (seen_again opened).now
   leaves_since (None, reply) ended did =
-      let whole = again.intact clean in
       let applied = did.applied whole in
       let was = did.kept.intact whole in (
-        λ up. (let (before, same) = did.kept.same whole up in (came_back up).tables ∙ same ∙ (applied.applied was before).1),
-        found (λ x. left over_files old x ⊎ (IsOpen over_files old × WouldApply event (seen over_files old).now x)) (λ x leaves. applied.crash was x (did.kept.survives whole x leaves)),
+        λ up. (let (before, same) = did.kept.same whole up in (came up).tables ∙ same ∙ (applied.applied was before).1),
+        found_of (λ x. left_of old x ⊎ (IsOpenOf old × WouldApply event (seen_of old).now x)) (λ x leaves. applied.crash was x (did.kept.survives whole x leaves)),
       )
   leaves_since (Some m, reply) ended did =
-      let whole = again.intact clean in
       let applied = did.applied whole in
       let was = did.kept.intact whole in
-      let end = (seen over_files did.mid).now in (
+      let end = (seen_of did.mid).now in (
         end,
         (applied.applied was).2,
-        λ up. (came_back up).tables ∙ (did.kept.same whole up).1,
-        found (λ x. x ≡ end) (λ x leaves. applied.acknowledged was x (did.kept.survives whole x leaves)),
+        λ up. (came up).tables ∙ (did.kept.same whole up).1,
+        found_of (λ x. x ≡ end) (λ x leaves. applied.acknowledged was x (did.kept.survives whole x leaves)),
       )
 
-  pub survives_since : (told : Told) (ended : End) → HasReplied event told ended old new → Survives digest (IsLeftSince event told old new) old new opened
-  survives_since told ended did = record { tables = leaves_since told ended did; rest = rests; merely = merely_rests }
+  pub survives_since : (told : Told) (ended : End) → HasAnswered IsIntactOf IsOpenOf seen_of left_of event told ended old new
+      → storages.Survives IsIntactOf IsOpenOf seen_of left_of digest (storages.IsLeftSince IsIntactOf IsOpenOf seen_of left_of (IsOlder host) event told old new) old new (seen_again opened)
+  survives_since told ended did = record { tables = leaves_since told ended did; rest = rests; merely = merely }
+
+-- a host stands over itself
+itself : {D G : Type 0} {g : Ghosts D} (digest : Octets → Octets) (host : Host (FileStore D g) G) → StandsOver (IsIntact over_files) (IsOpen over_files) (IsSoundHost digest) (seen over_files) (left over_files) host host
+itself digest host = record { intact = (λ i. i, λ i. i); opened = (λ o. o, λ o. o); leaves = λ x. (λ l. l, λ l. l); same = λ rest. refl }
 
 pub after_stop : {D G : Type 0} {g : Ghosts D} (digest : Octets → Octets) → AfterStop g G digest
-after_stop digest event told old new opened applied ready again clean = survives digest event old new opened ready again clean told applied
+after_stop digest event told old new opened applied ready again clean =
+    survives (IsIntact over_files) (IsOpen over_files) (seen over_files) (left over_files) digest event old new new opened (itself digest new) ready again clean told applied
 
 pub after_reply : {D G : Type 0} {g : Ghosts D} (digest : Octets → Octets) → AfterReply g G digest
-after_reply digest event told ended old new opened did ready again clean = survives_since digest event old new opened ready again clean told ended did
+after_reply digest event told ended old new opened did ready again clean =
+    survives_since (IsIntact over_files) (IsOpen over_files) (seen over_files) (left over_files) digest event old new new opened (itself digest new) ready again clean told ended did
+
+-- ---- after one on a host that is served
+
+pub after_kept_stop : {D G : Type 0} {g : Ghosts D} (digest : Octets → Octets) (s : storage.Ghosts (KeptHost D G g)) → s.IsSoundStore ≡ IsSoundHost digest → KeptStandsOver s → AfterKeptStop digest s
+after_kept_stop digest s sound stands event told old new it opened applied stays is again clean =
+    survives s.IsIntact s.IsOpen s.seen s.left digest event old new it.storage.host opened
+    (subst (λ (P : Tables → Type 0). StandsOver s.IsIntact s.IsOpen P s.seen s.left new it.storage.host) sound (stands new it is))
+    (subst (λ (P : Tables → Type 0). s.IsIntact new × s.IsOpen new → IsAtRest P (s.seen new)) sound stays.ready) again clean told applied
+
+pub after_kept_reply : {D G : Type 0} {g : Ghosts D} (digest : Octets → Octets) (s : storage.Ghosts (KeptHost D G g)) → s.IsSoundStore ≡ IsSoundHost digest → KeptStandsOver s → AfterKeptReply digest s
+after_kept_reply digest s sound stands event told ended old new it opened did stays is again clean =
+    survives_since s.IsIntact s.IsOpen s.seen s.left digest event old new it.storage.host opened
+    (subst (λ (P : Tables → Type 0). StandsOver s.IsIntact s.IsOpen P s.seen s.left new it.storage.host) sound (stands new it is))
+    (subst (λ (P : Tables → Type 0). s.IsIntact new × s.IsOpen new → IsAtRest P (s.seen new)) sound stays.ready) again clean told ended did

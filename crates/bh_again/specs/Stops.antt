@@ -1,4 +1,4 @@
--- What a stop leaves to the next open, and what an event leaves over a stop.
+-- What a stop leaves for the next open, and an event's effect over a stop.
 use Rattle.std.specs.Prelude.{◌≡◌, ◌≢◌, ◌⊎◌, Some, None}
 use Rattle.sqlite_disk.specs.declared.Disk.{Ghosts}
 use Rattle.sqlite_store.specs.declared.store.FileStore.{FileStore}
@@ -12,16 +12,20 @@ use Rattle.bh_tables.specs.Hosts.{tables_opened}
 use Rattle.bh_tables.specs.Typed.{Tables}
 use Rattle.bh_view.specs.Bodies.{IsSoundHost}
 use Rattle.bh_view.specs.View.{latest_of}
-use Rattle.bh_storage.specs.Calls.{Seen, IsAtRest, LeavesSound}
+use Rattle.bh_storage.specs.Calls.{Seen, IsAtRest}
+use Rattle.bh_storage.specs.declared.storage.Storage as storage
 use Rattle.bh_schema.specs.Connections as connection
 use Rattle.bh_schema.specs.Layer.{standing, Leaves}
 use Rattle.bh_schema.specs.declared.host.Host.{Host}
-use Rattle.bh_schema.specs.Storage.{seen_in, IsIntact, IsOpen, IsClean, seen, left}
+use Rattle.bh_schema.specs.Storage.{seen_in, IsIntact, IsOpen, seen, left}
+use Rattle.bh_dispatch.specs.declared.recalling.RecallingStorage.{RecallingStorage}
+use Rattle.bh_kept.specs.declared.host.KeptHost.{KeptHost}
+use Rattle.bh_again.specs.Found as found
 use Rattle.bh_open.specs.Opening.{digest_in}
 use Rattle.bh_open.specs.Versions.{IsEarlierSchema, IsHostsSchema, IsTypedIfEarlier}
 use Rattle.bh_open.specs.declared.open.Opened.{Opened}
 use Rattle.bh_host.specs.Runs.{Told}
-use Rattle.bh_host.specs.Turns.{Applied, WouldApply}
+use Rattle.bh_host.specs.Resting.{StaysAtRest}
 use Rattle.bh_connection.specs.Connections.{IsApplied, HasAnswered}
 use Rattle.bh_connection.specs.declared.served.End.{End}
 use Rattle.bh_again.specs.declared.hosts.ReopenError.{ReopenError}
@@ -36,20 +40,21 @@ module _ {D : Type 0} {g : Ghosts D} where
   abbrev pub IsCleanAgain : Opened (FileStore D g) → Type 0
   IsCleanAgain opened = connection.IsClean over_files opened.connection
 
-  -- it has these tables; if they are sound it is at rest, and what is told of it stands in them
+  -- it has these tables; if they are sound it is at rest, and its reported values are those in the
+  -- tables
   pub record CameBack (kept : Tables) (opened : Opened (FileStore D g)) : Type 0 where
     pub tables : (seen_again opened).now ≡ kept
     pub rest : (digest : Octets → Octets) → IsSoundHost digest kept → IsAtRest (IsSoundHost digest) (seen_again opened)
     pub latest : (digest : Octets → Octets) → IsSoundHost digest kept → opened.latest ≡ latest_of kept
     pub named : (digest : Octets → Octets) → IsSoundHost digest kept → digest_number opened.digest ≡ digest_in kept
 
-  -- it is the host of this database, of any version, and has the tables that an open shows of it. Rows under the schema of an
-  -- earlier version are to be typed rows
+  -- it is the host of this database, of any version, and has the tables that an open of it has.
+  -- Rows under an earlier schema have to be typed rows
   pub record ComesBack (db : Database) (opened : Opened (FileStore D g)) : Type 0 where
     pub schema : IsHostsSchema db.schema
     pub came_back : IsTypedIfEarlier db → CameBack (tables_opened db) opened
 
-  -- the files aren't said to hold no host
+  -- the error isn't that the files have no host
   abbrev pub IsNotNone : ReopenError D g → Type 0
   IsNotNone (reopen.Files error) = Unit {0}
   IsNotNone (reopen.Host e) = connection.IsClean over_files e.connection → e.refusal ≢ refusal.NotAHostFile
@@ -59,20 +64,20 @@ module _ {D : Type 0} {g : Ghosts D} where
   module _ {G : Type 0} where
     -- all tables that a crash may leave
     abbrev pub AllLeft : (Tables → Type 0) → Host (FileStore D g) G → Type 0
-    AllLeft P host = (x : Tables) → left over_files host x → P x
+    AllLeft = found.AllLeft (IsIntact over_files) (IsOpen over_files) (seen over_files) (left over_files)
 
-    -- the database that was committed, and one that a crash may leave
+    -- the committed database, and one that a crash may leave
     abbrev pub kept_of : Host (FileStore D g) G → Database
     kept_of host = (standing (file_state host.connection)).kept
 
     abbrev pub IsLeft : Host (FileStore D g) G → Database → Type 0
     IsLeft host db = Leaves (file_state host.connection) db.trees × IsDatabase db
 
-    -- all tables that an open may show after a crash, of a database of any version
+    -- all tables that an open may find after a crash, in a database of any version
     abbrev pub AllShown : (Tables → Type 0) → Host (FileStore D g) G → Type 0
     AllShown P host = (db : Database) → IsLeft host db → P (tables_opened db)
 
-    -- what `stop_and_open_host` promises of one that was opened again
+    -- the promise of `stop_and_open_host` for a reopened host
     pub record IsReopened (host : Host (FileStore D g) G) (opened : Opened (FileStore D g)) : Type 0 where
       pub intact : IsCleanAgain opened → IsIntact over_files host
       pub came_back : IsCleanAgain opened → IsOpen over_files host → ComesBack (kept_of host) opened
@@ -80,70 +85,85 @@ module _ {D : Type 0} {g : Ghosts D} where
 
     -- ---- an event before it
 
-    -- an event was applied: what `bh_host::apply` promises of it
+    -- an event was applied, as `bh_host::apply` promises
     abbrev pub HasApplied : Arrival → Told → Host (FileStore D g) G → Host (FileStore D g) G → Type 0
     HasApplied = IsApplied (IsIntact over_files) (IsOpen over_files) (seen over_files) (left over_files)
 
-    -- and its reply went out: what `serve_connection` promises of one that came over a connection
+    -- and its reply was sent: the promise of `serve_connection` for one that came over a connection
     abbrev pub HasReplied : Arrival → Told → End → Host (FileStore D g) G → Host (FileStore D g) G → Type 0
     HasReplied = HasAnswered (IsIntact over_files) (IsOpen over_files) (seen over_files) (left over_files)
 
     abbrev pub IsReady : (Octets → Octets) → Host (FileStore D g) G → Type 0
-    IsReady digest host = IsClean over_files host → IsAtRest (IsSoundHost digest) (seen over_files host)
+    IsReady = found.IsReady (IsIntact over_files) (IsOpen over_files) (seen over_files) (left over_files)
 
     abbrev pub AddsSound : (Octets → Octets) → Host (FileStore D g) G → Host (FileStore D g) G → Type 0
-    AddsSound digest old new = IsIntact over_files new → LeavesSound (IsSoundHost digest) (left over_files) old new
+    AddsSound = found.AddsSound (IsIntact over_files) (IsOpen over_files) (seen over_files) (left over_files)
 
-    -- these are the tables of a database of an earlier version that a crash may leave, brought over
+    -- these are the upgraded tables of an earlier version's database that a crash may leave
     pub record IsOlder (host : Host (FileStore D g) G) (x : Tables) : Type 0 where
       pub db : Database
       pub may : IsLeft host db
       pub schema : IsEarlierSchema db.schema
       pub shown : IsTypedIfEarlier db → x ≡ tables_opened db
 
-    -- the tables that a host has after an event, a stop and an open. With a stamp: what the event did. Without: what stood
-    -- before it, where no fault has shut the store, and else what a crash might have left before, or the commit would have
-    -- given. Only of a store that a crash may leave a database of an earlier version of is there a third
     abbrev pub IsLeftBy : Arrival → Told → Host (FileStore D g) G → Host (FileStore D g) G → Tables → Type 0
-    IsLeftBy event (None, reply) old new x =
-        (IsOpen over_files new → x ≡ (seen over_files old).now)
-        × ∥ ((left over_files old x ⊎ (IsOpen over_files old × WouldApply event (seen over_files old).now x)) ⊎ IsOlder new x) ∥₁
-    IsLeftBy event (Some m, reply) old new x = Applied event (seen over_files old).now x (Some m) reply
+    IsLeftBy event told old new =
+        found.IsLeftBy (IsIntact over_files) (IsOpen over_files) (seen over_files) (left over_files) (IsOlder new) event told old new
 
-    -- what may be found once its reply went out. With a stamp: what the event did, also where a fault has shut the store since
     abbrev pub IsLeftSince : Arrival → Told → Host (FileStore D g) G → Host (FileStore D g) G → Tables → Type 0
-    IsLeftSince event (None, reply) old new x = IsLeftBy event (None, reply) old new x
-    IsLeftSince event (Some m, reply) old new x =
-        (end : Tables) × Applied event (seen over_files old).now end (Some m) reply × (IsOpen over_files new → x ≡ end)
-        × ∥ ((x ≡ end) ⊎ IsOlder new x) ∥₁
+    IsLeftSince event told old new =
+        found.IsLeftSince (IsIntact over_files) (IsOpen over_files) (seen over_files) (left over_files) (IsOlder new) event told old new
 
-    -- a host came back with tables of which this is said
-    pub record Survives (digest : Octets → Octets) (Says : Tables → Type 0) (old new : Host (FileStore D g) G)
-        (opened : Opened (FileStore D g)) : Type 0 where
-      pub tables : Says (seen_again opened).now
-      -- it is at rest: outright, where no fault has shut the store
-      pub rest : IsOpen over_files new → IsAtRest (IsSoundHost digest) (seen_again opened)
-      pub merely : AddsSound digest old new → AllLeft (IsSoundHost digest) old → ∥ IsAtRest (IsSoundHost digest) (seen_again opened) ∥₁
+    -- a host came back with tables that have this property
+    abbrev pub Survives : (Octets → Octets) → (Tables → Type 0) → Host (FileStore D g) G → Host (FileStore D g) G → Opened (FileStore D g)
+        → Type 0
+    Survives digest Says old new opened =
+        found.Survives (IsIntact over_files) (IsOpen over_files) (seen over_files) (left over_files) digest Says old new (seen_again opened)
 
--- a host comes back over a stop after an event with what stood before the event or after it
+-- after an event and a stop, a host comes back with the tables before the event or after it
 abbrev pub AfterStop : {D : Type 0} → Ghosts D → Type 0 → (Octets → Octets) → Type 0
 AfterStop {D} g G digest = (event : Arrival) (told : Told) (old new : Host (FileStore D g) G) (opened : Opened (FileStore D g))
     → HasApplied event told old new → IsReady digest new → IsReopened new opened → IsCleanAgain opened
     → Survives digest (IsLeftBy event told old new) old new opened
 
--- and so it does over a stop after a reply went out
+-- and so it does after a reply was sent and a stop
 abbrev pub AfterReply : {D : Type 0} → Ghosts D → Type 0 → (Octets → Octets) → Type 0
 AfterReply {D} g G digest =
     (event : Arrival) (told : Told) (ended : End) (old new : Host (FileStore D g) G) (opened : Opened (FileStore D g))
     → HasReplied event told ended old new → IsReady digest new → IsReopened new opened → IsCleanAgain opened
     → Survives digest (IsLeftSince event told old new) old new opened
 
--- where a crash leaves none but sound tables, an open after it shows none but sound ones, and finds no database of an earlier version
+-- if a crash leaves only sound tables, an open after it finds only sound ones, and no database of
+-- an earlier version
 abbrev pub OpensSound : {D : Type 0} → Ghosts D → Type 0 → (Octets → Octets) → Type 0
 OpensSound {D} g G digest = (host : Host (FileStore D g) G) → AllLeft (IsSoundHost digest) host
     → AllShown (IsSoundHost digest) host × ((x : Tables) → ¬ IsOlder host x)
 
--- where a crash before an event would have left none but sound tables, so does one after it
+-- if a crash before an event would have left only sound tables, so does one after it
 abbrev pub StaysSound : {D : Type 0} → Ghosts D → Type 0 → (Octets → Octets) → Type 0
 StaysSound {D} g G digest = (old new : Host (FileStore D g) G)
     → AddsSound digest old new → AllLeft (IsSoundHost digest) old → IsIntact over_files new → AllLeft (IsSoundHost digest) new
+
+-- ---- the storage that is served: a kept host, unless it was lost
+
+-- after an event and a stop, the host beneath comes back with the tables that the kept host had
+-- before the event or after it
+abbrev pub AfterKeptStop : {D G : Type 0} {g : Ghosts D} → (Octets → Octets) → storage.Ghosts (KeptHost D G g) → Type 0
+AfterKeptStop {D} {G} {g} digest s =
+    (event : Arrival) (told : Told) (old new : KeptHost D G g) (it : RecallingStorage (FileStore D g) G) (opened : Opened (FileStore D g))
+    → IsApplied s.IsIntact s.IsOpen s.seen s.left event told old new
+    → StaysAtRest s.IsIntact s.IsOpen s.IsSoundStore s.seen s.left old new
+    → new.storage ≡ Some it → IsReopened it.storage.host opened → IsCleanAgain opened
+    → found.Survives s.IsIntact s.IsOpen s.seen s.left digest
+    (found.IsLeftBy s.IsIntact s.IsOpen s.seen s.left (IsOlder it.storage.host) event told old new) old new (seen_again opened)
+
+-- and so it does after a reply was sent and a stop
+abbrev pub AfterKeptReply : {D G : Type 0} {g : Ghosts D} → (Octets → Octets) → storage.Ghosts (KeptHost D G g) → Type 0
+AfterKeptReply {D} {G} {g} digest s =
+    (event : Arrival) (told : Told) (ended : End) (old new : KeptHost D G g) (it : RecallingStorage (FileStore D g) G)
+    (opened : Opened (FileStore D g))
+    → HasAnswered s.IsIntact s.IsOpen s.seen s.left event told ended old new
+    → StaysAtRest s.IsIntact s.IsOpen s.IsSoundStore s.seen s.left old new
+    → new.storage ≡ Some it → IsReopened it.storage.host opened → IsCleanAgain opened
+    → found.Survives s.IsIntact s.IsOpen s.seen s.left digest
+    (found.IsLeftSince s.IsIntact s.IsOpen s.seen s.left (IsOlder it.storage.host) event told old new) old new (seen_again opened)

@@ -10,7 +10,7 @@ use sqlite::{Connection, Error, FileStore, Files, Options};
 use sqlite_disk::Crash;
 use std::alloc::Global;
 
-/// The machine stops, and comes back: each file has something that it might have then.
+/// The machine stops, and starts again: each file has contents that it may have then.
 pub fn stop<D: Crash>(files: &mut Files<D>)
     ensures left { outcomes D.Disk files.old.log files.old.db (image_of D.Disk files.new) }
     ensures usable { IsTrue (D.Disk.is_usable files.new.log) × IsTrue (D.Disk.is_usable files.new.db) }
@@ -20,9 +20,10 @@ pub fn stop<D: Crash>(files: &mut Files<D>)
     files.db.crash();
 }
 
-/// Stops the machine under a connection, whatever it was at, and opens its files again.
+/// Stops the machine under a connection, in any state, and opens its files again.
 ///
-/// What is opened is what a crash at that moment may leave; where that is one database alone, it is that one.
+/// The opened database is one that a crash at that moment may leave; if there is only one, it is
+/// that one.
 pub fn stop_and_open<D: Crash + Drop>(
     alloc: Global,
     connection: Connection<FileStore<D>>,
@@ -35,7 +36,8 @@ pub fn stop_and_open<D: Crash + Drop>(
     ensures found { IfOk result (λ again. HasCleanDisk (file_state again) → (kept : Database) → IsDatabase kept
         → ((db : Trees) → (file_state connection).may_leave db → db ≡ kept.trees) → (file_state again).now ≡ kept) }
 {
-    // What is not committed goes, and neither call does IO that a crash could leave something new of.
+    // Uncommitted changes are lost, and neither call does I/O after which a crash could leave
+    // anything new.
     let mut files = connection.into_store().close();
     stop(&mut files);
     match Connection::open_files_with(alloc, files, options, true) {

@@ -19,16 +19,17 @@ use sqlite::{Alter, Connection, Error, FileStore, Options};
 use sqlite_disk::Crash;
 use std::alloc::Global;
 
-/// Why no host was opened again.
+/// Why no host could be reopened.
 #[derive(Drop)]
 pub enum ReopenError<D: Crash + Drop> {
-    /// The files gave no database: memory or a disk was wanting.
+    /// The files have no database: memory or a disk failed.
     Files(Error),
-    /// The database gave no host.
+    /// The database has no host.
     Host(OpenError<FileStore<D>>),
 }
 
-/// While no fault has shut a connection, its databases list their schemas, and a crash leaves what was committed.
+/// Until a fault shuts a connection, its databases have their schemas, and a crash leaves what was
+/// committed.
 fn look<S: Alter>(connection: &Connection<S>)
     ensures live { IsLive (state S.Store connection.now) }
     ensures settled { layer.IsOpen (state S.Store connection.now) → (db : Trees) → Leaves (state S.Store connection.now) db
@@ -37,12 +38,12 @@ fn look<S: Alter>(connection: &Connection<S>)
     let _schema = connection.schema();
 }
 
-/// Stops the machine under a host, whatever it was at, and opens its files again. The digester is to be of the function that
-/// names its blocks: it isn't known but by what was opened.
+/// Stops the machine under a host, in any state, and opens its files again. The digester must be
+/// that of the function that names its blocks, which only the opened file determines.
 ///
-/// Of a host that no fault has shut, what was committed comes back; of another one, some database that a crash may leave. One of an
-/// earlier version comes back brought over. Where all that an open may show is sound, the host that comes back is at rest, and
-/// `NotAHostFile` is not among the errors.
+/// If no fault has shut the host, the committed tables come back; otherwise, those of some database
+/// that a crash may leave. A host of an earlier version is upgraded. If all tables that an open may
+/// find are sound, the host is at rest, and `NotAHostFile` is not among the errors.
 pub fn stop_and_open_host<D: Crash + Drop, G: Digester + Drop>(
     alloc: Global,
     host: Host<FileStore<D>, G>,

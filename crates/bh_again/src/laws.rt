@@ -1,28 +1,45 @@
-//! What follows for a host whose machine stops after an event, each law the contract of a function that does nothing.
+//! Laws of a host whose machine stops after an event, each as the contract of a function that does
+//! nothing.
 
-ghost use Rattle.bh_again.specs.Stops.{AfterReply, AfterStop, OpensSound, StaysSound};
+ghost use Rattle.bh_again.specs.Stops.{AfterKeptReply, AfterKeptStop, AfterReply, AfterStop, OpensSound, StaysSound};
 
+use bh_kept::KeptHost;
 use bh_schema::host::Digester;
+use bh_storage::storage::Storage;
 use sqlite_disk::Crash;
 
-/// An event is applied, the machine stops, and the files are opened again: the host has what stood before the event or after it,
-/// after an event with a stamp what it did, and is at rest.
+/// An event is applied, the machine stops, and the files are opened again. The host then has the
+/// tables before the event or after it, and after an event with a stamp those after it. It is at
+/// rest.
 pub fn after_stop<D: Crash, G: Digester>()
     ensures { AfterStop D.Disk G G.digest_of }
 {}
 
-/// The reply of an event went out, the machine stops, and the files are opened again: the host has what the event did, also where a
-/// fault has shut the store as the reply was read.
+/// The reply to an event was sent, the machine stops, and the files are opened again. The host then
+/// has the event's effect, even if a fault shut the store while the reply was read.
 pub fn after_reply<D: Crash, G: Digester>()
     ensures { AfterReply D.Disk G G.digest_of }
 {}
 
-/// Whatever comes of an event, a crash after it leaves none but sound tables, where one before it would have.
+/// Whatever an event does: if a crash before it would have left only sound tables, a crash after it
+/// does too.
 pub fn stays_sound<D: Crash, G: Digester>()
     ensures { StaysSound D.Disk G G.digest_of }
 {}
 
-/// Where a crash leaves none but sound tables, an open after it shows none but sound ones, and finds no host of an earlier version.
+/// If a crash leaves only sound tables, an open after it finds only sound ones, and no host of an
+/// earlier version.
 pub fn opens_sound<D: Crash, G: Digester>()
     ensures { OpensSound D.Disk G G.digest_of }
+{}
+
+/// The same of `after_stop`, for the host that is served: it is found with the tables that it showed
+/// before an event or after it, unless it was lost over a backup.
+pub fn after_kept_stop<'a, D: Crash + Drop, G: Digester + Drop>()
+    ensures { AfterKeptStop G.digest_of ⟦<KeptHost<'a, D, G> as Storage>⟧ }
+{}
+
+/// The same of `after_reply`, for the host that is served.
+pub fn after_kept_reply<'a, D: Crash + Drop, G: Digester + Drop>()
+    ensures { AfterKeptReply G.digest_of ⟦<KeptHost<'a, D, G> as Storage>⟧ }
 {}

@@ -1,4 +1,4 @@
--- What a copy of a database file holds, and what is opened on it.
+-- The contents of a copied database file, and a connection that is opened on it.
 use Rattle.std.specs.Prelude.{◌≡◌, ℕ, List, []}
 use Rattle.sqlite_disk.specs.declared.Disk.{Ghosts}
 use Rattle.sqlite_disk.specs.Disk.{Only}
@@ -14,22 +14,23 @@ use Rattle.bh_file.specs.Opened.{IsOpenedOn}
 abbrev pub alone : List ℕ → Image
 alone bytes = record { log = []; db = bytes }
 
--- files with these contents hold this database
+-- files with these contents have this database
 pub record AreOf (db : Database) (image : Image) : Type 0 where
   pub database : IsDatabase db
   pub held : ∥ HoldsDatabase image db.trees ∥₁
 
--- these bytes are all that is read of a disk, and all that a crash leaves of it
+-- a disk has these bytes and no others, now and after a crash
 pub record HasAlone {E : Type 0} (g : Ghosts E) (bytes : List ℕ) (to : E) : Type 0 where
   pub seen : g.seen to ≡ bytes
   pub synced : Only bytes (g.may_leave to)
 
--- a disk is the file of this database, without a log, as it reads now and as a crash leaves it
+-- a disk is the file of this database, without a log, now and after a crash
 pub record IsFileOf {E : Type 0} (g : Ghosts E) (db : Database) (to : E) : Type 0 where
   pub holds : AreOf db (alone (g.seen to))
   pub synced : Only (g.seen to) (g.may_leave to)
 
--- a connection that is opened on files which hold a database shows it, if they return what was written to them
+-- a connection that is opened on files with a database has that database, if they return what was
+-- written to them
 abbrev pub OpensAlike : {D : Type 0} → Ghosts D → Type 0
 OpensAlike {D} g = (image : Image) (db : Database) (c : Held (FileStore D g)) → AreOf db image
     → IsOpenedOn image (file_state c) → HasCleanDisk (file_state c) → (file_state c).now ≡ db

@@ -1,4 +1,4 @@
-//! The bytes of a disk, copied to another one.
+//! Copies the bytes of a disk to another one.
 
 ghost use Rattle.std.specs.Prelude.{◌≡◌, ◌+◌, ◌<◌, ◌≤◌, [], length, take, IsTrue, IfOk, OnOk};
 ghost use Rattle.sqlite_wal.specs.Reads.{IsClean, OnlyReads};
@@ -8,17 +8,17 @@ use sqlite_disk::Disk;
 use std::alloc::{AllocError, Global};
 use std::io;
 
-/// So many bytes are read, and then written, at a time: 1 MiB.
+/// How many bytes are read, and then written, at a time: 1 MiB.
 const PIECE: usize = 1 << 20;
 
-/// Room for so many bytes.
+/// A buffer of `size` bytes.
 fn room(alloc: Global, size: usize) -> Result<Vec<u8>, AllocError>
     ensures { IfOk result (λ room. length room.items ≡ size) }
 {
     vec![in alloc; 0u8; size]
 }
 
-/// Copies the bytes from `at` on that a piece has room for.
+/// Copies the bytes from `at` on, as many as fit in the buffer.
 fn copy_piece<D: Disk, E: Disk>(
     from: &mut D,
     to: &mut E,
@@ -39,7 +39,7 @@ fn copy_piece<D: Disk, E: Disk>(
     to.write_at(at, piece)
 }
 
-/// Copies the first `len` bytes to a disk that has none, piece by piece.
+/// Copies the first `len` bytes to an empty disk, piece by piece.
 fn copy_bytes<D: Disk, E: Disk>(
     from: &mut D,
     to: &mut E,
@@ -65,9 +65,9 @@ fn copy_bytes<D: Disk, E: Disk>(
     Ok(())
 }
 
-/// Copies all bytes of a disk to another one, which loses what it had, and syncs that.
+/// Copies all bytes of a disk to another one, replacing its contents, and syncs that.
 ///
-/// Where it fails, the other disk has some of them.
+/// If it fails, the other disk may have some of them.
 pub fn copy_disk<D: Disk, E: Disk>(alloc: Global, from: &mut D, to: &mut E) -> io::Result<()>
     requires from { IsTrue (D.Disk.is_usable from.old) }
     requires to { IsTrue (E.Disk.is_usable to.old) }

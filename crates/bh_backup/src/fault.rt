@@ -3,22 +3,29 @@ use sqlite::Error;
 use std::alloc::AllocError;
 use std::{fmt, io};
 
-/// Why no backup was made. Its `Display` tells the operator.
+/// Why no backup was made. Its `Display` is the message to the operator.
 #[derive(Drop)]
 pub enum BackupFault {
-    /// Memory was wanting.
+    /// Memory ran out.
     Memory,
-    /// The name is taken: no file is written over.
+    /// The name ends as that of a file beside a host's: `-wal`, `-journal`, `.partial` or `.moving`.
+    Reserved,
+    /// The name is taken: no file is overwritten.
     Taken,
-    /// A log or a journal lies beside where it would be, which would be read as its own.
+    /// There is a log or a journal at the place of the copy's own, which would be read with it.
     Beside,
-    /// The file beside it, in which it is written, isn't opened.
+    /// The `.partial` file, in which it is written, can't be opened.
     Unopened(OpenFault),
-    /// The log of the host's file isn't copied into that.
+    /// The `.moving` file, in which a tenant's host is made, or that file's log, was not made by an
+    /// export. It isn't removed.
+    Foreign,
+    /// The `.moving` file can't be opened, to see whether an export made it.
+    Unmoved(OpenFault),
+    /// The log of the host's file can't be copied into the file.
     Log(Error),
-    /// The host's file isn't read, or the backup isn't written, synced or named.
+    /// The host's file can't be read, or the backup can't be written, synced or renamed.
     System(io::Error),
-    /// It is there, but its folder isn't synced: after a crash it may be gone.
+    /// It is complete, but its directory can't be synced: after a crash it may be gone.
     Unsettled(io::Error),
 }
 
@@ -38,20 +45,29 @@ impl fmt::Display for BackupFault {
     fn fmt<W: fmt::Write>(&self, f: &mut fmt::Formatter<W>) -> fmt::Result {
         match self {
             BackupFault::Memory => f.write_str("out of memory"),
-            BackupFault::Taken => f.write_str("it is there already"),
+            BackupFault::Reserved => f.write_str(
+                "the name ends in -wal, -journal, .partial or .moving, which name files beside a host: choose another",
+            ),
+            BackupFault::Taken => f.write_str("the file exists already"),
             BackupFault::Beside => {
-                f.write_str("a log or a journal of its name is there already: remove it")
+                f.write_str("a log or a journal of that name exists already: remove it")
             }
             BackupFault::Unopened(reason) => {
-                write!(f, "the file of its name and .partial: {reason}")
+                write!(f, "unable to open its .partial file: {reason}")
+            }
+            BackupFault::Foreign => f.write_str(
+                "its .moving or .moving-wal file was not made by export: remove it",
+            ),
+            BackupFault::Unmoved(reason) => {
+                write!(f, "unable to open its .moving file: {reason}")
             }
             BackupFault::Log(error) => {
-                write!(f, "the host's log isn't copied into its file: {error}")
+                write!(f, "unable to copy the host's log into its file: {error}")
             }
             BackupFault::System(error) => write!(f, "{error}"),
             BackupFault::Unsettled(error) => write!(
                 f,
-                "it is there and whole, but its folder isn't synced: {error}"
+                "the file is complete, but its directory could not be synced: {error}"
             ),
         }
     }

@@ -1,4 +1,4 @@
-//! A host's file, copied to a new one.
+//! Backups: copies of a host's file in a new file.
 #![tactic(auto)]
 
 mod connections;
@@ -11,4 +11,5 @@ mod saving;
 pub use connections::back_up;
 pub use disks::copy_disk;
 pub use fault::BackupFault;
+pub use names::refuse_taken;
 pub use saving::{Saved, save, save_files};

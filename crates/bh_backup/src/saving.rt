@@ -1,11 +1,12 @@
-//! The database of a connection, copied to a new file.
+//! Copies a connection's database to a new file.
 
-ghost use Rattle.std.specs.Prelude.{◌≡◌, IfOk, IsTrue, OnOk};
+ghost use Rattle.std.specs.Prelude.{◌≡◌, false, IfOk, IsTrue, OnOk};
 ghost use Rattle.sqlite.specs.Closing.{IsCopied};
 ghost use Rattle.sqlite.specs.Files.{file_state};
 ghost use Rattle.sqlite_std_file.specs.File.{file_is_usable};
 ghost use Rattle.sqlite_wal.specs.Reads.{AreClean, IsClean, OnlyReads};
 ghost use Rattle.bh_backup.specs.Copies.{HasAlone, IsFileOf};
+ghost use Rattle.bh_backup.specs.Names.{is_beside};
 
 use crate::connections::back_up;
 use crate::disks::copy_disk;
@@ -15,14 +16,14 @@ use bh_file::open_files;
 use sqlite::{Connection, FileFrom, FileStore, Files, Start};
 use sqlite_disk::Disk;
 
-/// The files of a host, closed, and the copy of its database file.
+/// A host's closed files, and the copy of its database file.
 #[derive(Drop)]
 pub struct Saved<D: Disk + Drop, E: Disk + Drop> {
     pub files: Files<D>,
     pub copy: E,
 }
 
-/// Copies a database file into the file beside a name, which this process holds, and gives it the name.
+/// Copies a database file into the `.partial` file, which this process has locked, and renames it.
 fn fill_from<D: Disk + Drop, E: Disk>(
     rt: &HostRuntime,
     files: &mut Files<D>,
@@ -33,15 +34,16 @@ fn fill_from<D: Disk + Drop, E: Disk>(
     requires from { IsTrue (D.Disk.is_usable files.old.db) }
     requires to { IsTrue (E.Disk.is_usable copy.old) }
     ensures copied { OnOk result (IsClean D.Disk files.new.db → HasAlone E.Disk (D.Disk.seen files.old.db) copy.new) }
+    ensures named { OnOk result (is_beside path.now ≡ false) }
     ensures read { OnlyReads D.Disk files.old.db files.new.db }
     ensures log { files.new.log ≡ files.old.log }
 {
     refuse_taken(rt, path)?;
     copy_disk(rt.alloc(), &mut files.db, copy)?;
-    give_name(rt, partial, path)
+    give_name(rt, partial, path, &files.db, copy)
 }
 
-/// Copies the database file of two that stay open to a new file, as [`save`] does.
+/// Copies a database file, which stays open, to a new file, as [`save`] does.
 pub fn save_files<D: Disk + Drop, S: Start>(
     rt: &HostRuntime,
     files: &mut Files<D>,
@@ -51,6 +53,7 @@ pub fn save_files<D: Disk + Drop, S: Start>(
     requires { IsTrue (D.Disk.is_usable files.old.db) }
     ensures copied { IfOk result (λ copy. IsClean D.Disk files.new.db
         → HasAlone ⟦<FileFrom<S> as Disk>⟧ (D.Disk.seen files.old.db) copy) }
+    ensures named { OnOk result (is_beside path.now ≡ false) }
     ensures read { OnlyReads D.Disk files.old.db files.new.db }
     ensures log { files.new.log ≡ files.old.log }
 {
@@ -69,7 +72,7 @@ pub fn save_files<D: Disk + Drop, S: Start>(
     }
 }
 
-/// Fills the file beside a name, which this process holds, and gives it the name.
+/// Fills the `.partial` file, which this process has locked, and renames it.
 fn fill<D: Disk + Drop, E: Disk>(
     rt: &HostRuntime,
     connection: Connection<FileStore<D>>,
@@ -81,20 +84,22 @@ fn fill<D: Disk + Drop, E: Disk>(
     ensures kept { IfOk result (λ files. AreClean D.Disk files.log files.db → IsCopied connection files) }
     ensures copied { IfOk result (λ files. AreClean D.Disk files.log files.db
         → IsFileOf E.Disk (file_state connection).committed copy.new) }
+    ensures named { OnOk result (is_beside path.now ≡ false) }
 {
-    // Whoever held the file until now may have given it the name.
+    // The process that had locked the file until now may have renamed it.
     refuse_taken(rt, path)?;
     let files = back_up(rt.alloc(), connection, copy)?;
-    give_name(rt, partial, path)?;
+    give_name(rt, partial, path, &files.db, copy)?;
     Ok(files)
 }
 
-/// Closes the files of a connection, whose log is copied into the database file first, and copies that file to a new one,
-/// which its owner alone reads and writes (mode 0600).
+/// Closes the files of a connection, copies the log into the database file, and copies that file to
+/// a new one with mode 0600.
 ///
-/// The copy is written into a file beside it, of the same name with `.partial` behind it, and gets its name once all of it is
-/// synced; then its folder is. So whatever stops it, there is a whole copy or none. What a stop left of such a file is written
-/// over. Where it fails, nothing of the copy stays, but for `Unsettled`, and the files hold what they held.
+/// The copy is written to a file of that name with `.partial` appended, synced, and then renamed;
+/// then its directory is synced. So whatever stops it, there is a complete copy or none. A
+/// `.partial` file that an earlier stop left is overwritten. If it fails, nothing of the copy
+/// remains, except with `Unsettled`, and the files keep their contents.
 pub fn save<D: Disk + Drop, S: Start>(
     rt: &HostRuntime,
     connection: Connection<FileStore<D>>,
@@ -104,6 +109,7 @@ pub fn save<D: Disk + Drop, S: Start>(
     ensures kept { IfOk result (λ saved. AreClean D.Disk saved.files.log saved.files.db → IsCopied connection saved.files) }
     ensures copied { IfOk result (λ saved. AreClean D.Disk saved.files.log saved.files.db
         → IsFileOf ⟦<FileFrom<S> as Disk>⟧ (file_state connection).committed saved.copy) }
+    ensures named { OnOk result (is_beside path.now ≡ false) }
 {
     refuse_taken(rt, path)?;
     let partial = Partial::of(rt, path)?;

@@ -1,11 +1,12 @@
 -- From the blocks of a digest to the one that holds some bytes.
-use Rattle.std.proofs.Common.{◌≡◌, ℕ, ◌+◌, Bool, true, false, ◌&&◌, List, [], ◌∷◌, map, filter, find, length, drop, cond, Option, Some, None, option_map, refl, sym, ap, ◌∙◌, subst, if◌then◌else◌}
+use Rattle.std.proofs.Common.{◌≡◌, ℕ, ◌+◌, Bool, true, false, ◌&&◌, List, [], ◌∷◌, map, filter, find, length, drop, cond, arith, Ordering, Option, Some, None, option_map, refl, sym, ap, ◌∙◌, subst, if◌then◌else◌}
 use Rattle.sqlite_typed.specs.Tests.{bytes_eq}
 use Rattle.bh_tables.specs.Schema.{Octets}
 use Rattle.bh_tables.specs.Typed.{BlockRow}
 use Rattle.bh_tables.specs.Shown.{has_digest, is_copy, by_ord}
 use Rattle.bh_view.specs.Blocks.{copy_in, free_ord, least}
-use Rattle.sqlite_keyed.specs.Lists.{sort_by}
+use Rattle.std.specs.Ordering.{is_gt}
+use Rattle.sqlite_keyed.specs.Lists.{insert_sorted, sort_by}
 use Rattle.bh_blocks.specs.Lookups.{ord_of_copy}
 
 abbrev pub has_bytes : Octets → BlockRow → Bool
@@ -43,3 +44,24 @@ none_copied digest bytes blocks none = copy_found digest bytes blocks None (ap (
 
 pub first_free : (digest : Octets) (blocks : List BlockRow) → filter (has_digest digest) blocks ≡ [] → 0 ≡ free_ord digest blocks
 first_free digest blocks none = sym (ap (λ bs. least 0 (sort_by by_ord bs)) none)
+
+-- a list that is empty in order is empty
+some_inserted : {X : Type 0} (cmp : X → X → Ordering) (new : X) (xs : List X) → insert_sorted cmp new xs ≡ [] → ⊥
+some_inserted cmp new [] = λ e. (let z = ap length e in omega (arith, z))
+some_inserted cmp new (x ∷ xs) = elim (is_gt (cmp new x)) as (λ b. cond b (x ∷ insert_sorted cmp new xs) (new ∷ x ∷ xs) ≡ [] → ⊥) [
+  | true ↦ λ e. (let z = ap length e in omega (arith, z))
+  | false ↦ λ e. (let z = ap length e in omega (arith, z))
+]
+
+none_sorted : {X : Type 0} (cmp : X → X → Ordering) (xs : List X) → sort_by cmp xs ≡ [] → xs ≡ []
+none_sorted cmp [] e = refl
+none_sorted cmp (x ∷ xs) e = absurd (some_inserted cmp x (sort_by cmp xs) e)
+
+none_mapped : {X Y : Type 0} (f : X → Y) (xs : List X) → length (map f xs) ≡ 0 → xs ≡ []
+none_mapped f [] e = refl
+none_mapped f (x ∷ xs) e = absurd (omega (arith, e))
+
+-- no row is shown of the blocks of a digest: there are none
+pub none_shown : {Y : Type 0} (shown : BlockRow → Y) (digest : Octets) (blocks : List BlockRow) (rows : List Y) → length rows ≡ 0
+    → rows ≡ map shown (sort_by by_ord (filter (has_digest digest) blocks)) → filter (has_digest digest) blocks ≡ []
+none_shown shown digest blocks rows none is = none_sorted by_ord _ (none_mapped shown _ (sym (ap length is) ∙ none))

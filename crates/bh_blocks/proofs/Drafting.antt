@@ -94,6 +94,13 @@ module _ (digest : Octets → Octets) (at : Name) where
       → (more : Octets) → body_stored digest at next (pieces size (left ++ more)) then ≡ body_stored digest at place (pieces size ((waiting ++ bytes) ++ more)) now
   none_waits size place next waiting bytes left now then none step more = step more ∙ sym (ap (λ w. body_stored digest at place (pieces size ((w ++ bytes) ++ more)) now) none)
 
+  -- a whole block is added, and nothing waits
+  pub whole_added : (size place : ℕ) (waiting block : Octets) (old new : Tables) → 1 ≤ size → length block ≡ size → waiting ≡ [] → new ≡ body_stored digest at place (block ∷ []) old
+      → (more : Octets) → body_stored digest at (place + 1) (pieces size (waiting ++ more)) new ≡ body_stored digest at place (pieces size ((waiting ++ block) ++ more)) old
+  whole_added size place waiting block old new low long none is =
+      none_waits size place (place + 1) waiting block waiting old new none
+      (λ more. whole_cut size place block block waiting more old new low (omega (arith, long)) (sym (take_all size block (omega (arith, long)))) (none ∙ sym (drop_all size block (omega (arith, long)))) is)
+
 -- ---- drafts
 
 -- what was pushed goes on

@@ -3,6 +3,7 @@ pub mod UseCalls
 pub mod Loops
 pub mod BodySteps
 pub mod Drafting
+pub mod Grouping
 pub mod Storing
 pub mod Cached
 pub mod Candidates

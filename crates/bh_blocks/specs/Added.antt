@@ -1,4 +1,4 @@
--- When a body may be added to the tables, and the bytes of those that are there.
+-- When a body may be added to the tables, and the bytes of the bodies in them.
 use Rattle.bh_tables.specs.Schema.{Octets}
 use Rattle.bh_tables.specs.Typed.{Tables}
 use Rattle.bh_tables.specs.Shown.{Name}

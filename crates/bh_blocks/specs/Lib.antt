@@ -1,6 +1,7 @@
 pub mod Added
 pub mod Digests
 pub mod Drafts
+pub mod Groups
 pub mod Lookups
 pub mod Named
 pub mod Plans

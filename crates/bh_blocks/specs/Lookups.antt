@@ -1,4 +1,4 @@
--- What the blocks of a digest tell of some bytes.
+-- What the blocks of a digest imply about some bytes.
 use Rattle.std.specs.Prelude.{◌≡◌, ℕ, ◌<◌, ◌^◌, List, [], filter, Option, Some, None, option_map}
 use Rattle.sqlite_typed.specs.Tests.{bytes_eq}
 use Rattle.bh_tables.specs.Schema.{Octets}
@@ -9,22 +9,22 @@ use Rattle.bh_blocks.specs.declared.blocks.Lookup.{Lookup}
 use Rattle.bh_blocks.specs.declared.blocks.Lookup.TheVariants.{Held, Clashing, Absent}
 use Rattle.bh_blocks.specs.declared.rows.Candidate.{Candidate}
 
--- a block of a digest, beside these bytes
+-- a block of a digest, compared with these bytes
 pub record IsCandidate (bytes : Octets) (b : BlockRow) (found : Candidate) : Type 0 where
   pub ord : found.ord ≡ b.ord
   pub is_copy : found.is_copy ≡ bytes_eq b.bytes bytes
 
--- the ordinal of the block that holds these bytes, if one does
+-- the ordinal of the block with these bytes, if there is one
 abbrev pub ord_of_copy : Octets → Octets → List BlockRow → Option ℕ
 ord_of_copy digest bytes blocks = option_map (λ (b : BlockRow). b.ord) (copy_in digest bytes blocks)
 
--- whether a block of this digest holds these bytes, and whether one has the digest
+-- whether a block of this digest has these bytes, and whether there is one with the digest
 abbrev pub Tells : Octets → Octets → List BlockRow → Lookup → Type 0
 Tells digest bytes blocks (Held ord) = Some ord ≡ ord_of_copy digest bytes blocks
 Tells digest bytes blocks Clashing = None ≡ ord_of_copy digest bytes blocks
 Tells digest bytes blocks Absent = filter (has_digest digest) blocks ≡ []
 
--- its ordinal is one that a column can hold
+-- its ordinal fits in a column
 abbrev pub IsSmall : Lookup → Type 0
 IsSmall (Held ord) = ord < 2 ^ 63
 IsSmall Clashing = Unit {0}

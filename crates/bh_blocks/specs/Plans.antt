@@ -1,4 +1,4 @@
--- What a plan still gives of the bytes of a body.
+-- The remaining bytes of a plan.
 use Rattle.std.specs.Prelude.{◌≡◌, ℕ, ◌+◌, ◌-◌, nat_lt, if◌then◌else◌, List, [], ◌∷◌, flat_map, drop, Option, Some, None}
 use Rattle.bh_types.specs.declared.range.RangePlan.{RangePlan}
 use Rattle.bh_types.specs.declared.range.RangePlan.TheVariants.{Whole, Part}
@@ -15,20 +15,20 @@ use Rattle.bh_blocks.specs.declared.refs.BlockRef.{BlockRef}
 abbrev pub planned : Plan → Name
 planned plan = (plan.tenant.now, plan.body)
 
--- what a window shows of the blocks of a body from a place on
+-- the bytes in a window on the blocks of a body from a place on
 abbrev pub shown_from : Window → ℕ → Name → Tables → Octets
 shown_from window place at tables = seen_in window (flat_map (piece_of tables.blocks) (drop place (placed tables.refs at)))
 
--- the bytes that a plan is still to give
+-- the remaining bytes of a plan
 abbrev pub coming : Plan → Tables → Octets
 coming plan tables = shown_from plan.window plan.place (planned plan) tables
 
--- what was read of the first of these references, or that there is none
+-- the result is the first of these references, or that there is none
 abbrev pub IsFirst : Option BlockRef → List RefRow → Type 0
 IsFirst None rs = rs ≡ []
 IsFirst (Some block) rs = (r : RefRow) × (more : List RefRow) × (rs ≡ r ∷ more) × (named_by block ≡ ref_name r) × (block.size ≡ r.size)
 
--- how many bytes a range names, of so many
+-- the number of bytes in a range of a body of a size
 abbrev pub size_of : RangePlan → ℕ → ℕ
 size_of Whole total = total
 size_of (Part first last) total = (if nat_lt last total then last + 1 else total) - first

@@ -29,7 +29,7 @@ round s =
     let b2 = add a2 a1 in
     record { v0 = b0; v1 = bit_xor (rotate_left w64 a1 17) b2; v2 = rotate_left w64 b2 32; v3 = bit_xor (rotate_left w64 a3 21) b0 }
 
--- a word goes in
+-- absorbs one word
 unfoldable pub absorb : Lane → ℕ → Lane
 absorb s m = let t = round (round (record s { v3 = bit_xor s.v3 m })) in record t { v0 = bit_xor t.v0 m }
 
@@ -46,7 +46,7 @@ end_of s =
     let second = four_rounds (record first { v1 = bit_xor first.v1 0xdd }) in
     (folded first, folded second)
 
--- the bytes that fill no word, the first of them lowest
+-- the last bytes, less than a word, the first of them lowest
 abbrev pub tail_of : List ℕ → ℕ
 tail_of rest = fold (λ word byte. bit_or ((word * 2 ^ 8) % 2 ^ 64) byte) 0 (reverse rest)
 
@@ -74,7 +74,7 @@ before b more =
 abbrev pub in_a_row : List ℕ → List ℕ → List ℕ → List ℕ → List ℕ
 in_a_row a b c d = before a (before b (before c (before d [])))
 
--- the bytes of their ends, the lowest of each word first
+-- the bytes of the final words, the lowest of each word first
 unfoldable pub digest_in : Lanes → List ℕ
 digest_in s =
     let one = end_of s.one in

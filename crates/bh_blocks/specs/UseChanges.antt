@@ -1,4 +1,4 @@
--- The changes of the count of uses of a block: what each leaves of the counts, when its error is trouble, and its text.
+-- Changes of a block's count of uses: their effect on the counts, when they fail, and their SQL.
 use Rattle.std.specs.Prelude.{ℕ, pos, ◌+ℤ◌, ◌-ℤ◌, List, [], ◌∷◌, ◌++◌}
 use Rattle.sqlite.specs.declared.types.Value.TheVariants.{Blob}
 use Rattle.sqlite_keyed.specs.Lists.{delete_where}
@@ -21,7 +21,7 @@ uses_after change.Raised q us = raised q us
 uses_after change.Lowered q us = lowered q us
 uses_after change.Removed q us = delete_where (is_named q) us
 
--- the store refuses it in trouble alone; nothing is said of one more
+-- when the store refuses it only by failing; nothing is promised for an increment
 abbrev pub MayChange : UseChange → Name → Standing → Type 0
 MayChange change.Added q x = ⊥
 MayChange change.Raised q x = ⊥

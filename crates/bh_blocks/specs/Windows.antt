@@ -1,4 +1,4 @@
--- The part of bytes that a window shows, and the bytes that references name.
+-- The bytes in a window, and the bytes of references.
 use Rattle.std.specs.Prelude.{◌≡◌, List, take, drop, length}
 use Rattle.bh_tables.specs.Schema.{Octets}
 use Rattle.bh_tables.specs.Typed.{BlockRow, RefRow}

@@ -19,12 +19,12 @@ use bh_cache::blocks::{BlockCache, BlockName};
 use bh_schema::host::Digester;
 use sqlite::{Alter, Connection, Error, ErrorCode, Row};
 
-/// Whether a block holds some bytes, by the blocks that have their digest.
+/// Whether a block has some bytes, given the blocks with their digest.
 #[derive(Clone, Copy)]
 pub enum Lookup {
-    /// The block of this ordinal holds them.
+    /// The block with this ordinal has them.
     Held(u64),
-    /// None does, but blocks of other bytes have their digest.
+    /// None has, but other blocks have their digest.
     Clashing,
     /// No block has their digest.
     Absent,
@@ -50,7 +50,8 @@ fn lookup_in(rows: &[Row]) -> Result<Lookup, Error>
     }
 }
 
-/// Whether a block holds these bytes, which have this digest, by the rows.
+/// Whether a block has these bytes, by the rows with their digest. If there is none, the store isn't
+/// given the bytes.
 fn find_copy<S: Alter>(
     connection: &mut Connection<S>,
     digest: &[u8],
@@ -63,11 +64,14 @@ fn find_copy<S: Alter>(
     ensures small { IfOk result IsSmall }
     ensures trouble { IfErr result (IsTrouble S.Store connection.old connection.new) }
 {
+    if ord_rows(connection, digest)?.is_empty() {
+        return Ok(Lookup::Absent);
+    }
     let rows = candidate_rows(connection, digest, bytes)?;
     lookup_in(&rows)
 }
 
-/// Whether the first block of a digest is kept in memory and has these bytes.
+/// Whether the first block of a digest is cached and has these bytes.
 fn is_kept(cache: &BlockCache, digest: &[u8], bytes: &[u8]) -> bool
     ensures { result ≡ true → Contains cache.now.entries ((digest.now, 0), bytes.now) }
 {
@@ -80,7 +84,8 @@ fn is_kept(cache: &BlockCache, digest: &[u8], bytes: &[u8]) -> bool
     }
 }
 
-/// Whether a block holds these bytes, which have this digest. No row is read where it is kept in memory and the first of its digest.
+/// Whether a block has these bytes, whose digest is given. If the digest's first block is cached
+/// and has them, no row is read.
 fn find_kept<S: Alter>(
     connection: &mut Connection<S>,
     cache: &BlockCache,
@@ -101,7 +106,7 @@ fn find_kept<S: Alter>(
     find_copy(connection, digest, bytes)
 }
 
-/// The least number that no row has, of rows by ordinal.
+/// The least number that no row has, of rows ordered by ordinal.
 fn least_free(rows: &[Row]) -> Result<u64, Error>
     ensures least { IfOk result (λ n. (bs : List BlockRow) → rows.now ≡ map shown_ord bs → n ≡ least 0 bs) }
     ensures trouble { IfErr result (λ e. (bs : List BlockRow) → rows.now ≡ map shown_ord bs → is_trouble e ≡ true) }
@@ -119,7 +124,7 @@ fn least_free(rows: &[Row]) -> Result<u64, Error>
     Ok(free)
 }
 
-/// The least ordinal that no block of a digest has.
+/// The least free ordinal of a digest.
 fn free_ord<S: Alter>(connection: &mut Connection<S>, digest: &[u8]) -> Result<u64, Error>
     requires inside { InTransaction S.Store connection.old }
     ensures within { StaysWithin S.Store connection.old connection.new }
@@ -135,7 +140,7 @@ fn free_ord<S: Alter>(connection: &mut Connection<S>, digest: &[u8]) -> Result<u
     in_range(free)
 }
 
-/// Adds a block of bytes that none holds, with the first reference to it.
+/// Adds a block of new bytes, with the first reference to it.
 fn add_block<S: Alter>(
     connection: &mut Connection<S>,
     at: &Place<'_>,
@@ -159,8 +164,8 @@ fn add_block<S: Alter>(
     Ok(())
 }
 
-/// Adds a block of bytes that none holds and whose digest others have, under the least ordinal that none of these has, with the first
-/// reference to it.
+/// Adds a block of new bytes whose digest other blocks have, under the least free ordinal, with the
+/// first reference to it.
 fn store_clashing<S: Alter>(
     connection: &mut Connection<S>,
     at: &Place<'_>,
@@ -181,11 +186,11 @@ fn store_clashing<S: Alter>(
     add_block(connection, at, digest, ord, bytes)
 }
 
-/// Stores one piece of a body at its place: a reference to the block of its bytes, which is added unless one holds
-/// equal bytes. The bytes have this digest. The cache is asked before the rows.
+/// Stores one piece of a body at its place: a reference to the block with its bytes, which is added
+/// if there is none. The digest is that of the bytes. The cache is consulted before the rows.
 ///
-/// A new block gets the least ordinal that no block of its digest has, and is written with its count of uses. After an
-/// error the transaction is to be taken back.
+/// A new block gets the least ordinal that no block of its digest has, and is written with its
+/// count of uses. After an error the transaction has to be rolled back.
 pub fn store_named<S: Alter>(
     connection: &mut Connection<S>,
     cache: &BlockCache,
@@ -210,7 +215,29 @@ pub fn store_named<S: Alter>(
     }
 }
 
-/// Stores a piece of any bytes.
+/// Stores a piece of bytes that have this digest.
+pub(crate) fn store_known<S: Alter>(
+    connection: &mut Connection<S>,
+    cache: &BlockCache,
+    at: &Place<'_>,
+    digest: &[u8; 32],
+    bytes: &[u8],
+) -> Result<(), Error>
+    requires inside { InTransaction S.Store connection.old }
+    requires copies { IsClean S.Store connection.old → AreCopies cache.now (tables S.Store connection.old).blocks }
+    requires body { at.now.body < 2 ^ 63 }
+    requires place { at.now.place < 2 ^ 63 }
+    ensures within { StaysWithin S.Store connection.old connection.new }
+    ensures opens { OnOk result (StaysOpen S.Store connection.old connection.new) }
+    ensures copies { OnOk result (IsClean S.Store connection.new → AreCopies cache.now (tables S.Store connection.new).blocks) }
+    ensures stored { (digest_of : Octets → Octets) → digest.now ≡ digest_of bytes.now
+        → OnOk result (Becomes S.Store connection.old connection.new
+        (body_stored digest_of (body_at at.now) at.now.place (bytes.now ∷ []))) }
+{
+    store_named(connection, cache, at, digest, bytes)
+}
+
+/// Stores a piece of a body.
 pub fn store_piece<S: Alter, D: Digester>(
     connection: &mut Connection<S>,
     cache: &BlockCache,
@@ -229,5 +256,5 @@ pub fn store_piece<S: Alter, D: Digester>(
         (body_stored D.digest_of (body_at at.now) at.now.place (bytes.now ∷ []))) }
 {
     let digest = digester.digest(bytes);
-    store_named(connection, cache, at, &digest, bytes)
+    store_known(connection, cache, at, &digest, bytes)
 }

@@ -25,9 +25,9 @@ use bh_schema::host::Digester;
 use sqlite::{Alter, Connection, Error, Row};
 use std::alloc::Global;
 
-/// Stores a body, cut into blocks of a size.
+/// Stores a body, cut into blocks of `size` bytes.
 ///
-/// No reference of a body of this name is to be there yet. After an error the transaction is to be taken back.
+/// The body must not have any references yet. After an error the transaction has to be rolled back.
 fn store_pieces<S: Alter, D: Digester>(
     connection: &mut Connection<S>,
     cache: &BlockCache,
@@ -53,7 +53,7 @@ fn store_pieces<S: Alter, D: Digester>(
     Ok(())
 }
 
-/// Whether bytes are one piece of a size.
+/// Whether bytes fit in one block.
 fn is_one_piece(bytes: &[u8], size: u64) -> bool
     ensures { result ≡ true → pieces size bytes.now ≡ bytes.now ∷ [] }
 {
@@ -91,10 +91,10 @@ fn store_whole<S: Alter, D: Digester>(
     store_named(connection, cache, &at, &digest, bytes)
 }
 
-/// Stores a body, cut into blocks of a size. Its SHA-256 digest (FIPS 180-4) is known, so a body of one block is not
-/// read for it again.
+/// Stores a body, cut into blocks of `size` bytes. Its SHA-256 digest (FIPS 180-4) is given, so a
+/// body of one block is not hashed again.
 ///
-/// No reference of a body of this name is to be there yet. After an error the transaction is to be taken back.
+/// The body must not have any references yet. After an error the transaction has to be rolled back.
 pub fn store_body<S: Alter, D: Digester>(
     connection: &mut Connection<S>,
     cache: &BlockCache,
@@ -127,7 +127,7 @@ pub fn store_body<S: Alter, D: Digester>(
     )
 }
 
-/// Refers to the block that a row of references names once more.
+/// Adds a reference to the block that a row of references names.
 fn refer_again<S: Alter>(
     connection: &mut Connection<S>,
     at: &Place<'_>,
@@ -146,7 +146,7 @@ fn refer_again<S: Alter>(
     refer(connection, at, &block.digest, block.ord, block.size)
 }
 
-/// Gives a body the blocks that rows of references name, in their order.
+/// Gives a body the blocks that rows of references name, in order.
 fn refer_to_all<S: Alter>(
     connection: &mut Connection<S>,
     tenant: &str,
@@ -173,9 +173,10 @@ fn refer_to_all<S: Alter>(
     Ok(())
 }
 
-/// Gives a body the blocks of another one of the tenant. No block is read.
+/// Gives a body the blocks of another one of the tenant's. No block is read.
 ///
-/// No reference of a body of this name is to be there yet. After an error the transaction is to be taken back.
+/// The new body must not have any references yet. After an error the transaction has to be rolled
+/// back.
 pub fn copy_body<S: Alter>(
     connection: &mut Connection<S>,
     tenant: &str,
@@ -205,7 +206,7 @@ fn append_rows(rows: &mut Vec<Row>, mut more: Vec<Row>) -> Result<(), Error>
     Ok(())
 }
 
-/// The rows of references of several bodies, one body after the other.
+/// The rows of references of several bodies, one body after another.
 fn rows_of_all<S: Alter>(
     connection: &mut Connection<S>,
     alloc: Global,
@@ -227,9 +228,10 @@ fn rows_of_all<S: Alter>(
     Ok(rows)
 }
 
-/// Gives a body the blocks of other ones of the tenant, one after the other. No block is read.
+/// Gives a body the blocks of several others of the tenant's, one after another. No block is read.
 ///
-/// No reference of a body of this name is to be there yet. After an error the transaction is to be taken back.
+/// The new body must not have any references yet. After an error the transaction has to be rolled
+/// back.
 pub fn join_bodies<S: Alter>(
     connection: &mut Connection<S>,
     alloc: Global,
@@ -253,7 +255,7 @@ pub fn join_bodies<S: Alter>(
     refer_to_all(connection, tenant, body, &rows)
 }
 
-/// One reference less to the block that a row of references names.
+/// Decrements the uses of the block that a row of references names.
 fn lower_named<S: Alter>(connection: &mut Connection<S>, row: &Row) -> Result<(), Error>
     requires midst { InMidst S.Store connection.old }
     ensures within { StaysWithin S.Store connection.old connection.new }
@@ -269,7 +271,7 @@ fn lower_named<S: Alter>(connection: &mut Connection<S>, row: &Row) -> Result<()
     Ok(())
 }
 
-/// One reference less to each of the blocks that rows of references name.
+/// Decrements the uses of the blocks that rows of references name.
 fn lower_all<S: Alter>(connection: &mut Connection<S>, rows: &[Row]) -> Result<(), Error>
     requires midst { InMidst S.Store connection.old }
     ensures within { StaysWithin S.Store connection.old connection.new }
@@ -287,7 +289,7 @@ fn lower_all<S: Alter>(connection: &mut Connection<S>, rows: &[Row]) -> Result<(
     Ok(())
 }
 
-/// Takes a body away. Its blocks stay, each with fewer uses.
+/// Deletes a body. Its blocks stay, each with fewer uses.
 pub fn drop_body<S: Alter>(
     connection: &mut Connection<S>,
     tenant: &str,

@@ -1,6 +1,8 @@
-//! A body that comes in pieces, of any sizes: it is stored as it comes, and fewer bytes than a block has are held.
+//! A body that is stored while it is received, in pieces of any sizes. It has less than one block
+//! in memory.
 
 ghost use Rattle.std.specs.Prelude.{◌≡◌, ◌+◌, ◌<◌, ◌≤◌, ◌^◌, ◌++◌, ◌∷◌, [], length, take, drop, IfOk, OnOk};
+ghost use Rattle.sha2.specs.Sha256.{sha256};
 ghost use Rattle.bh_tables.specs.Schema.{Octets};
 ghost use Rattle.bh_tables.specs.Typed.{Tables};
 ghost use Rattle.bh_view.specs.Blocks.{AreDigests};
@@ -12,15 +14,16 @@ ghost use Rattle.bh_blocks.specs.Added.{IsNewBody};
 ghost use Rattle.bh_blocks.specs.Drafts.{Goes, drafted};
 ghost use Rattle.bh_blocks.specs.Named.{body_at};
 
-use crate::blocks::store_piece;
+use crate::blocks::{store_known, store_piece};
+use crate::groups::{cut_off, next_place, store_blocks};
 use crate::refs::Place;
-use crate::rows::in_range;
 use bh_cache::blocks::BlockCache;
 use bh_schema::host::Digester;
-use sqlite::{Alter, Connection, Error, ErrorCode};
+use sqlite::{Alter, Connection, Error};
 use std::alloc::Global;
 
-/// A body of which some bytes came: its blocks so far are stored, and fewer bytes than a block has wait.
+/// A body of which some bytes were received. Its complete blocks are stored, and the rest of less
+/// than one block is in memory.
 #[derive(Drop)]
 pub struct Draft<'a> {
     tenant: &'a str,
@@ -28,21 +31,12 @@ pub struct Draft<'a> {
     body: u64,
     /// Bytes, of a block.
     size: u64,
-    /// Of the next block, counted from 0.
+    /// The next block's place in the body, counted from 0.
     place: u64,
     waiting: Vec<u8>,
 }
 
-/// The first bytes, at most as many as this, and the others.
-fn cut_off(bytes: &[u8], size: u64) -> (&[u8], &[u8])
-    ensures front { result.0.now ≡ take size bytes.now }
-    ensures back { result.1.now ≡ drop size bytes.now }
-{
-    let count = size.min(bytes.len() as u64) as usize;
-    (&bytes[..count], &bytes[count..])
-}
-
-/// Begins a body, in blocks of a size. No reference of a body of this name is to be there yet.
+/// Begins a body, in blocks of `block_size` bytes. It must not have any references yet.
 pub fn begin_body<'a>(alloc: Global, tenant: &'a str, body: u64, block_size: u64) -> Draft<'a>
     ensures tenant { result.tenant.now ≡ tenant.now }
     ensures body { result.body ≡ body }
@@ -59,7 +53,7 @@ pub fn begin_body<'a>(alloc: Global, tenant: &'a str, body: u64, block_size: u64
     }
 }
 
-/// How many bytes wait.
+/// The number of bytes in memory.
 fn held(draft: &Draft<'_>) -> u64
     ensures { result ≡ length draft.now.waiting.items }
 {
@@ -72,58 +66,7 @@ pub(crate) fn append(waiting: &mut Vec<u8>, bytes: &[u8]) -> Result<(), Error>
     Ok(waiting.extend_from_slice(bytes)?)
 }
 
-/// The place after this one.
-pub(crate) fn next_place(place: u64) -> Result<u64, Error>
-    ensures next { IfOk result (λ next. next ≡ place + 1) }
-    ensures small { IfOk result (λ next. next < 2 ^ 63) }
-{
-    match place.checked_add(1) {
-        Some(next) => in_range(next),
-        None => Err(Error::SqliteFailure(ErrorCode::TooBig)),
-    }
-}
-
-/// Stores the blocks of a size at the front of bytes, from a place on: the next place, and what is left.
-fn store_blocks<'a, S: Alter, D: Digester>(
-    connection: &mut Connection<S>,
-    cache: &BlockCache,
-    digester: &D,
-    size: u64,
-    from: &Place<'_>,
-    bytes: &'a [u8],
-) -> Result<(u64, &'a [u8]), Error>
-    requires inside { InTransaction S.Store connection.old }
-    requires copies { IsClean S.Store connection.old → AreCopies cache.now (tables S.Store connection.old).blocks }
-    requires size { 1 ≤ size }
-    requires body { from.now.body < 2 ^ 63 }
-    requires place { from.now.place < 2 ^ 63 }
-    ensures within { StaysWithin S.Store connection.old connection.new }
-    ensures opens { OnOk result (StaysOpen S.Store connection.old connection.new) }
-    ensures inside { OnOk result (InTransaction S.Store connection.new) }
-    ensures copies { OnOk result (IsClean S.Store connection.new → AreCopies cache.now (tables S.Store connection.new).blocks) }
-    ensures small { IfOk result (λ done. done.0 < 2 ^ 63) }
-    ensures fewer { IfOk result (λ done. length done.1.now < size) }
-    ensures goes { IfOk result (λ done. IsClean S.Store connection.new → (more : Octets)
-        → body_stored D.digest_of (body_at from.now) done.0 (pieces size (done.1.now ++ more)) (tables S.Store connection.new)
-        ≡ body_stored D.digest_of (body_at from.now) from.now.place (pieces size (bytes.now ++ more)) (tables S.Store connection.old)) }
-{
-    let mut rest = bytes;
-    let mut place = from.place;
-    'cutting: while rest.len() as u64 >= size {
-        let (block, more) = cut_off(rest, size);
-        let at = Place {
-            tenant: from.tenant,
-            body: from.body,
-            place,
-        };
-        store_piece(connection, cache, digester, &at, block)?;
-        place = next_place(place)?;
-        rest = more;
-    }
-    Ok((place, rest))
-}
-
-/// Takes more bytes of a body of which none waits.
+/// Adds bytes to a body that has none in memory.
 fn push_blocks<S: Alter, D: Digester>(
     connection: &mut Connection<S>,
     cache: &BlockCache,
@@ -157,13 +100,15 @@ fn push_blocks<S: Alter, D: Digester>(
         body: draft.body,
         place: draft.place,
     };
-    let (place, rest) = store_blocks(connection, cache, digester, draft.size, &from, bytes)?;
+    let alloc = *draft.waiting.allocator();
+    let size = draft.size;
+    let (place, rest) = store_blocks(connection, cache, alloc, digester, size, &from, bytes)?;
     draft.place = place;
     append(&mut draft.waiting, rest)?;
     Ok(())
 }
 
-/// Stores what waits as a block.
+/// Stores the bytes in memory as a block.
 fn store_waiting<S: Alter, D: Digester>(
     connection: &mut Connection<S>,
     cache: &BlockCache,
@@ -197,7 +142,8 @@ fn store_waiting<S: Alter, D: Digester>(
     Ok(())
 }
 
-/// Takes more bytes of a body. After an error it is given up, and the transaction is to be taken back.
+/// Adds bytes to a body. After an error the draft is lost, and the transaction has to be rolled
+/// back.
 pub fn push<S: Alter, D: Digester>(
     connection: &mut Connection<S>,
     cache: &BlockCache,
@@ -239,7 +185,50 @@ pub fn push<S: Alter, D: Digester>(
     Ok(())
 }
 
-/// Stores what waits: the body is whole. After an error the transaction is to be taken back.
+/// Adds one block to a body that has no bytes in memory. The block's SHA-256 digest (FIPS 180-4) is
+/// known, so SHA-256 doesn't hash it again.
+pub fn push_known<S: Alter, D: Digester>(
+    connection: &mut Connection<S>,
+    cache: &BlockCache,
+    digester: &D,
+    draft: &mut Draft<'_>,
+    block: &[u8],
+    checksum: &[u8; 32],
+) -> Result<(), Error>
+    requires inside { InTransaction S.Store connection.old }
+    requires copies { IsClean S.Store connection.old → AreCopies cache.now (tables S.Store connection.old).blocks }
+    requires size { 1 ≤ draft.old.size }
+    requires body { draft.old.body < 2 ^ 63 }
+    requires place { draft.old.place < 2 ^ 63 }
+    requires none { draft.old.waiting.items ≡ [] }
+    requires whole { length block.now ≡ draft.old.size }
+    requires known { checksum.now ≡ sha256 block.now }
+    ensures within { StaysWithin S.Store connection.old connection.new }
+    ensures opens { OnOk result (StaysOpen S.Store connection.old connection.new) }
+    ensures inside { OnOk result (InTransaction S.Store connection.new) }
+    ensures copies { OnOk result (IsClean S.Store connection.new → AreCopies cache.now (tables S.Store connection.new).blocks) }
+    ensures of { drafted draft.new ≡ drafted draft.old }
+    ensures body { draft.new.body ≡ draft.old.body }
+    ensures size { draft.new.size ≡ draft.old.size }
+    ensures small { OnOk result (draft.new.place < 2 ^ 63) }
+    ensures fewer { OnOk result (length draft.new.waiting.items < draft.new.size) }
+    ensures goes { OnOk result (IsClean S.Store connection.new → (given : Octets) (start : Tables)
+        → Goes D.digest_of draft.old (tables S.Store connection.old) given start
+        → Goes D.digest_of draft.new (tables S.Store connection.new) (given ++ block.now) start) }
+{
+    let digest = digester.digest_known(block, checksum);
+    let at = Place {
+        tenant: draft.tenant,
+        body: draft.body,
+        place: draft.place,
+    };
+    store_known(connection, cache, &at, &digest, block)?;
+    draft.place = next_place(draft.place)?;
+    Ok(())
+}
+
+/// Stores the remaining bytes: the body is complete. After an error the transaction has to be
+/// rolled back.
 pub fn end_body<S: Alter, D: Digester>(
     connection: &mut Connection<S>,
     cache: &BlockCache,

@@ -1,4 +1,5 @@
-//! The bytes of a body, or of a part of it, block by block: of its blocks only those are read that the part touches.
+//! The bytes of a body, or of a part of it, block by block. Only the blocks with bytes of that part
+//! are read.
 
 ghost use Rattle.std.specs.Prelude.{◌≡◌, ◌⊎◌, ◌++◌, ◌+◌, ◌-◌, ◌<◌, ◌≤◌, ◌^◌, [], List, Contains, map, drop, length, sum_by, Some, IfSome};
 ghost use Rattle.std.specs.Prelude.{IfNone, IfOk, OnOk, OnErr};
@@ -15,7 +16,8 @@ ghost use Rattle.bh_blocks.specs.Named.{named_by};
 ghost use Rattle.bh_blocks.specs.Plans.{IsFirst, coming, planned, shown_from, size_of};
 ghost use Rattle.bh_blocks.specs.Windows.{seen_in};
 
-use crate::drafts::{append, next_place};
+use crate::drafts::append;
+use crate::groups::next_place;
 use crate::refs::{BlockRef, Place, read_ref, ref_at, ref_rows};
 use crate::rows::bytes_rows;
 use bh_cache::blocks::{BlockCache, BlockName};
@@ -24,14 +26,14 @@ use sqlite::types::ValueRef;
 use sqlite::{Alter, Connection, Error, ErrorCode, Row};
 use std::alloc::Global;
 
-/// A part of bytes: so many of them are left out, and at most so many of the others are in it.
+/// A window on bytes: how many to skip, and the maximum number to return.
 #[derive(Clone, Copy)]
 pub struct Window {
     pub skip: u64,
     pub left: u64,
 }
 
-/// The part that a plan names, of so many bytes.
+/// A plan's window on `total` bytes.
 fn window_of(plan: RangePlan, total: u64) -> Window
     ensures part { (bytes : Octets) → length bytes ≡ total → seen_in result bytes ≡ cut plan bytes }
     ensures left { result.left ≡ size_of plan total }
@@ -51,7 +53,7 @@ fn window_of(plan: RangePlan, total: u64) -> Window
     }
 }
 
-/// How many bytes the blocks have that rows of references name.
+/// The total size of the blocks in rows of references.
 fn total_size(rows: &[Row]) -> Result<u64, Error>
     ensures { IfOk result (λ total. (rs : List RefRow) → rows.now ≡ map shown_ref rs → total ≡ sum_by (λ r. r.size) rs) }
 {
@@ -65,7 +67,7 @@ fn total_size(rows: &[Row]) -> Result<u64, Error>
     Ok(total)
 }
 
-/// The part of bytes that a window shows.
+/// The bytes in a window.
 fn part_of(bytes: &[u8], window: Window) -> &[u8]
     ensures { result.now ≡ seen_in window bytes.now }
 {
@@ -75,7 +77,7 @@ fn part_of(bytes: &[u8], window: Window) -> &[u8]
     &rest[..count]
 }
 
-/// What the window shows of the bytes after so many.
+/// The window on the bytes after the first `size` ones.
 fn after(window: Window, size: u64) -> Window
     ensures skip { result.skip ≡ window.skip - size }
     ensures left { result.left ≡ window.left - (size - window.skip) }
@@ -87,12 +89,12 @@ fn after(window: Window, size: u64) -> Window
     }
 }
 
-/// Keeps the block that a reference names, whose bytes a row shows.
+/// Caches the block of a reference; its bytes are in a row.
 fn keep_row(cache: &mut BlockCache, alloc: Global, block: &BlockRef, row: &Row)
     ensures { (b : BlockRow) → row.now ≡ shown_bytes b → (e : Name × Octets) → Contains cache.new.entries e
         → Contains cache.old.entries e ⊎ (e ≡ (named_by block.now, b.bytes)) }
 {
-    // Nothing is copied for no room.
+    // Without a cache nothing is copied.
     if cache.tuning().cache_blocks == 0 {
         return;
     }
@@ -104,7 +106,7 @@ fn keep_row(cache: &mut BlockCache, alloc: Global, block: &BlockRef, row: &Row)
     }
 }
 
-/// The part of a block that a window shows, where it is kept in memory. The window is to show some of it.
+/// The part of a block in a window, if the block is cached. The window must have some of its bytes.
 fn kept_part(
     cache: &mut BlockCache,
     alloc: Global,
@@ -128,8 +130,8 @@ fn kept_part(
     Ok(Some(bytes))
 }
 
-/// The part of a block that a window shows: no row is read where the block is kept in memory, and else it is kept. The window
-/// is to show some of it.
+/// The part of a block in a window. If the block is cached, no row is read; otherwise it is cached.
+/// The window must have some of its bytes.
 fn read_part<S: Alter>(
     connection: &mut Connection<S>,
     cache: &mut BlockCache,
@@ -162,7 +164,7 @@ fn read_part<S: Alter>(
     }
 }
 
-/// The part of the bytes in a row that a window shows. It is to show some.
+/// The part of a row's bytes in a window. The window must have some of them.
 fn shown_part(alloc: Global, row: &Row, window: Window) -> Result<Vec<u8>, Error>
     ensures some { IfOk result (λ bytes. 0 < length bytes.items) }
     ensures most { IfOk result (λ bytes. length bytes.items ≤ window.left) }
@@ -174,7 +176,7 @@ fn shown_part(alloc: Global, row: &Row, window: Window) -> Result<Vec<u8>, Error
     }
 }
 
-/// A copy of bytes, which are to be some.
+/// A copy of bytes. There must be some.
 fn copied(alloc: Global, part: &[u8]) -> Result<Vec<u8>, Error>
     ensures some { IfOk result (λ bytes. 0 < length bytes.items) }
     ensures same { IfOk result (λ bytes. bytes.items ≡ part.now) }
@@ -185,19 +187,19 @@ fn copied(alloc: Global, part: &[u8]) -> Result<Vec<u8>, Error>
     Ok(part.to_vec(alloc)?)
 }
 
-/// What is still to come of the bytes that a range names of a body.
+/// The remaining bytes of a range of a body.
 #[derive(Drop)]
 pub struct Plan<'a> {
     pub tenant: &'a str,
     /// An entry number of the tenant.
     pub body: u64,
-    /// Of the next block, counted from 0.
+    /// The next block's place in the body, counted from 0.
     pub place: u64,
-    /// What is to come of its bytes and of those after it.
+    /// The window on the bytes from there on.
     pub window: Window,
 }
 
-/// Plans the bytes that a range names of a body of so many bytes. No row is read.
+/// Plans the bytes of a range, in a body of `size` bytes. No row is read.
 pub fn plan_body<'a>(tenant: &'a str, body: u64, size: u64, range: RangePlan) -> Plan<'a>
     ensures of { planned result ≡ (tenant.now, body) }
     ensures first { result.place ≡ 0 }
@@ -213,7 +215,7 @@ pub fn plan_body<'a>(tenant: &'a str, body: u64, size: u64, range: RangePlan) ->
     }
 }
 
-/// A block of which a window shows some bytes.
+/// A block that a window has some bytes of.
 #[derive(Drop)]
 struct Shown {
     block: BlockRef,
@@ -221,7 +223,7 @@ struct Shown {
     window: Window,
 }
 
-/// The next block of which a plan shows some bytes, if there is one: those before it are passed over.
+/// The next block that a plan has some bytes of, if there is one. Earlier blocks are skipped.
 fn find_shown<S: Alter>(
     connection: &mut Connection<S>,
     plan: &Plan<'_>,
@@ -270,8 +272,9 @@ fn find_shown<S: Alter>(
     Ok(None)
 }
 
-/// The part of the next block that a plan names, of which it names some bytes: `None` where nothing is left. It may be
-/// asked for in a transaction or outside. An error leaves the plan as it was, and may have taken the transaction back.
+/// The plan's part of its next block, at least one byte; `None` at the end. It may be called inside
+/// a transaction and outside. An error leaves the plan unchanged, and may roll the transaction
+/// back.
 pub fn next_piece<S: Alter>(
     connection: &mut Connection<S>,
     cache: &mut BlockCache,
@@ -315,7 +318,7 @@ pub fn next_piece<S: Alter>(
     }
 }
 
-/// Appends all that a plan is still to give.
+/// Appends all remaining bytes of a plan.
 fn append_planned<S: Alter>(
     connection: &mut Connection<S>,
     cache: &mut BlockCache,
@@ -343,7 +346,7 @@ fn append_planned<S: Alter>(
     }
 }
 
-/// The bytes of a body that a plan names. Blocks that are read are kept in memory.
+/// The bytes of a body in a plan. Blocks that are read are cached.
 pub fn read_body<S: Alter>(
     connection: &mut Connection<S>,
     cache: &mut BlockCache,

@@ -1,4 +1,4 @@
-//! The SQL texts over references, one call for each, and what is read of their rows.
+//! The SQL statements on references, one function each, and the values of their rows.
 
 ghost use Rattle.std.specs.Prelude.{◌≡◌, ◌++◌, ◌∷◌, [], ◌<◌, ◌^◌, true, false, map, filter, drop, IfSome, IfOk, IfErr, OnOk};
 ghost use Rattle.std.specs.List.{list_any};
@@ -30,7 +30,7 @@ pub struct Place<'a> {
     pub place: u64,
 }
 
-/// What a reference names.
+/// A reference's block.
 #[derive(Drop)]
 pub struct BlockRef {
     pub digest: Vec<u8>,
@@ -73,7 +73,7 @@ pub fn ref_rows<S: Alter>(
     )
 }
 
-/// The reference at a place. It may be asked for in a transaction or outside.
+/// The reference at a place. It may be called inside a transaction and outside.
 pub fn rows_at<S: Alter>(connection: &mut Connection<S>, at: &Place<'_>) -> Result<Vec<Row>, Error>
     requires reads { CanRead S.Store connection.old }
     requires body { at.now.body < 2 ^ 63 }
@@ -90,7 +90,7 @@ pub fn rows_at<S: Alter>(connection: &mut Connection<S>, at: &Place<'_>) -> Resu
     )
 }
 
-/// What the reference at a place names, if there is one.
+/// The block of the reference at a place, if there is one.
 pub fn ref_at<S: Alter>(
     connection: &mut Connection<S>,
     at: &Place<'_>,
@@ -110,7 +110,7 @@ pub fn ref_at<S: Alter>(
     }
 }
 
-/// Adds a reference: in the midst of a write that counts it.
+/// Adds a reference, as one step of a write that counts it.
 pub fn insert_ref<S: Alter>(
     connection: &mut Connection<S>,
     at: &Place<'_>,
@@ -145,7 +145,7 @@ pub fn insert_ref<S: Alter>(
     )
 }
 
-/// Takes the references of a body away: in the midst of a write that counts them.
+/// Deletes a body's references, as one step of a write that counts them.
 pub fn delete_refs<S: Alter>(
     connection: &mut Connection<S>,
     tenant: &str,
@@ -166,7 +166,7 @@ pub fn delete_refs<S: Alter>(
     )
 }
 
-/// Adds a reference to a block, whose count of uses goes on.
+/// Adds a reference to a block, and increments its count of uses.
 pub fn refer<S: Alter>(
     connection: &mut Connection<S>,
     at: &Place<'_>,

@@ -17,7 +17,7 @@ use crate::uses::{UseChange, change_uses, unreferenced_rows};
 use bh_cache::blocks::{BlockCache, BlockName};
 use sqlite::{Alter, Connection, Error, Row};
 
-/// Takes a block away with its count of uses. A block that a reference names is refused.
+/// Deletes a block and its count of uses. Fails if a reference names it.
 fn remove_block<S: Alter>(
     connection: &mut Connection<S>,
     digest: &[u8],
@@ -37,7 +37,7 @@ fn remove_block<S: Alter>(
     Ok(())
 }
 
-/// A block that goes is no longer kept in memory.
+/// Removes a deleted block from the cache.
 fn forget(cache: &mut BlockCache, name: &StoredName)
     ensures { (e : Name × Octets) → Contains cache.new.entries e → Contains cache.old.entries e × (e.0 ≢ stored_name name.now) }
 {
@@ -48,7 +48,7 @@ fn forget(cache: &mut BlockCache, name: &StoredName)
     }
 }
 
-/// Takes the block away that a row names, with what is kept of it in memory.
+/// Deletes the block that a row names, and removes it from the cache.
 fn remove_named<S: Alter>(
     connection: &mut Connection<S>,
     cache: &mut BlockCache,
@@ -71,7 +71,7 @@ fn remove_named<S: Alter>(
     Ok(())
 }
 
-/// Takes the blocks away that rows name, with what is kept of them in memory.
+/// Deletes the blocks that rows name, and removes them from the cache.
 fn remove_all<S: Alter>(
     connection: &mut Connection<S>,
     cache: &mut BlockCache,
@@ -94,8 +94,9 @@ fn remove_all<S: Alter>(
     Ok(())
 }
 
-/// Takes the first blocks away, by digest and ordinal, that no reference names, at most `limit` of them, and tells
-/// how many; nothing is kept of them in memory. After an error the transaction is to be taken back.
+/// Deletes the first unreferenced blocks, by digest and ordinal, at most `limit` of them, and
+/// removes them from the cache. Returns how many were deleted. After an error the transaction has
+/// to be rolled back.
 pub fn remove_unreferenced<S: Alter>(
     connection: &mut Connection<S>,
     cache: &mut BlockCache,
@@ -120,7 +121,7 @@ pub fn remove_unreferenced<S: Alter>(
     Ok(rows.len())
 }
 
-/// Whether a block is there that no reference names.
+/// Whether there is an unreferenced block.
 pub fn any_unreferenced<S: Alter>(connection: &mut Connection<S>) -> Result<bool, Error>
     requires inside { InTransaction S.Store connection.old }
     ensures within { StaysWithin S.Store connection.old connection.new }

@@ -1,4 +1,4 @@
-//! The SQL texts over blocks, one call for each, and what is read of their rows.
+//! The SQL statements on blocks, one function each, and the values of their rows.
 
 ghost use Rattle.std.specs.Prelude.{◌≡◌, ◌++◌, ◌∷◌, [], ◌<◌, ◌^◌, true, false, map, filter, IfOk, IfErr, OnOk};
 ghost use Rattle.std.specs.List.{list_any};
@@ -17,14 +17,14 @@ use bh_schema::rows::number::number;
 use sqlite::types::ToSql;
 use sqlite::{Alter, Connection, Error, ErrorCode, Row};
 
-/// What a row of blocks has of its name.
+/// A block's name in a row.
 #[derive(Drop)]
 pub struct StoredName {
     pub digest: Vec<u8>,
     pub ord: u64,
 }
 
-/// An ordinal that a column can hold.
+/// Checks that a column can have this ordinal.
 pub fn in_range(ord: u64) -> Result<u64, Error>
     ensures same { IfOk result (λ n. n ≡ ord) }
     ensures small { IfOk result (λ n. n < 2 ^ 63) }
@@ -58,11 +58,11 @@ pub fn read_name(row: &Row) -> Result<StoredName, Error>
     })
 }
 
-/// A block of a digest, beside some bytes.
+/// A block of a digest, compared with some bytes.
 #[derive(Clone, Copy)]
 pub struct Candidate {
     pub ord: u64,
-    /// Whether it holds them.
+    /// Whether it has those bytes.
     pub is_copy: bool,
 }
 
@@ -78,7 +78,7 @@ pub fn read_candidate(row: &Row) -> Result<Candidate, Error>
     })
 }
 
-/// The blocks of a digest, each with whether it holds these bytes.
+/// The blocks of a digest, each with whether it has these bytes.
 pub fn candidate_rows<S: Alter>(
     connection: &mut Connection<S>,
     digest: &[u8],
@@ -109,7 +109,7 @@ pub fn ord_rows<S: Alter>(connection: &mut Connection<S>, digest: &[u8]) -> Resu
     )
 }
 
-/// The block of a name. It may be asked for in a transaction or outside.
+/// The block of a name. It may be called inside a transaction and outside.
 pub fn bytes_rows<S: Alter>(
     connection: &mut Connection<S>,
     digest: &[u8],
@@ -128,7 +128,7 @@ pub fn bytes_rows<S: Alter>(
     )
 }
 
-/// Adds a block: in the midst of a write that counts its uses.
+/// Adds a block, as one step of a write that counts its uses.
 pub fn insert_block<S: Alter>(
     connection: &mut Connection<S>,
     digest: &[u8],
@@ -152,7 +152,8 @@ pub fn insert_block<S: Alter>(
     )
 }
 
-/// Takes a block away: in the midst of a write that takes its count away. A block that a reference names is refused.
+/// Deletes a block, as one step of a write that deletes its count. The store refuses if a reference
+/// names it.
 pub fn delete_block<S: Alter>(
     connection: &mut Connection<S>,
     digest: &[u8],

@@ -95,7 +95,7 @@ fn absorb_all(lanes: Lanes, words: &[[u8; 8]]) -> Lanes
     })
 }
 
-/// The bytes that fill no word, the first of them lowest.
+/// The last bytes, less than a word, the first of them lowest.
 fn tail_of(rest: &[u8]) -> u64
     ensures { result ≡ spec.tail_of rest.now }
 {

@@ -1,5 +1,5 @@
-//! The SQL texts over the counts of uses. They are changed in the midst of a write of references or blocks, which the
-//! counts are to follow.
+//! The SQL statements on the counts of uses. They run within a write of references or blocks, which
+//! the counts have to follow.
 
 ghost use Rattle.std.specs.Prelude.{◌≡◌, ◌<◌, ◌^◌, map, IfOk, IfErr, OnOk};
 ghost use Rattle.bh_tables.specs.Typed.{counted};
@@ -12,7 +12,8 @@ use bh_schema::rows::number::number;
 use sqlite::types::ToSql;
 use sqlite::{Alter, Connection, Error, Row};
 
-/// At most so many names of blocks that no reference names. They are the first of an index: no other row is read.
+/// The names of unreferenced blocks, at most `limit`. They are the first in an index: no other row
+/// is read.
 pub fn unreferenced_rows<S: Alter>(
     connection: &mut Connection<S>,
     limit: u64,
@@ -30,20 +31,20 @@ pub fn unreferenced_rows<S: Alter>(
     )
 }
 
-/// What becomes of the count of uses of a block.
+/// A change of a block's count of uses.
 #[derive(Clone, Copy)]
 pub enum UseChange {
-    /// It comes: one reference is to the block.
+    /// The first reference to the block.
     Added,
-    /// One reference more. Where it has 2^62, the store refuses it.
+    /// One more reference. The store refuses it at 2^62.
     Raised,
-    /// One reference less, of some.
+    /// One reference less, but not none.
     Lowered,
-    /// It goes.
+    /// The count is deleted.
     Removed,
 }
 
-/// The text of a change, of a block with the digest ?1 and the number ?2 among those of that digest.
+/// The SQL of a change, for the block with the digest ?1 and the ordinal ?2.
 fn text_of(change: UseChange) -> &'static str
     ensures { IsTextOf change result.now }
 {

@@ -1,5 +1,5 @@
 -- Blocks that are kept in memory agree with their rows, while rows stay, come and go.
-use Rattle.std.proofs.Common.{◌≡◌, ◌≢◌, ◌≤◌, ◌⊎◌, inl, inr, ℕ, Bool, true, false, true≢false, ◌&&◌, cond, List, [], ◌∷◌, ◌++◌, filter, find, length, Contains, Option, Some, None, option_map, refl, sym, ap, ◌∙◌, subst, arith}
+use Rattle.std.proofs.Common.{◌≡◌, ◌≢◌, ◌≤◌, ◌⊎◌, inl, inr, Bool, true, false, true≢false, cond, List, [], ◌∷◌, ◌++◌, filter, find, length, Contains, Option, Some, None, option_map, refl, sym, ap, ◌∙◌, subst, arith}
 use Rattle.std.specs.List.{list_all}
 use Rattle.std.specs.Option.{option_map_or, option_or}
 use Rattle.std.specs.Cmp.Derive.{both_true}
@@ -11,12 +11,12 @@ use Rattle.sqlite_typed.specs.Tests.{bytes_eq}
 use Rattle.bh_tables.specs.Schema.{Octets}
 use Rattle.bh_tables.specs.Typed.{BlockRow}
 use Rattle.bh_tables.specs.Bodies.{row_at, block_at}
-use Rattle.bh_tables.specs.Shown.{Name, same_name, block_name, is_block, is_copy}
+use Rattle.bh_tables.specs.Shown.{Name, block_name, is_block, is_copy}
 use Rattle.bh_view.specs.Blocks.{copy_in}
 use Rattle.bh_view.specs.Grouped.{HasUnique, first}
 use Rattle.bh_view.proofs.FilterLemmas.{none_some, same_Some, delete_other}
 use Rattle.bh_view.proofs.FindLemmas.{first_find}
-use Rattle.bh_view.proofs.Keys.{octets, numbers}
+use Rattle.bh_view.proofs.Keys.{octets}
 use Rattle.bh_view.proofs.NameLemmas.{name_Decides}
 use Rattle.bh_cache.specs.Kept.{KeptBlocks, is_row, Agrees, AreCopies}
 

@@ -1,12 +1,12 @@
 -- Blocks' names are equal where their columns are.
-use Rattle.std.proofs.Common.{rules, ◌≡◌, Bool, true, ◌&&◌, nat_eq, refl, sym, ap, ◌∙◌, subst}
+use Rattle.std.proofs.Common.{rules, ◌≡◌, Bool, true, refl, subst}
 use Rattle.std.specs.Cmp.{IsEquivalence, nat_eq_equiv}
 use Rattle.std.proofs.lemmas.Cmp.{nat_list_eq_equiv}
 use Rattle.bh_cache.specs.Names.{name_of}
 use Rattle.bh_cache.specs.declared.blocks.BlockName.{BlockName}
 use Rattle.bh_cache.specs.contracts.blocks.BlockNamePartialEq.TheImpl.{eq-value}
 
-abbrev same : BlockName → BlockName → Bool
+abbrev pub same : BlockName → BlockName → Bool
 same = eq-value.it
 
 pub exact : (x y : BlockName) → same x y ≡ true → x ≡ y

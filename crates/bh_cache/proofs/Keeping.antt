@@ -1,16 +1,16 @@
 -- What is kept once a block is put, looked up or taken out.
-use Rattle.std.proofs.Common.{◌≡◌, ◌≢◌, ◌⊎◌, inl, inr, ℕ, Bool, true, false, true≢false, List, [], ◌∷◌, map, cond, length, Contains, IsSome, IfSome, Option, Some, None, Result, Ok, Err, OnOk, OnErr, refl, sym, ap, subst, ◌∙◌}
+use Rattle.std.proofs.Common.{◌≡◌, ◌≢◌, ◌⊎◌, inl, inr, ℕ, Bool, true, true≢false, List, [], ◌∷◌, map, cond, take, Contains, IsSome, Some, None, sym, ap, subst, ◌∙◌}
 use Rattle.std.specs.Cmp.{IsEquivalence}
 use Rattle.std.specs.List.{IsDistinct}
 use Rattle.std.specs.Map.{lookup, keys_of, remove_entry}
 use Rattle.std.proofs.lemmas.Map.{lookup-remove_entry}
 use Rattle.std.proofs.lemmas.Map.Views.{IsSome-lookup_from_Contains}
 use Rattle.lru.proofs.Splits.{Contains-head, Contains-tail, Contains-cons, Contains-nil}
-use Rattle.lru.specs.LruCache.{LruCache, lru_cache, put_entries, promoted}
-use Rattle.lru.proofs.CallerLemmas.{Contains-put_entries, Contains-lookup, Contains-remove_entry, Contains-promoted}
+use Rattle.lru.specs.LruCache.{LruCache, put_entries, promoted}
+use Rattle.lru.proofs.CallerLemmas.{Contains-put_entries, Contains-lookup, Contains-remove_entry, Contains-promoted, Contains-take}
 use Rattle.bh_tables.specs.Schema.{Octets}
 use Rattle.bh_tables.specs.Shown.{Name}
-use Rattle.bh_cache.specs.Kept.{KeptBlocks, entries_in}
+use Rattle.bh_cache.specs.Kept.{entries_in}
 
 -- ---- entries, as names and bytes
 
@@ -47,6 +47,16 @@ gone {eq = eq} laws k es distinct e there is =
 
 -- ---- the blocks that are kept
 
+-- of the first of them
+module _ {K V : Type 0} (name : K → Name) (bytes : V → Octets) where
+  abbrev as_shown : K × V → Name × Octets
+  as_shown e = (name e.0, bytes e.1)
+
+  pub taken_in : (es : List (K × V)) (n : ℕ) (e : Name × Octets) → Contains (map as_shown (take n es)) e → Contains (map as_shown es) e
+  taken_in es n e there =
+      let it = Contains-unmapped as_shown (take n es) e there in
+      subst (Contains (map as_shown es)) it.2 (Contains-mapped as_shown es it.0 (Contains-take n es it.0 it.1))
+
 module _ {K V : Type 0} {eq : K → K → Bool} (name : K → Name) (bytes : V → Octets) (exact : (x y : K) → eq x y ≡ true → x ≡ y) where
   abbrev shows : K × V → Name × Octets
   shows e = (name e.0, bytes e.1)
@@ -71,12 +81,6 @@ module _ {K V : Type 0} {eq : K → K → Bool} (name : K → Name) (bytes : V �
       ])
     ]
 
-    -- where no memory was there, it stays
-    pub put_by : {X E : Type 0} (result : Result X E) (new : LruCache K V) (v : V) → OnOk result (new ≡ lru_cache (put_entries eq c k v) c.cap) → OnErr result (new ≡ c)
-        → (e : Name × Octets) → Contains (map shows new.entries) e → Contains (map shows c.entries) e ⊎ (e ≡ (name k, bytes v))
-    put_by (Ok x) new v is same e there = put_in v e (subst (λ (n : LruCache K V). Contains (map shows n.entries) e) is there)
-    put_by (Err x) new v is same e there = inl (subst (λ (n : LruCache K V). Contains (map shows n.entries) e) same there)
-
     pub removed_in : IsEquivalence eq → ((x : K) → name x ≡ name k → x ≡ k) → IsDistinct eq (keys_of c.entries) → (e : Name × Octets) → Contains (map shows (remove_entry (eq k) c.entries)) e
         → Contains (map shows c.entries) e × (e.0 ≢ name k)
     removed_in laws apart distinct e there =
@@ -84,7 +88,3 @@ module _ {K V : Type 0} {eq : K → K → Bool} (name : K → Name) (bytes : V �
           subst (Contains (map shows c.entries)) it.2 (Contains-mapped shows c.entries it.0 (Contains-remove_entry (eq k) c.entries it.0 it.1)),
           λ same. gone laws k c.entries distinct it.0 it.1 (apart it.0.0 (ap (λ p. p.0) it.2 ∙ same)),
         )
-
--- where there is none, none is left
-pub none_in : (before : List (Name × Octets)) (n : Name) (e : Name × Octets) → Contains [] e → Contains before e × (e.0 ≢ n)
-none_in before n e there = absurd (Contains-nil e there)

@@ -1,3 +1,4 @@
 pub mod BlockNames
 pub mod Keeping
 pub mod Agreeing
+pub mod Counting

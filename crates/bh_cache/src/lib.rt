@@ -1,4 +1,4 @@
-//! Blocks that are kept in memory beside the rows that they are of.
+//! A cache of blocks, beside their rows.
 #![tactic(auto)]
 
 pub mod blocks;

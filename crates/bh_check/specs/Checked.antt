@@ -1,4 +1,4 @@
--- What a check finds of all rows, and so is to make a host's tables sound.
+-- The checks of all rows, which imply that a host's tables are sound.
 use Rattle.std.specs.Prelude.{◌≡◌, ℕ, List, [], ◌∷◌, nat_lt, if◌then◌else◌}
 use Rattle.std.specs.List.{AllByRecursion}
 use Rattle.sqlite.specs.Effect.{IsDatabase}
@@ -33,13 +33,13 @@ schema_of First = first_schema
 schema_of Second = second_schema
 schema_of Third = host_schema
 
--- which it is of so many tables
+-- the edition with this number of tables
 abbrev pub edition_with : ℕ → Edition
 edition_with tables = if nat_lt 12 tables then Third else (if nat_lt 10 tables then Second else First)
 
--- ---- what is found
+-- ---- the result
 
--- a row of a host of this version, which is as that of one of the present version but for this
+-- a row of a host of this version, which otherwise is like one of the present version
 pub record IsHostBy (version : ℕ) (row : HostRow) : Type 0 where
   pub version_is : row.version ≡ version
   pub good : IsHostRow (with_version 3 row)
@@ -51,7 +51,7 @@ pub record IsHostRowIn (version : ℕ) (rows : List Row) (latest : ℕ) : Type 0
   pub good : IsHostBy version host
   pub latest_is : host.latest ≡ latest
 
--- each row is as it is to be, by itself and with what the others add up to
+-- each row is valid, alone and against the sums over the others
 pub record AreRowsHeld (d : Trees) (latest : ℕ) : Type 0 where
   pub tenants : AllByRecursion (Holds d latest table.Tenants) (d 1)
   pub keys : AllByRecursion (Holds d latest table.Keys) (d 3)
@@ -78,7 +78,7 @@ pub record AreBytesHeld (digest : Octets → Octets) (blocks : List Row) : Type 
   pub digests : AllByRecursion (HasDigest digest) blocks
   pub once : AreOnce blocks
 
--- all of it, of a host of each edition
+-- all of it, for a host of each edition
 pub record IsChecked (edition : Edition) (digest : Octets → Octets) (d : Trees) : Type 0 where
   pub latest : ℕ
   pub host : IsHostRowIn (version_of edition) (d 0) latest
@@ -90,8 +90,9 @@ pub record IsChecked (edition : Edition) (digest : Octets → Octets) (d : Trees
   pub counts : AreUses (block_refs d) (d 23) (d 10)
   pub tallies : AreTallied edition d
 
--- where the store's own rules hold too (keys are unique, and each row has its parent) a host's tables are sound: those of one of
--- an earlier version are as they are once it is opened, without locks and dates in version 1
+-- a host's tables are sound if the store's own rules hold too: keys are unique, and each row has
+-- its parent. Those of an earlier version are as they are once it is opened, without locks and
+-- dates in version 1
 abbrev pub MakesSound : Type 0
 MakesSound = (edition : Edition) (digest : Octets → Octets) (d : Trees) → IsDatabase (record { schema = schema_of edition; trees = d })
     → IsChecked edition digest (seen edition d)

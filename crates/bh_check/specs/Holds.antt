@@ -1,4 +1,4 @@
--- What is asked of each stored row, in numbers that are summed over the other tables.
+-- The check of each stored row, given sums over the other tables.
 use Rattle.std.specs.Prelude.{◌≡◌, ℕ, ◌+◌, ◌<◌, ◌≤◌, ◌^◌, List, [], ◌∷◌, ◌++◌, length, IsTrue, take, get_or}
 use Rattle.std.specs.List.{AllByRecursion}
 use Rattle.std.specs.Str.{IsUtf8}
@@ -41,7 +41,8 @@ part_body r = (bytes_of (column r 1), column_number (column r 7))
 abbrev pub ref_block : Row → Name
 ref_block r = (bytes_of (column r 4), column_number (column r 5))
 
--- a bucket, whose own name is in this column: its tenant's and that, and where that begins
+-- a bucket whose own name is in this column: its tenant's name and its own, and the place at which
+-- that begins
 abbrev pub bucket_name : ℕ → Row → Name
 bucket_name at r = (bytes_of (column r 1) ++ bytes_of (column r at), length (bytes_of (column r 1)))
 
@@ -57,7 +58,7 @@ block_length r = length (bytes_of (column r 3))
 -- ---- the sums over the rows of a database
 
 module _ (d : Trees) where
-  -- of a tenant: its next numbers, and the bytes of its versions and of its parts
+  -- of a tenant: its next numbers, and the sizes of its versions and of its parts
   abbrev pub next_version : Name → ℕ
   next_version = total owner (number_at 3) (d 1)
 
@@ -73,11 +74,11 @@ module _ (d : Trees) where
   abbrev pub part_bytes : Name → ℕ
   part_bytes = total owner (number_at 4) (d 18)
 
-  -- of an upload: the bytes of its parts
+  -- of an upload: the sizes of its parts
   abbrev pub upload_bytes : Name → ℕ
   upload_bytes = total first_two (number_at 4) (d 18)
 
-  -- of a body: the bytes and the number of its references, and how many versions and parts have it
+  -- of a body: the sizes and the number of its references, and how many versions and parts have it
   abbrev pub body_bytes : Name → ℕ
   body_bytes = total first_two (number_at 6) (d 12)
 
@@ -131,15 +132,15 @@ pub record AreTotals (d : Trees) (t : Totals) : Type 0 where
   pub block_refs_is : Keeps (block_refs d) t.block_refs
   pub block_bytes_is : Keeps (block_bytes d) t.block_bytes
 
--- ---- what is asked of one row
+-- ---- the check of one row
 
--- of a tenant, whose versions and parts have so many bytes: `used` is their sum
+-- of a tenant, given the bytes of its versions and its parts: `used` is their sum
 pub record IsTenantBy (versions parts : ℕ) (r : Row) : Type 0 where
   pub good : IsTenantRow (tenant_of r)
   pub used : number_at 6 r ≡ versions + parts
   pub bounded : number_at 6 r ≤ 2 ^ 60
 
--- of a version, whose tenant's next numbers these are, and whose body has so many bytes, in so many references
+-- of a version, given its tenant's next numbers, and its body's bytes and number of references
 pub record IsVersionBy (latest next_entry next_version bytes refs : ℕ) (r : Row) : Type 0 where
   pub key : IsTrue (is_object_key (bytes_of (column r 4)))
   pub text : IsUtf8 (bytes_of (column r 4))
@@ -150,12 +151,12 @@ pub record IsVersionBy (latest next_entry next_version bytes refs : ℕ) (r : Ro
   pub seq : number_at 2 r < next_entry
   pub id : number_at 5 r < next_version
 
--- of a reference, whose body so many versions and parts have, and whose block has so many bytes
+-- of a reference, given how many versions and parts have its body, and its block's size
 pub record IsRefBy (versions parts bytes : ℕ) (r : Row) : Type 0 where
   pub owned : 0 < versions + parts
   pub measured : number_at 6 r ≡ bytes
 
--- of an upload, whose parts have so many bytes: `bytes_kept` is that
+-- of an upload, given its parts' bytes: `bytes_kept` is that
 pub record IsUploadBy (latest next_upload bytes : ℕ) (r : Row) : Type 0 where
   pub key : IsTrue (is_object_key (bytes_of (column r 4)))
   pub text : IsUtf8 (bytes_of (column r 4))
@@ -163,7 +164,7 @@ pub record IsUploadBy (latest next_upload bytes : ℕ) (r : Row) : Type 0 where
   pub given : number_at 2 r < next_upload
   pub kept : number_at 6 r ≡ bytes
 
--- of a part, whose body has so many bytes, and is that of so many versions
+-- of a part, given its body's bytes, and how many versions have that body
 pub record IsPartBy (latest next_entry bytes versions : ℕ) (r : Row) : Type 0 where
   pub least : 1 ≤ number_at 3 r
   pub most : number_at 3 r ≤ 10000
@@ -172,16 +173,16 @@ pub record IsPartBy (latest next_entry bytes versions : ℕ) (r : Row) : Type 0 
   pub size : number_at 4 r ≡ bytes
   pub apart : versions ≡ 0
 
--- of a bucket that so many rows lock: if one does, it is Enabled
+-- of a bucket, given how many rows lock it: if one does, it is Enabled
 pub record IsLockedBy (locks : ℕ) (r : Row) : Type 0 where
   pub enabled : 0 < locks → number_at 4 r ≡ 1
 
--- of a version that so many rows date: if one does, it has a number and is no marker
+-- of a version, given how many rows date it: if one does, it has a number and is not a marker
 pub record IsDatedBy (dates : ℕ) (r : Row) : Type 0 where
   pub numbered : 0 < dates → 1 ≤ number_at 5 r
   pub content : 0 < dates → number_at 6 r ≡ 0
 
--- and then its bucket is locked, by so many rows
+-- and then its bucket is locked, given how many rows lock it
 pub record IsKeptBy (dates locks : ℕ) : Type 0 where
   pub locked : 0 < dates → 0 < locks
 

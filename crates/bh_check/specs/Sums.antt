@@ -15,7 +15,7 @@ use Rattle.bh_check.specs.declared.sums.Amount.TheVariants.{One, Number, Length,
 use Rattle.bh_check.specs.declared.sums.Grouping.{Grouping}
 use Rattle.bh_check.specs.declared.sums.Sums.{Sums}
 
--- the sum of what the rows of a name add
+-- the sum of the amounts of a name's rows
 abbrev pub total : {T : Type 0} → (T → Name) → (T → ℕ) → List T → Name → ℕ
 total name amount rows q = sum_by (λ r. if same_name (name r) q then amount r else 0) rows
 
@@ -38,11 +38,11 @@ adds r (Number at) = column_number (column r at)
 adds r (Length at) = length (bytes_of (column r at))
 adds r (Is at n) = if int_eq (pos (column_number (column r at))) (pos n) then 1 else 0
 
--- what a row adds
+-- the amount that a row adds
 abbrev pub amount_in : Grouping → Row → ℕ
 amount_in by r = adds r by.amount
 
--- ---- what is kept
+-- ---- the sums
 
 abbrev pub Key : Type 0
 Key = Vec ℕ Global × ℕ
@@ -60,6 +60,6 @@ kept_at s k = unwrap_or (get key_cmp s.totals k) 0
 pub record Keeps (of : Name → ℕ) (s : Sums) : Type 0 where
   pub each : (k : Key) → kept_at s k ≡ of (key_name k)
 
--- that of what the rows of the name add
+-- the sum of the amounts of the name's rows
 abbrev pub IsSumOf : {T : Type 0} → (T → Name) → (T → ℕ) → List T → Sums → Type 0
 IsSumOf name amount rows s = Keeps (total name amount rows) s

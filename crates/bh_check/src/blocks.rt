@@ -1,4 +1,4 @@
-//! Blocks: their digests, and that no two hold equal bytes.
+//! Blocks: their digests, and that no two have equal bytes.
 
 ghost use Rattle.std.specs.Prelude.{◌≡◌, ℕ, List, false, None, IsTrue, IfOk};
 ghost use Rattle.std.specs.List.{AllByRecursion, list_any};
@@ -21,7 +21,7 @@ fn has_digest<D: Digester>(digester: &D, row: &Row) -> bool
     bytes_in(row, 1) == digester.digest(bytes_in(row, 3)).as_slice()
 }
 
-/// The number of the first block that has another digest than that of its bytes.
+/// The number of the first block whose digest isn't that of its bytes.
 pub fn first_misnamed<D: Digester>(digester: &D, blocks: &[Row]) -> Option<u64>
     ensures { result ≡ None → AllByRecursion (HasDigest D.digest_of) blocks.now }
 {
@@ -39,14 +39,14 @@ fn holds(row: &Row, bytes: &[u8]) -> bool
     bytes_in(row, 3) == bytes
 }
 
-/// Whether one of these blocks holds these bytes.
+/// Whether one of these blocks has these bytes.
 fn any_holds(blocks: &[Row], bytes: &[u8]) -> bool
     ensures { result ≡ list_any (λ r. bytes_eq (block_octets r) bytes.now) blocks.now }
 {
     blocks.iter().any(|row| holds(row, bytes))
 }
 
-/// Whether none of the blocks before holds a block's bytes, where so many of them have its digest.
+/// Whether no earlier block has a block's bytes, given that `same` of them have its digest.
 fn is_new(before: &[Row], row: &Row, same: u64) -> bool
     ensures { IsTrue result → (digest : Octets → Octets) → AllByRecursion (HasDigest digest) before.now → HasDigest digest row.now
         → same ≡ total owner one before.now (owner row.now)
@@ -58,7 +58,8 @@ fn is_new(before: &[Row], row: &Row, same: u64) -> bool
     !any_holds(before, bytes_in(row, 3))
 }
 
-/// The number of the first block that holds the bytes of one before it, where each has the digest of its bytes.
+/// The number of the first block that has an earlier block's bytes, provided that each has the
+/// digest of its bytes.
 pub fn first_again(alloc: Global, blocks: &[Row]) -> Result<Option<u64>, AllocError>
     ensures { IfOk result (λ found. found ≡ None → (digest : Octets → Octets)
         → AllByRecursion (HasDigest digest) blocks.now → AreOnce blocks.now) }

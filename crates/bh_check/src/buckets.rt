@@ -13,7 +13,7 @@ use bh_stored::failure::Failure;
 use sqlite_value::row::Row;
 use std::alloc::{AllocError, Global};
 
-/// Both names of a bucket whose own is in this column, one behind the other.
+/// Both names of a bucket, joined; its own is in this column.
 fn bucket_text(alloc: Global, row: &Row, at: usize) -> Result<Vec<u8>, AllocError>
     ensures { IfOk result (λ text. text.items ≡ (bucket_name at row.now).0) }
 {
@@ -22,7 +22,7 @@ fn bucket_text(alloc: Global, row: &Row, at: usize) -> Result<Vec<u8>, AllocErro
     Ok(text)
 }
 
-/// Where a bucket's own name begins in that.
+/// The place in a bucket's name at which its own name begins.
 fn own_place(row: &Row) -> u64
     ensures { result ≡ length (bytes_of (column row.now 1)) }
 {
@@ -37,7 +37,7 @@ pub fn at_bucket(alloc: Global, sums: &Sums, row: &Row, at: usize) -> Result<u64
     sums.at(alloc, &text, own_place(row))
 }
 
-/// How many rows name each bucket, whose own name is in this column.
+/// The number of rows that name each bucket; its own name is in this column.
 pub fn count_by_bucket(alloc: Global, rows: &[Row], at: usize) -> Result<Sums, Failure>
     ensures { IfOk result (IsSumOf (bucket_name at) one rows.now) }
 {

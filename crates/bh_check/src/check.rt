@@ -37,13 +37,13 @@ use sqlite_trees::store::Store;
 use sqlite_value::row::Row;
 use std::alloc::Global;
 
-/// How many tables a host of version 1 has.
+/// The number of tables of a host of version 1.
 const FIRST_TABLES: usize = 10;
 
-/// And one of version 2.
+/// The number of tables of a host of version 2.
 const SECOND_TABLES: usize = 12;
 
-/// The edition of a host that has so many tables.
+/// The edition of a host with this number of tables.
 fn edition_with(tables: usize) -> Edition
     ensures { result ≡ edition_with tables }
 {
@@ -56,7 +56,7 @@ fn edition_with(tables: usize) -> Edition
     }
 }
 
-/// The version that the row of a host of this edition tells.
+/// The version in the row of a host of this edition.
 fn version_of(edition: Edition) -> u64
     ensures { result ≡ version_of edition }
 {
@@ -67,7 +67,7 @@ fn version_of(edition: Edition) -> u64
     }
 }
 
-/// The last stamp, of the one row of the host of this version.
+/// The last stamp in the only row of a host of this version.
 fn check_host_row(rows: &[Row], version: u64) -> Result<u64, Stop>
     ensures { IfOk result (IsHostRowIn version rows.now) }
 {
@@ -86,7 +86,7 @@ fn check_table(alloc: Global, measures: &Measures, table: Table, rows: &[Row]) -
     }
 }
 
-/// Each row by itself, and with the sums over the others.
+/// Checks each row alone, and against the sums over the others.
 fn check_tables(alloc: Global, measures: &Measures, stored: &Stored) -> Result<(), Stop>
     ensures { OnOk result ((d : Trees) → AreStoredIn d stored.now → AreMeasures d measures.now → AreRowsHeld d measures.now.latest) }
 {
@@ -99,7 +99,7 @@ fn check_tables(alloc: Global, measures: &Measures, stored: &Stored) -> Result<(
     check_table(alloc, measures, Table::Parts, &stored.parts)
 }
 
-/// Locked buckets and their versions' dates.
+/// Checks locked buckets and their versions' dates.
 fn check_dates(alloc: Global, measures: &Measures, stored: &Stored) -> Result<(), Stop>
     ensures { OnOk result ((d : Trees) → AreStoredIn d stored.now → AreMeasures d measures.now → AreDatesHeld d measures.now.latest) }
 {
@@ -109,7 +109,8 @@ fn check_dates(alloc: Global, measures: &Measures, stored: &Stored) -> Result<()
     check_table(alloc, measures, Table::Retains, &stored.retains)
 }
 
-/// Each row by itself, with the sums over the others, and with what locks or dates it.
+/// Checks each row alone, against the sums over the others, and against the rows that lock or date
+/// it.
 fn check_all_tables(alloc: Global, measures: &Measures, stored: &Stored) -> Result<(), Stop>
     ensures rows { OnOk result ((d : Trees) → AreStoredIn d stored.now → AreMeasures d measures.now → AreRowsHeld d measures.now.latest) }
     ensures dates { OnOk result ((d : Trees) → AreStoredIn d stored.now → AreMeasures d measures.now → AreDatesHeld d measures.now.latest) }
@@ -118,7 +119,7 @@ fn check_all_tables(alloc: Global, measures: &Measures, stored: &Stored) -> Resu
     check_dates(alloc, measures, stored)
 }
 
-/// The places of references, and the checksums of parts.
+/// Checks the places of references, and the checksums of parts.
 fn check_bodies(alloc: Global, stored: &Stored, totals: &Totals) -> Result<(), Stop>
     ensures { OnOk result ((d : Trees) → AreStoredIn d stored.now → AreTotals d totals.now → AreBodiesHeld d) }
 {
@@ -132,7 +133,7 @@ fn check_bodies(alloc: Global, stored: &Stored, totals: &Totals) -> Result<(), S
     }
 }
 
-/// How many references name each block.
+/// Checks the number of references to each block.
 fn check_uses(alloc: Global, stored: &Stored, totals: &Totals) -> Result<(), Stop>
     ensures { OnOk result ((d : Trees) → AreStoredIn d stored.now → AreTotals d totals.now → AreUses (block_refs d) (d 23) (d 10)) }
 {
@@ -145,7 +146,7 @@ fn check_uses(alloc: Global, stored: &Stored, totals: &Totals) -> Result<(), Sto
     }
 }
 
-/// How many versions, markers and objects each tenant has.
+/// Checks each tenant's numbers of versions, markers and objects.
 fn check_each_tally(alloc: Global, stored: &Stored) -> Result<(), Stop>
     ensures { OnOk result ((d : Trees) → AreStoredIn d stored.now → AreTalliesOf (d 7) (d 30) (d 1)) }
 {
@@ -159,7 +160,7 @@ fn check_each_tally(alloc: Global, stored: &Stored) -> Result<(), Stop>
     }
 }
 
-/// That, where a host of this edition has tallies.
+/// Checks the tallies, if a host of this edition has them.
 fn check_tallies(alloc: Global, stored: &Stored, edition: Edition) -> Result<(), Stop>
     ensures { OnOk result ((d : Trees) → AreStoredIn d stored.now → AreTallied edition d) }
 {
@@ -179,7 +180,7 @@ fn check_digests<D: Digester>(digester: &D, blocks: &[Row]) -> Result<(), Stop>
     }
 }
 
-/// That no two blocks hold equal bytes, where each has the digest of its bytes.
+/// Checks that no two blocks have equal bytes, provided that each has the digest of its bytes.
 fn check_once(alloc: Global, blocks: &[Row]) -> Result<(), Stop>
     ensures { OnOk result ((digest : Octets → Octets) → AllByRecursion (HasDigest digest) blocks.now → AreOnce blocks.now) }
 {
@@ -189,7 +190,7 @@ fn check_once(alloc: Global, blocks: &[Row]) -> Result<(), Stop>
     }
 }
 
-/// The digests of blocks, and that no two hold equal bytes.
+/// Checks the digests of blocks, and that no two have equal bytes.
 fn check_bytes<D: Digester>(alloc: Global, digester: &D, blocks: &[Row]) -> Result<(), Stop>
     ensures { OnOk result (AreBytesHeld D.digest_of blocks.now) }
 {
@@ -198,7 +199,7 @@ fn check_bytes<D: Digester>(alloc: Global, digester: &D, blocks: &[Row]) -> Resu
     Ok(())
 }
 
-/// What rows are measured by, of a host of this version.
+/// The sums against which rows are checked, of a host of this version.
 fn measures_of(alloc: Global, stored: &Stored, version: u64) -> Result<Measures, Stop>
     ensures host { IfOk result (λ m. IsHostRowIn version stored.now.host.items m.latest) }
     ensures totals { IfOk result (λ m. (d : Trees) → AreStoredIn d stored.now → AreMeasures d m) }
@@ -210,7 +211,7 @@ fn measures_of(alloc: Global, stored: &Stored, version: u64) -> Result<Measures,
     })
 }
 
-/// How many references name each block, and how many entries each tenant has.
+/// Checks the number of references to each block, and of each tenant's entries.
 fn check_counts(
     alloc: Global,
     stored: &Stored,
@@ -261,9 +262,9 @@ fn check_rows<S: Store, D: Digester, W: Watch>(
     Ok(())
 }
 
-/// The first thing that isn't sound in a store that is a host's database, if there is one: a host's of this
-/// edition. The digester is to be of the function that names the host's blocks. An error says that the
-/// store failed, or memory ran out.
+/// The first flaw in a store with the database of a host of this edition, if there is one. The
+/// digester must be that of the function that names the host's blocks. Fails if memory or the store
+/// fails.
 pub fn check_store<S: Store, D: Digester, W: Watch>(
     alloc: Global,
     store: &mut S,
@@ -282,8 +283,9 @@ pub fn check_store<S: Store, D: Digester, W: Watch>(
     }
 }
 
-/// Checks the database of a connection, of which the store is left, without what wasn't committed. A transaction that
-/// is open is an error. A host of an earlier version is judged by the tables that it has once it is opened; nothing is written.
+/// Checks the committed database of a connection, and returns the store. A transaction that is open
+/// is an error. A host of an earlier version is judged by the tables that it has once it is opened;
+/// nothing is written.
 pub fn check_connection<S: Alter + Drop, D: Digester, W: Watch>(
     alloc: Global,
     connection: Connection<S>,

@@ -21,10 +21,10 @@ use bh_types::checksum::checksum_of;
 use sqlite_value::row::Row;
 use std::alloc::{AllocError, Global};
 
-/// The first row of each name, counted from 1. It is a hint: what stands there is looked at again.
+/// The first row of each name, counted from 1. It is a hint: the row is checked again.
 #[derive(Drop)]
 pub struct Places {
-    /// Of references, by their body.
+    /// The first reference of each body.
     pub refs: Sums,
     pub blocks: Sums,
 }
@@ -62,7 +62,7 @@ fn block_with<'a>(blocks: &'a [Row], place: u64, digest: &[u8], ord: u64) -> Opt
     }
 }
 
-/// Appends the bytes of the block that a reference names, if it is there.
+/// Appends the bytes of the block that a reference names, if it exists.
 fn append_named(
     alloc: Global,
     bytes: &mut Vec<u8>,
@@ -83,7 +83,7 @@ fn append_named(
     Ok(true)
 }
 
-/// The bytes of the blocks that references name, if all of them are there.
+/// The bytes of the blocks that references name, if all blocks exist.
 fn bytes_named(
     alloc: Global,
     refs: &[Row],
@@ -108,7 +108,7 @@ fn are_of(refs: &[Row], tenant: &[u8], body: u64) -> bool
     refs.iter().all(|row| is_of(row, tenant, body))
 }
 
-/// The references of a body, if they are those from this place on, counted from 1, and so many.
+/// The references of a body, if they are the `count` rows from this place on, counted from 1.
 fn refs_from<'a>(
     refs: &'a [Row],
     place: u64,
@@ -128,7 +128,7 @@ fn refs_from<'a>(
     }
 }
 
-/// The references of a part's body, where they stand one after another.
+/// The references of a part's body, if they follow one another.
 fn part_refs<'a>(
     alloc: Global,
     part: &Row,
@@ -174,7 +174,7 @@ fn has_checksum(
     }
 }
 
-/// The number of the first part that has another checksum than that of the bytes of its body.
+/// The number of the first part whose checksum isn't that of its body's bytes.
 pub fn first_missummed(
     alloc: Global,
     stored: &Stored,

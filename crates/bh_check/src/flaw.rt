@@ -4,39 +4,39 @@ use sqlite_trees::error::StoreError;
 use std::alloc::AllocError;
 use std::fmt;
 
-/// The first thing that isn't as a sound host's is. A row is told by its number, which SQL calls `rowid`.
+/// The first flaw of a host. A row is named by its number, which SQL calls `rowid`.
 #[derive(Clone, Copy, PartialEq, Eq)]
 pub enum Flaw {
-    /// In the tree of this number the row has other columns than its table.
+    /// In the tree of this number the row's columns aren't those of its table.
     Columns(u32, u64),
-    /// There isn't one row of the host, of the version of its tables and in its ranges.
+    /// The host's row is missing, repeated, of another version than its tables, or out of range.
     Host,
-    /// A row isn't as its table's rows are to be, by itself and with what it counts or measures, or with what locks or dates it.
+    /// A row is invalid for its table: alone, in its counts or sizes, or in its locks or dates.
     Row(Table, u64),
-    /// A reference isn't at the place after those of its body that are stored before it.
+    /// A reference isn't at the place after the earlier ones of its body.
     Place(u64),
-    /// A part has another checksum than its bytes.
+    /// A part's checksum isn't that of its bytes.
     Checksum(u64),
-    /// A block has another digest than its bytes.
+    /// A block's digest isn't that of its bytes.
     Digest(u64),
-    /// A block has the bytes of one before it.
+    /// A block has an earlier block's bytes.
     Again(u64),
-    /// A block's uses aren't counted, or not rightly.
+    /// A block's count of uses is missing or wrong.
     Uses(u64),
-    /// There isn't one count of uses for each block.
+    /// There isn't exactly one count of uses for each block.
     OtherUses,
-    /// A tenant's versions, markers and objects aren't tallied, or not rightly.
+    /// A tenant's tally is missing or wrong.
     Tally(u64),
-    /// There isn't one tally for each tenant.
+    /// There isn't exactly one tally for each tenant.
     OtherTallies,
-    /// A sum passes 2^64 - 1.
+    /// A sum is above 2^64 - 1.
     TooMuch,
 }
 
-/// Why a check ends before its end.
+/// Why a check ends early.
 #[derive(Clone, Copy, PartialEq, Eq)]
 pub enum Stop {
-    /// Something isn't sound.
+    /// It found a flaw.
     Flaw(Flaw),
     /// The store failed, or memory ran out.
     Store(StoreError),
@@ -77,7 +77,7 @@ fn table_in<'a>(tree: u32) -> &'a str {
     }
 }
 
-/// What a row of a table is to be, as an operator is told it.
+/// The rule for a table's rows, as the operator sees it.
 fn demand_of<'a>(table: Table) -> &'a str {
     match table {
         Table::Tenants =>

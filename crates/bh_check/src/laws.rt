@@ -1,7 +1,7 @@
-//! What a check makes of a database.
+//! The meaning of a check that finds nothing.
 ghost use Rattle.bh_check.specs.Checked.{MakesSound};
 
-/// Where the rules of the store hold and a check finds nothing, a host's tables are sound.
+/// If the store's rules hold and a check finds nothing, a host's tables are sound.
 pub fn makes_sound()
     ensures { MakesSound }
 {}

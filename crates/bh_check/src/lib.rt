@@ -1,4 +1,4 @@
-//! Whether a host's tables are sound, found by reading every row and every block.
+//! Checks that a host's tables are sound, by reading every row and every block.
 #![tactic(auto)]
 
 pub mod blocks;

@@ -1,4 +1,4 @@
-//! Each row of a table against the sums over the others.
+//! Checks each row of a table against the sums over the others.
 
 ghost use Rattle.std.specs.Prelude.{◌≡◌, None, IsTrue, IfOk};
 ghost use Rattle.std.specs.List.{AllByRecursion};
@@ -16,7 +16,7 @@ use bh_stored::cells::{bytes_in, number_in};
 use sqlite_value::row::Row;
 use std::alloc::{AllocError, Global};
 
-/// What rows are measured by.
+/// The sums against which rows are checked.
 #[derive(Drop)]
 pub struct Measures {
     pub totals: Totals,
@@ -34,7 +34,7 @@ impl Measures {
         Ok(is_tenant(row, versions, parts))
     }
 
-    /// What a version is measured by.
+    /// The sums against which a version is checked.
     fn of_version(&self, alloc: Global, row: &Row) -> Result<VersionTotals, AllocError>
         ensures { IfOk result (λ by. (d : Trees) → AreMeasures d self.now → IsVersionMeasured d self.now.latest row.now by) }
     {
@@ -82,7 +82,7 @@ impl Measures {
         Ok(is_upload(row, self.latest, next, bytes))
     }
 
-    /// What a part is measured by.
+    /// The sums against which a part is checked.
     fn of_part(&self, alloc: Global, row: &Row) -> Result<PartTotals, AllocError>
         ensures { IfOk result (λ by. (d : Trees) → AreMeasures d self.now → IsPartMeasured d self.now.latest row.now by) }
     {
@@ -110,7 +110,7 @@ impl Measures {
         Ok(is_locked(row, locks))
     }
 
-    /// How many rows date a version.
+    /// The number of rows that date a version.
     fn dates_of(&self, alloc: Global, row: &Row) -> Result<u64, AllocError>
         ensures { IfOk result (λ n. (d : Trees) → AreMeasures d self.now → n ≡ version_dates d (first_two row.now)) }
     {
@@ -134,7 +134,7 @@ impl Measures {
         Ok(is_kept(dates, locks))
     }
 
-    /// Whether a row of a table is as it is to be.
+    /// Whether a row of a table is valid.
     fn holds(&self, alloc: Global, table: Table, row: &Row) -> Result<bool, AllocError>
         ensures { IfOk result (λ b. IsTrue b → (d : Trees) → AreMeasures d self.now → Holds d self.now.latest table row.now) }
     {
@@ -153,7 +153,7 @@ impl Measures {
         }
     }
 
-    /// The number of the first row of a table that isn't as it is to be.
+    /// The number of the first invalid row of a table.
     pub fn first_unsound(
         &self,
         alloc: Global,

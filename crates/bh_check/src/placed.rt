@@ -8,7 +8,8 @@ use bh_stored::cells::{bytes_in, number_in};
 use sqlite_value::row::Row;
 use std::alloc::{AllocError, Global};
 
-/// The number of the first reference that isn't at the place after those of its body that are stored before it: 0, 1, ..
+/// The number of the first reference that isn't at the place after the earlier ones of its body: 0,
+/// 1, ..
 pub fn first_misplaced(alloc: Global, rows: &[Row]) -> Result<Option<u64>, AllocError>
     ensures { IfOk result (λ found. found ≡ None → IsPlaced (λ _. 0) rows.now) }
 {

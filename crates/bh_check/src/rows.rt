@@ -1,4 +1,4 @@
-//! What is asked of one row.
+//! The checks of one row.
 
 ghost use Rattle.std.specs.Prelude.{◌≡◌, ◌≤◌, ◌+◌, [], IsTrue, IfOk};
 ghost use Rattle.std.specs.List.{list_all};
@@ -20,7 +20,8 @@ use sqlite_value::row::Row;
 use std::alloc::{AllocError, Global};
 use std::str;
 
-/// What is looked at one by one: the rows of a table, some of them once more with those that lock or date them.
+/// A pass over the rows of a table. Some tables have a second one, with the rows that lock or date
+/// theirs.
 #[derive(Clone, Copy, PartialEq, Eq)]
 pub enum Table {
     Tenants,
@@ -39,7 +40,7 @@ pub enum Table {
     Retains,
 }
 
-/// Whether there are so many bytes.
+/// Whether the number of bytes is from `low` to `high`.
 fn has_length(low: usize, high: usize, text: &[u8]) -> bool
     ensures { result ≡ names.has_length low high text.now }
 {
@@ -71,7 +72,7 @@ fn is_secret(text: &[u8]) -> bool
     has_length(8, 64, text) && are_secret_bytes(text)
 }
 
-/// Whether bytes are an object's key.
+/// Whether bytes are a valid key of an object.
 fn is_key(text: &[u8]) -> bool
     ensures key { IsTrue result → IsTrue (names.is_object_key text.now) }
     ensures text { IsTrue result → IsUtf8 text.now }
@@ -79,7 +80,7 @@ fn is_key(text: &[u8]) -> bool
     has_length(1, 1024, text) && str::from_utf8(text).is_ok()
 }
 
-/// Whether bytes are a bucket's name.
+/// Whether bytes are a valid bucket name.
 fn is_bucket_name(alloc: Global, text: &[u8]) -> Result<bool, AllocError>
     ensures { IfOk result (λ b. IsTrue b → IsTrue (names.is_bucket_name text.now)) }
 {
@@ -96,7 +97,7 @@ fn is_sum(total: u64, a: u64, b: u64) -> bool
     a <= total && total - a == b
 }
 
-/// Whether the host's row is one of this version.
+/// Whether the host's row is of this version.
 pub fn is_host(row: &Row, version: u64) -> bool
     ensures { IsTrue result → IsHostBy version (host_of row.now) }
 {
@@ -114,7 +115,7 @@ fn is_tenant_row(row: &Row) -> bool
         && Counters::new(number_in(row, 3), number_in(row, 4), number_in(row, 5)).is_some()
 }
 
-/// Whether a tenant is as it is to be, whose versions and parts have so many bytes.
+/// Whether a tenant's row is valid, given the bytes of its versions and of its parts.
 pub fn is_tenant(row: &Row, versions: u64, parts: u64) -> bool
     ensures { IsTrue result → IsTenantBy versions parts row.now }
 {
@@ -122,14 +123,14 @@ pub fn is_tenant(row: &Row, versions: u64, parts: u64) -> bool
     is_tenant_row(row) && is_sum(used, versions, parts) && is_quota(used)
 }
 
-/// Whether an access key is as it is to be.
+/// Whether an access key's row is valid.
 pub fn is_access_key(row: &Row) -> bool
     ensures { IsTrue result → IsKeyRow (key_of row.now) }
 {
     is_name(bytes_in(row, 2)) && is_secret(bytes_in(row, 3))
 }
 
-/// Whether a rule is of 1 to 3,650 days, if there is one.
+/// Whether a rule has 1 to 3,650 days, if there is one.
 fn is_rule(days: Option<u64>) -> bool
     ensures { IsTrue result → AreDays days }
 {
@@ -139,7 +140,7 @@ fn is_rule(days: Option<u64>) -> bool
     }
 }
 
-/// Whether a bucket is as it is to be, where no moment is after the last stamp.
+/// Whether a bucket's row is valid, with no moment after the last stamp.
 pub fn is_bucket(alloc: Global, row: &Row, latest: u64) -> Result<bool, AllocError>
     ensures { IfOk result (λ b. IsTrue b → IsBucketRow latest (bucket_of row.now)) }
 {
@@ -152,7 +153,7 @@ pub fn is_bucket(alloc: Global, row: &Row, latest: u64) -> Result<bool, AllocErr
     )
 }
 
-/// The numbers that a version is measured by.
+/// The sums against which a version is checked.
 #[derive(Clone, Copy)]
 pub struct VersionTotals {
     /// The last stamp.
@@ -160,7 +161,7 @@ pub struct VersionTotals {
     /// The next numbers of its tenant.
     pub next_entry: u64,
     pub next_version: u64,
-    /// The bytes of its body's references, and how many there are.
+    /// The total size of its body's blocks, and the number of references.
     pub bytes: u64,
     pub refs: u64,
 }
@@ -173,7 +174,7 @@ fn is_bare(row: &Row, refs: u64) -> bool
     number_in(row, 6) != 1 || refs == 0 && bytes_in(row, 9).is_empty()
 }
 
-/// Whether a version or a marker is as it is to be.
+/// Whether the row of a version or a marker is valid.
 pub fn is_version(row: &Row, by: VersionTotals) -> bool
     ensures { IsTrue result → IsVersionBy by.latest by.next_entry by.next_version by.bytes by.refs row.now }
 {
@@ -186,14 +187,15 @@ pub fn is_version(row: &Row, by: VersionTotals) -> bool
         && number_in(row, 5) < by.next_version
 }
 
-/// Whether a reference is as it is to be: of a body that so many versions and parts have, to a block of so many bytes.
+/// Whether a reference's row is valid, given how many versions and parts have its body, and its
+/// block's size.
 pub fn is_ref(row: &Row, versions: u64, parts: u64, bytes: u64) -> bool
     ensures { IsTrue result → IsRefBy versions parts bytes row.now }
 {
     (0 < versions || 0 < parts) && number_in(row, 6) == bytes
 }
 
-/// Whether an upload is as it is to be, whose parts have so many bytes.
+/// Whether an upload's row is valid, given the bytes of its parts.
 pub fn is_upload(row: &Row, latest: u64, next_upload: u64, bytes: u64) -> bool
     ensures { IsTrue result → IsUploadBy latest next_upload bytes row.now }
 {
@@ -203,20 +205,20 @@ pub fn is_upload(row: &Row, latest: u64, next_upload: u64, bytes: u64) -> bool
         && number_in(row, 6) == bytes
 }
 
-/// The numbers that a part is measured by.
+/// The sums against which a part is checked.
 #[derive(Clone, Copy)]
 pub struct PartTotals {
     /// The last stamp.
     pub latest: u64,
     /// The next entry number of its tenant.
     pub next_entry: u64,
-    /// The bytes of its body's references.
+    /// The total size of its body's blocks.
     pub bytes: u64,
-    /// How many versions have its body.
+    /// The number of versions with its body.
     pub versions: u64,
 }
 
-/// Whether a part is as it is to be, but for its checksum.
+/// Whether a part's row is valid, except for its checksum.
 pub fn is_part(row: &Row, by: PartTotals) -> bool
     ensures { IsTrue result → IsPartBy by.latest by.next_entry by.bytes by.versions row.now }
 {
@@ -228,21 +230,22 @@ pub fn is_part(row: &Row, by: PartTotals) -> bool
         && by.versions == 0
 }
 
-/// Whether a bucket that so many rows lock is Enabled, if one does.
+/// Whether a bucket is Enabled if it is locked, given how many rows lock it.
 pub fn is_locked(row: &Row, locks: u64) -> bool
     ensures { IsTrue result → IsLockedBy locks row.now }
 {
     locks == 0 || number_in(row, 4) == 1
 }
 
-/// Whether a version that so many rows date has a number and is no marker, if one does.
+/// Whether a version has a number and is not a marker if it is dated, given how many rows date it.
 pub fn is_dated(row: &Row, dates: u64) -> bool
     ensures { IsTrue result → IsDatedBy dates row.now }
 {
     dates == 0 || 1 <= number_in(row, 5) && number_in(row, 6) == 0
 }
 
-/// Whether a version that so many rows date is in a bucket that some row locks, if one does.
+/// Whether a version's bucket is locked if the version is dated, given how many rows date and lock
+/// them.
 pub fn is_kept(dates: u64, locks: u64) -> bool
     ensures { IsTrue result → IsKeptBy dates locks }
 {

@@ -10,16 +10,16 @@ use sqlite_value::row::Row;
 use std::alloc::{AllocError, Global};
 use std::collections::BTreeMap;
 
-/// What a row adds.
+/// The amount that a row adds.
 #[derive(Clone, Copy)]
 pub enum Amount {
-    /// 1, so that rows are counted.
+    /// 1, to count rows.
     One,
     /// The number in this column.
     Number(usize),
-    /// How many bytes are in this column.
+    /// The number of bytes in this column.
     Length(usize),
-    /// 1 where the number in this column is this, else 0.
+    /// 1 if the number in this column is this one, otherwise 0.
     Is(usize, u64),
 }
 
@@ -28,12 +28,12 @@ pub enum Amount {
 pub struct Grouping {
     /// The column of the name's text or bytes.
     pub text: usize,
-    /// That of the name's number; a name without one has 0.
+    /// The column of the name's number; a name without one has 0.
     pub number: Option<usize>,
     pub amount: Amount,
 }
 
-/// A sum for each name, which is bytes and a number; 0 where nothing was added.
+/// A sum for each name, which is bytes and a number; 0 if nothing was added.
 #[derive(Drop)]
 pub struct Sums {
     totals: BTreeMap<(Vec<u8>, u64), u64>,
@@ -50,7 +50,7 @@ impl Sums {
     }
 
     #[tactic(auto, unfolding(crate::specs::Sums::kept_at))]
-    /// What is kept at a key.
+    /// The sum at a key.
     fn kept(&self, key: &(Vec<u8>, u64)) -> u64
         ensures { result ≡ kept_at self.now key.now }
     {
@@ -68,7 +68,7 @@ impl Sums {
         Ok(self.kept(&key))
     }
 
-    /// Adds to the sum of a name, unless that grows past 2^64 - 1.
+    /// Adds to the sum of a name, unless it would exceed 2^64 - 1.
     pub fn add(
         &mut self,
         alloc: Global,
@@ -88,7 +88,7 @@ impl Sums {
     }
 }
 
-/// 1 where something is so, else 0.
+/// 1 if the condition holds, otherwise 0.
 pub(crate) fn one_if(is: bool) -> u64
     ensures { result ≡ (if is then 1 else 0) }
 {
@@ -106,7 +106,7 @@ impl Grouping {
         }
     }
 
-    /// What a row adds.
+    /// The amount that a row adds.
     fn amount_of(self, row: &Row) -> u64
         ensures { result ≡ amount_in self row.now }
     {
@@ -133,7 +133,7 @@ pub fn sums_of(alloc: Global, rows: &[Row], by: Grouping) -> Result<Sums, Failur
     Ok(sums)
 }
 
-/// The place of the first row of each name, counted from 1; nothing is promised of it.
+/// The place of the first row of each name, counted from 1, without any promise.
 pub fn first_places(alloc: Global, rows: &[Row], by: Grouping) -> Result<Sums, Failure> {
     let mut places = Sums::new(alloc);
     for at in 0..rows.len() {

@@ -1,4 +1,4 @@
-//! How many versions, markers and objects each tenant has.
+//! Each tenant's numbers of versions, markers and objects.
 
 ghost use Rattle.std.specs.Prelude.{◌≡◌, ◌++◌, ◌∷◌, [], ◌&&◌, not, pos, int_lt, List, length, None, IsTrue, IfOk};
 ghost use Rattle.std.specs.Ordering.{int_eq};
@@ -14,7 +14,7 @@ use bh_stored::failure::Failure;
 use sqlite_value::row::Row;
 use std::alloc::{AllocError, Global};
 
-/// How many versions and markers tenants have, and how many keys whose newest entry is a version.
+/// Tenants' numbers of versions and markers, and of keys whose newest entry is a version.
 #[derive(Drop)]
 pub struct EntryTotals {
     pub versions: Sums,
@@ -22,7 +22,7 @@ pub struct EntryTotals {
     pub objects: Sums,
 }
 
-/// Bytes in a form that says where it ends: 1 before each of them, 0 after all.
+/// Bytes in a self-delimiting form: 1 before each of them, 0 at the end.
 fn framed(alloc: Global, text: &[u8]) -> Result<Vec<u8>, AllocError>
     ensures { IfOk result (λ bytes. bytes.items ≡ framed text.now) }
 {
@@ -34,7 +34,7 @@ fn framed(alloc: Global, text: &[u8]) -> Result<Vec<u8>, AllocError>
     Ok(bytes)
 }
 
-/// The tenant, the bucket and the key of an entry, one behind the other.
+/// The tenant, the bucket and the key of an entry, joined.
 fn key_text(alloc: Global, row: &Row) -> Result<Vec<u8>, AllocError>
     ensures { IfOk result (λ text. text.items ≡ (entry_key row.now).0) }
 {
@@ -45,7 +45,7 @@ fn key_text(alloc: Global, row: &Row) -> Result<Vec<u8>, AllocError>
     Ok(text)
 }
 
-/// Raises the greatest number that is kept of a key to that of this entry of it.
+/// Raises a key's greatest number to that of this entry.
 fn raise(alloc: Global, newest: &mut Sums, row: &Row) -> Result<bool, AllocError>
     ensures { IfOk result (λ fits. IsTrue fits → (rows : List Columns) → IsNewest rows newest.old
         → IsNewest (rows ++ row.now ∷ []) newest.new) }
@@ -71,14 +71,14 @@ fn newest_of(alloc: Global, rows: &[Row]) -> Result<Sums, Failure>
     Ok(newest)
 }
 
-/// Whether an entry is a version, and no entry of its key has a greater number than this or its own.
+/// Whether an entry is a version, and the newest of its key.
 fn is_current(row: &Row, last: u64) -> bool
     ensures { result ≡ (int_eq (pos (number_at 6 row.now)) (pos 0) && not (int_lt (pos (number_at 2 row.now)) (pos last))) }
 {
     number_in(row, 6) == 0 && last <= number_in(row, 2)
 }
 
-/// 1 where an entry is a version and the newest of its key, else 0.
+/// 1 if an entry is a version and the newest of its key, otherwise 0.
 fn current_one(alloc: Global, newest: &Sums, row: &Row) -> Result<u64, AllocError>
     ensures { IfOk result (λ n. (rows : List Columns) → IsNewest rows newest.now → n ≡ current_one rows row.now) }
 {
@@ -87,7 +87,7 @@ fn current_one(alloc: Global, newest: &Sums, row: &Row) -> Result<u64, AllocErro
     Ok(one_if(is_current(row, last)))
 }
 
-/// How many keys of each tenant have a version as their newest entry.
+/// Each tenant's number of keys whose newest entry is a version.
 fn objects_of(alloc: Global, rows: &[Row], newest: &Sums) -> Result<Sums, Failure>
     requires { IsNewest rows.now newest.now }
     ensures { IfOk result (IsSumOf owner (current_one rows.now) rows.now) }
@@ -104,7 +104,7 @@ fn objects_of(alloc: Global, rows: &[Row], newest: &Sums) -> Result<Sums, Failur
 }
 
 impl EntryTotals {
-    /// Those of these versions and markers.
+    /// The numbers of these versions and markers.
     pub fn of(alloc: Global, rows: &[Row]) -> Result<EntryTotals, Failure>
         ensures { IfOk result (AreEntryTotals rows.now) }
     {
@@ -117,7 +117,7 @@ impl EntryTotals {
     }
 }
 
-/// Whether a tally is a tenant's, and has so many versions, markers and objects.
+/// Whether a tally is a tenant's, with these numbers of versions, markers and objects.
 fn tallies(tally: &Row, tenant: &Row, versions: u64, markers: u64, objects: u64) -> bool
     ensures { IsTrue result → IsTallyBy versions markers objects tally.now tenant.now }
 {
@@ -127,7 +127,7 @@ fn tallies(tally: &Row, tenant: &Row, versions: u64, markers: u64, objects: u64)
         && number_in(tally, 4) == objects
 }
 
-/// Whether a tally is a tenant's, and has what the tenant has.
+/// Whether a tally is a tenant's and has the right counts.
 fn is_tally_of(
     alloc: Global,
     tally: &Row,
@@ -143,7 +143,8 @@ fn is_tally_of(
     Ok(tallies(tally, tenant, versions, markers, objects))
 }
 
-/// The number of the first tenant whose entries the row at its place doesn't tally, where there are as many rows as tenants.
+/// The number of the first tenant whose tally, in the row at its place, is wrong, given as many
+/// tallies as tenants.
 pub fn first_mistallied(
     alloc: Global,
     tallies: &[Row],

@@ -1,4 +1,4 @@
-//! What the rows of one table are to agree with: sums over the others.
+//! The sums over other tables against which a table's rows are checked.
 
 ghost use Rattle.std.specs.Prelude.{IfOk};
 ghost use Rattle.sqlite.specs.Tree.{Trees};
@@ -20,23 +20,23 @@ pub struct TenantTotals {
     pub next_version: Sums,
     pub next_upload: Sums,
     pub next_entry: Sums,
-    /// The bytes that its versions have, and its parts.
+    /// The total sizes of its versions, and of its parts.
     pub version_bytes: Sums,
     pub part_bytes: Sums,
 }
 
-/// Sums over the references of a body, and over what has it.
+/// Sums over the references of a body, and over its versions and parts.
 #[derive(Drop)]
 pub struct BodyTotals {
-    /// The bytes of its references, and how many there are.
+    /// The total size of its blocks, and the number of its references.
     pub bytes: Sums,
     pub refs: Sums,
-    /// How many versions have it, and how many parts.
+    /// The numbers of versions and of parts with a body.
     pub versions: Sums,
     pub parts: Sums,
 }
 
-/// How many rows lock a bucket, and how many date a version.
+/// The numbers of rows that lock a bucket, and that date a version.
 #[derive(Drop)]
 pub struct DateTotals {
     pub locks: Sums,
@@ -49,14 +49,14 @@ pub struct Totals {
     pub tenants: TenantTotals,
     pub bodies: BodyTotals,
     pub dates: DateTotals,
-    /// The bytes that an upload's parts have.
+    /// The total size of an upload's parts.
     pub upload_bytes: Sums,
-    /// How many references name a block, and its length in bytes.
+    /// The number of references to a block, and its length in bytes.
     pub block_refs: Sums,
     pub block_bytes: Sums,
 }
 
-/// The columns of a row's name: of its text or bytes, and of its number if it has one.
+/// The columns of a row's name: its text or bytes, and its number if it has one.
 pub(crate) type Columns = (usize, Option<usize>);
 
 pub(crate) const OWNER: Columns = (1, None);
@@ -67,7 +67,7 @@ const PART_BODY: Columns = (1, Some(7));
 
 const REF_BLOCK: Columns = (4, Some(5));
 
-/// The sums of what rows add, by the name in these columns.
+/// The sums of the rows' amounts, by the name in these columns.
 pub(crate) fn sums_by(
     alloc: Global,
     rows: &[Row],

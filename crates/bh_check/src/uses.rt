@@ -1,4 +1,4 @@
-//! How many references name each block.
+//! The number of references to each block.
 
 ghost use Rattle.std.specs.Prelude.{◌≡◌, ℕ, length, None, IsTrue, IfOk};
 ghost use Rattle.bh_tables.specs.Bodies.{Name};
@@ -10,7 +10,7 @@ use bh_stored::cells::{bytes_in, number_in};
 use sqlite_value::row::Row;
 use std::alloc::{AllocError, Global};
 
-/// Whether a row has a block's name, and counts so many references.
+/// Whether a row has a block's name and the right count of references.
 fn counts(used: &Row, block: &Row, count: u64) -> bool
     ensures { IsTrue result → IsUseOf (λ _. count) used.now block.now }
 {
@@ -19,7 +19,7 @@ fn counts(used: &Row, block: &Row, count: u64) -> bool
         && number_in(used, 3) == count
 }
 
-/// Whether a row counts the references to a block.
+/// Whether a row has a block's number of references.
 fn is_use_of(alloc: Global, used: &Row, block: &Row, refs: &Sums) -> Result<bool, AllocError>
     ensures { IfOk result (λ b. IsTrue b → (of : Name → ℕ) → Keeps of refs.now → IsUseOf of used.now block.now) }
 {
@@ -29,7 +29,8 @@ fn is_use_of(alloc: Global, used: &Row, block: &Row, refs: &Sums) -> Result<bool
     Ok(counts(used, block, count))
 }
 
-/// The number of the first block whose uses the row at its place doesn't count, where there are as many rows as blocks.
+/// The number of the first block whose count of uses, in the row at its place, is wrong, given as
+/// many counts as blocks.
 pub fn first_miscounted(
     alloc: Global,
     uses: &[Row],

@@ -1,13 +1,14 @@
 use std::fmt;
 
-/// Where a check is.
+/// A check's progress.
 #[derive(Clone, Copy, PartialEq, Eq)]
 pub enum Stage {
-    /// The rows of so many tables are read.
+    /// The rows of this many tables are read.
     Reading(usize),
-    /// All rows, so many references among them, are looked at one by one, with sums over the others.
+    /// All rows, with this many references among them, are checked one by one, and against sums
+    /// over the others.
     Rows(usize),
-    /// The bytes of so many blocks.
+    /// The bytes of this many blocks are checked.
     Blocks(usize),
 }
 
@@ -21,7 +22,7 @@ impl fmt::Display for Stage {
     }
 }
 
-/// Is told how far a check is.
+/// Is called with a check's progress.
 pub trait Watch {
     fn at(&mut self, stage: Stage);
 }

@@ -1,4 +1,4 @@
--- What is done on a host, and what is printed of it.
+-- Work on a host, and its printed text.
 use Rattle.std.specs.Prelude.{◌≡◌, ℕ, List, Option, is_some, option_and_then}
 use Rattle.bh_event.specs.Events.{Arrival, Message, Ordered, SweepOrdered, ReportOrdered, TenantsOrdered, order_of}
 use Rattle.bh_tables.specs.Typed.{Tables}
@@ -15,7 +15,7 @@ use Rattle.bh_commands.specs.declared.asked.Serving.{Serving}
 use Rattle.bh_commands.specs.declared.asked.Work.{Work}
 use Rattle.bh_commands.specs.declared.asked.Work.TheVariants as work
 
--- what an operator asks
+-- an operator's task
 abbrev pub message_of : Task → Message
 message_of (task.Command command) = Ordered (order_of command)
 message_of (task.Sweep limit) = SweepOrdered limit
@@ -26,13 +26,13 @@ message_of task.Tenants = TenantsOrdered
 abbrev pub ordered_at : ℕ → Message → Arrival
 ordered_at reading message = record { reading = reading; message = message }
 
--- the secret of operators, if they come and have one
+-- the operators' secret, if there is a port for them and they have one
 abbrev pub secret_in : Serving → Option (List ℕ)
 secret_in serving = option_and_then (λ o. o.secret) serving.operator
 
--- ---- what is done on a storage
+-- ---- work on a storage
 
--- one that is intact was so before, and one that is open too; it is at rest still, under its limits
+-- if it is intact or open, it was so before; it is still at rest, under its limits
 pub record StaysReady {H : Type 0} (IsIntact IsOpen : H → Type 0) (IsSound : Tables → Type 0) (seen : H → Seen) (old new : H) : Type 0 where
   pub intact : IsIntact new → IsIntact old
   pub opened : IsIntact new → IsOpen new → IsOpen old
@@ -40,21 +40,22 @@ pub record StaysReady {H : Type 0} (IsIntact IsOpen : H → Type 0) (IsSound : T
   pub limits : (seen new).limits ≡ (seen old).limits
 
 module _ {H : Type 0} (IsIntact IsOpen : H → Type 0) (seen : H → Seen) (left : H → Tables → Type 0) where
-  -- an event was applied: what `bh_host::apply` promises of it. Its reply is printed, and unless that is a refusal, a crash
-  -- leaves what stands then
+  -- an event was applied, with the promises of `bh_host::apply`. Its reply is printed, and unless
+  -- that is a refusal, a crash leaves the tables that are then current
   pub record IsTold (event : Arrival) (old new : H) (printed : Printed) : Type 0 where
     pub told : Told
     pub applied : IsApplied IsIntact IsOpen seen left event told old new
     pub line : IsLine told.1 printed
     pub kept : printed.status ≡ 0 → IsIntact new → (x : Tables) → left new x → x ≡ (seen new).now
 
-  -- some requests came in turn, and where operators may come their orders, and no other event; nothing is printed
+  -- requests were applied in turn, and orders if there is a port for operators, and no other event;
+  -- nothing is printed
   pub record HasServed (serving : Serving) (old new : H) (printed : Printed) : Type 0 where
     pub ran : IsIntact new → RanFor (is_some serving.operator) IsOpen seen left old new
     pub visited : WasVisited IsIntact IsOpen seen left (secret_in serving) old new
     pub printed_is : IsNothing printed
 
-  -- what was asked at a reading was done; connections have the machine's clock
+  -- the work was done at a reading; connections use the machine's clock
   abbrev pub HasDone : Work → ℕ → H → H → Printed → Type 0
   HasDone (work.Command task) reading old new printed = IsTold (ordered_at reading (message_of task)) old new printed
   HasDone (work.Serve serving) reading old new printed = HasServed serving old new printed

@@ -1,4 +1,4 @@
--- What the files of a host held when they were opened, and what was done on them.
+-- The contents of a host's files when they were opened, and the task on them.
 use Rattle.std.specs.Prelude.{◌≡◌, Option, MatchOption}
 use Rattle.sqlite_disk.specs.declared.Disk as disk
 use Rattle.sqlite_disk.specs.declared.Files.{Files}
@@ -16,24 +16,25 @@ use Rattle.bh_commands.specs.Subcommands.{CarriesOut}
 use Rattle.bh_commands.specs.declared.asked.FileTask.{FileTask}
 use Rattle.bh_commands.specs.declared.asked.FileTask.TheVariants.{Init, Host}
 
--- a new host needs nothing of them
+-- a new host has no precondition on them
 abbrev pub HoldsFor : FileTask → Image → Type 0
 HoldsFor (Init limits digest) image = Unit {0}
 HoldsFor (Host clock work) image = HoldsSoundHost image
 
--- what was asked was done on a connection, and its files were closed
+-- the task was done on a connection, and its files were closed
 pub record IsEnded {D : Type 0} {g : disk.Ghosts D} (old : Held (FileStore D g)) (asked : FileTask) (printed : Printed) (files : Files D) :
     Type 0 where
   pub new : Held (FileStore D g)
   pub carried_out : CarriesOut asked old new printed
   pub closed : AreClosed new files
 
--- files with these contents were opened as a database, what was asked was done on its connection, and they were closed
+-- files with these contents were opened as a database, the task was done on its connection, and
+-- they were closed
 pub record AreDone {D : Type 0} (g : disk.Ghosts D) (image : Image) (asked : FileTask) (printed : Printed) (files : Files D) : Type 0 where
   pub old : Held (FileStore D g)
   pub opened : IsOpenedOn image (file_state old)
   pub ended : IsEnded old asked printed files
 
--- what was asked was done in the files; where there were none, the answer is that no host is there
+-- the task was done in the files; if there were none, the answer is that there is no host
 abbrev pub IsAnswered : {D : Type 0} → disk.Ghosts D → Image → FileTask → Printed → Option (Files D) → Type 0
 IsAnswered g image asked printed files = MatchOption files (IsRefusal NotAHostFile printed) (AreDone g image asked printed)

@@ -1,4 +1,4 @@
--- What a subcommand does to the connection of a file, and what it prints.
+-- A subcommand's effect on the connection of a file, and its printed text.
 use Rattle.std.specs.Prelude.{◌≡◌, ◌⊎◌, ℕ, Bool, true, false, Some, IfSome, codes}
 use Rattle.sqlite_disk.specs.declared.Disk as disk
 use Rattle.sqlite_store.specs.declared.store.FileStore.{FileStore}
@@ -39,17 +39,17 @@ use Rattle.bh_commands.specs.declared.asked.FileTask.{FileTask}
 use Rattle.bh_commands.specs.declared.asked.FileTask.TheVariants.{Init, Host}
 use Rattle.bh_commands.specs.declared.asked.Work.{Work}
 
--- a new host needs nothing of it
+-- a new host has no precondition on it
 abbrev pub IsReadyFor : FileTask → State → Type 0
 IsReadyFor (Init limits digest) s = Unit {0}
 IsReadyFor (Host clock work) s = IsSoundIn s
 
--- none is made in it
+-- none is created in it
 pub record IsNotMade (old new : State) (printed : Printed) : Type 0 where
   pub alone : IsLeftAlone old new printed
   pub not_empty : alone.refusal ≡ NotAHostFile → ¬ IsEmpty old
 
--- a host with these limits is made in it, which keeps that this function is to name its blocks
+-- a host with these limits is created in it, with the number of this function
 pub record IsMade (limits : HostLimits) (digest : BlockDigest) (old new : State) (printed : Printed) : Type 0 where
   pub was_empty : IsEmpty old
   pub follows : KeepsDisk old new
@@ -60,7 +60,8 @@ abbrev pub Makes : HostLimits → BlockDigest → State → State → Printed �
 Makes limits digest old new printed = IsNotMade old new printed ⊎ IsMade limits digest old new printed
 
 module _ {D : Type 0} {g : disk.Ghosts D} where
-  -- the host of a database that was opened, by a digester, and by that of a function: it keeps no block in memory yet
+  -- the host of an opened database, with a digester, which is that of a function; its cache is
+  -- empty
   abbrev pub host_with : {G : Type 0} → Opened (FileStore D g) → G → HostStorage (FileStore D g) G
   host_with opened digester = record {
     host = record {
@@ -74,7 +75,8 @@ module _ {D : Type 0} {g : disk.Ghosts D} where
   abbrev pub host_by : (digest : BlockDigest) → Opened (FileStore D g) → HostStorage (FileStore D g) (digester_of digest)
   host_by digest opened = host_with opened (the_digester digest)
 
-  -- a connection was opened as a host, which shows what stood, of an earlier version brought over, and is at rest
+  -- a connection was opened as a host, which has the tables that were there, upgraded from an
+  -- earlier version if needed, and is at rest
   pub record IsFound {G : Type 0} (digest : Octets → Octets) (old : Held (FileStore D g)) (host : HostStorage (FileStore D g) G) :
       Type 0 where
     pub opened : IsOpenedAs (file_state old) (file_state host.host.connection)
@@ -82,8 +84,8 @@ module _ {D : Type 0} {g : disk.Ghosts D} where
         ≡ tables_opened (standing (file_state old)).now
     pub rest : storage.IsClean over_files host.host → IsAtRest (IsSoundHost digest) (storage.seen over_files host.host)
 
-  -- what is asked of it at a reading was done, all of it, and its connection is left; backups may have closed it and opened it
-  -- again, over which it wasn't lost
+  -- the work was done at a reading, all of it, and its connection is left; backups may have closed
+  -- and reopened it, and it wasn't lost over them
   pub record IsWorkedOn {G : Type 0} (digest : Octets → Octets) (work : Work) (reading : ℕ) (host : HostStorage (FileStore D g) G)
       (new : Held (FileStore D g)) (printed : Printed) : Type 0 where
     pub first : KeptHost D G g
@@ -97,12 +99,13 @@ module _ {D : Type 0} {g : disk.Ghosts D} where
     pub ended : last.storage ≡ Some left_host
     pub left : new ≡ left_host.storage.host.connection
 
-  -- the clock, at the reading that was given or else at some reading, is further ahead of its last stamp than it may be, or not
+  -- the clock, at the given reading or else at some reading, is too far ahead of the last stamp, or
+  -- not
   pub record Reads {G : Type 0} (clock : ClockGiven) (host : HostStorage (FileStore D g) G) (reading : ℕ) (is_leap : Bool) : Type 0 where
     pub given : IfSome clock.at (λ r. reading ≡ r)
     pub leap : storage.IsClean over_files host.host → leaps clock.leap (latest_of (storage.seen over_files host.host).now) reading ≡ is_leap
 
-  -- it is: that alone is told, and what stood stands
+  -- it is too far ahead: that alone is printed, and the tables are unchanged
   pub record IsHeldBack {G : Type 0} (clock : ClockGiven) (host : HostStorage (FileStore D g) G) (new : Held (FileStore D g))
       (printed : Printed) : Type 0 where
     pub reading : ℕ
@@ -110,7 +113,7 @@ module _ {D : Type 0} {g : disk.Ghosts D} where
     pub left : new ≡ host.host.connection
     pub line : IsFault printed
 
-  -- it isn't, and what is asked was done at that reading
+  -- it is not, and the work was done at that reading
   pub record IsDone {G : Type 0} (digest : Octets → Octets) (clock : ClockGiven) (work : Work) (host : HostStorage (FileStore D g) G)
       (new : Held (FileStore D g)) (printed : Printed) : Type 0 where
     pub reading : ℕ
@@ -121,7 +124,7 @@ module _ {D : Type 0} {g : disk.Ghosts D} where
       → Printed → Type 0
   IsWorkedInTime digest clock work host new printed = IsHeldBack clock host new printed ⊎ IsDone digest clock work host new printed
 
-  -- the host was opened by the digester of the function that its row tells
+  -- the host was opened with the digester of the function in its row
   pub record HasWorked (clock : ClockGiven) (work : Work) (old new : Held (FileStore D g)) (printed : Printed) : Type 0 where
     pub opened : Opened (FileStore D g)
     pub row : IsStateClean (file_state opened.connection) → digest_number opened.digest
@@ -136,6 +139,6 @@ module _ {D : Type 0} {g : disk.Ghosts D} where
   CarriesOut (Init limits digest) old new printed = Makes limits digest (file_state old) (file_state new) printed
   CarriesOut (Host clock work) old new printed = Works clock work old new printed
 
-  -- it is done, and this is printed and left of the connection
+  -- the task is done; this is its printed text and the rest of the connection
   abbrev pub LeavesDone : FileTask → Held (FileStore D g) → Printed → Left (FileStore D g) → Type 0
   LeavesDone asked old printed left = (new : Held (FileStore D g)) × CarriesOut asked old new printed × IsLeft over_files new left

@@ -9,20 +9,20 @@ use bh_types::limits::Limits;
 use bh_types::names::Secret;
 use bh_words::ClockGiven;
 
-/// Where operators come, and what their lines begin with, if whoever comes there isn't an operator.
+/// The operators' port, and the secret before each line, if one is needed.
 #[derive(Drop)]
 pub struct OperatorServing {
     pub port: u16,
     pub secret: Option<Secret>,
 }
 
-/// How a host is served: so many connections on a port of 127.0.0.1, or on one that the system chooses where it is 0, and on
-/// another that is operators'.
+/// How a host is served: the number of connections; the port on 127.0.0.1, or 0 if the system
+/// chooses one; and the operators' port.
 #[derive(Drop)]
 pub struct Serving {
     pub port: u16,
     pub operator: Option<OperatorServing>,
-    /// How many connections, or without end.
+    /// The number of connections; `None` for no limit.
     pub count: Option<u64>,
     pub manner: Manner,
 }
@@ -43,7 +43,7 @@ impl OperatorServing {
 }
 
 impl Serving {
-    /// Its ports.
+    /// The ports.
     pub(crate) fn ports(&self) -> Ports<'_>
         ensures operator { is_some result.operator ≡ is_some self.now.operator }
         ensures secret { secret_of result ≡ secret_in self.now }
@@ -59,12 +59,12 @@ impl Serving {
     }
 }
 
-/// What is asked of the host of a file.
+/// Work on the host of a file.
 #[derive(Drop)]
 pub enum Work {
-    /// What an operator asks.
+    /// An operator's command.
     Command(Task),
-    /// Its connections are served, by the machine's clock.
+    /// Serves connections, by the machine's clock.
     Serve(Serving),
 }
 
@@ -74,11 +74,11 @@ impl Work {
     }
 }
 
-/// What is asked of a file.
+/// A task on a file.
 #[derive(Drop)]
 pub enum FileTask {
-    /// A new host with these limits, with blocks named by this function.
+    /// Creates a host with these limits and this block digest.
     Init { limits: Limits, digest: BlockDigest },
-    /// Something of the host that it holds, unless the clock is too far ahead of its last stamp.
+    /// Work on the host in it, unless the clock is too far ahead of its last stamp.
     Host { clock: ClockGiven, work: Work },
 }

@@ -1,4 +1,4 @@
-//! What is asked of a host, done on its storage.
+//! Work on a host's storage.
 
 ghost use Rattle.std.specs.Prelude.{IfOk};
 ghost use Rattle.bh_storage.specs.Calls.{Clean, IsAtRest};
@@ -23,7 +23,8 @@ fn printed_of(alloc: Global, reply: &Reply) -> Result<Printed, AllocError>
     Printed::line(alloc, reply.bytes())
 }
 
-/// Does what an operator asks at a reading of the clock, in seconds since 1970, and prints the reply.
+/// Carries out an operator's task at a reading of the clock, in seconds since 1970, and prints the
+/// reply.
 pub fn apply_command<H: Storage>(
     alloc: Global,
     routes: &Routes,
@@ -41,7 +42,8 @@ pub fn apply_command<H: Storage>(
     Ok(printed)
 }
 
-/// Serves connections, and operators' lines where they are taken, by the machine's clock, and prints nothing.
+/// Serves connections by the machine's clock, and operators' lines if there is a port for them. It
+/// prints nothing.
 fn serve<H: BackUp>(
     rt: &HostRuntime,
     routes: &Routes,
@@ -64,7 +66,7 @@ fn serve<H: BackUp>(
     Ok(Printed::nothing(rt.alloc()))
 }
 
-/// Does what is asked of a host, whose requests' targets this router tells.
+/// Does the work on a host; `routes` finds the targets of requests.
 fn do_routed<H: BackUp>(
     rt: &HostRuntime,
     routes: &Routes,
@@ -82,8 +84,8 @@ fn do_routed<H: BackUp>(
     }
 }
 
-/// Does what is asked of a host at a reading of the clock, in seconds since 1970, and gives what is printed of it. Connections
-/// have the machine's clock.
+/// Does the work on a host at a reading of the clock, in seconds since 1970, and returns the
+/// printed text. Connections use the machine's clock.
 pub fn do_work<H: BackUp>(
     rt: &HostRuntime,
     host: &mut H,

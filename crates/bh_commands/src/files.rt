@@ -1,4 +1,4 @@
-//! What is asked of files.
+//! Tasks on files.
 
 ghost use Rattle.std.specs.Prelude.{IfOk};
 ghost use Rattle.sqlite.specs.Files.{file_state};
@@ -21,7 +21,7 @@ use bh_words::ClockGiven;
 use sqlite::{Connection, FileFrom, FileStore, Files, Start};
 use sqlite_disk::Disk;
 
-/// Does what is asked on the connection of files, and closes them.
+/// Does the task on the connection of files, and closes them.
 fn on_files<D: Disk + Drop>(
     rt: &HostRuntime,
     path: &str,
@@ -36,7 +36,7 @@ fn on_files<D: Disk + Drop>(
     Ok((printed, close(left)))
 }
 
-/// Opens files, or makes them, does what is asked, and closes them.
+/// Opens or creates files, does the task, and closes them.
 fn in_files<S: Start>(
     rt: &HostRuntime,
     path: &str,
@@ -55,7 +55,7 @@ fn in_files<S: Start>(
     })
 }
 
-/// Makes a host in a file that isn't there or has no bytes, and prints `host`.
+/// Creates a host in a file that is missing or empty, and prints `host`.
 pub fn init_file<S: Start>(
     rt: &HostRuntime,
     path: &str,
@@ -71,8 +71,8 @@ pub fn init_file<S: Start>(
     Ok(ended)
 }
 
-/// Does what is asked of the host of a file, and prints the reply, unless the clock is too far ahead of the host's last stamp.
-/// Where the path names nothing, or a file of no bytes, no file is made.
+/// Does the work on the host of a file, and prints the reply, unless the clock is too far ahead of
+/// the host's last stamp. If the file is missing or empty, none is created.
 pub fn work_in_file<S: Start>(
     rt: &HostRuntime,
     path: &str,

@@ -1,4 +1,4 @@
-//! What is asked of a file, done on its connection, whatever disk its files are on.
+//! Tasks on a file, done on its connection, whatever disk its files are on.
 
 ghost use Rattle.std.specs.Prelude.{◌≡◌, IfOk};
 ghost use Rattle.sqlite.specs.Files.{file_state, over_files};
@@ -34,7 +34,7 @@ use sqlite::{Alter, Connection, Error, FileStore};
 use sqlite_disk::Disk;
 use std::alloc::{AllocError, Global};
 
-/// Why no host was made in a database.
+/// Why no host was created in a database.
 fn why_not_made<S: Alter>(
     alloc: Global,
     cause: Option<Error>,
@@ -50,7 +50,7 @@ fn why_not_made<S: Alter>(
     }
 }
 
-/// Makes a host in an empty database, and prints `host`.
+/// Creates a host in an empty database, and prints `host`.
 fn make<S: Alter + Drop>(
     rt: &HostRuntime,
     path: &str,
@@ -62,7 +62,7 @@ fn make<S: Alter + Drop>(
 {
     let alloc = rt.alloc();
     let printed = Printed::line(alloc, b"host")?;
-    // No block is named yet, so it doesn't matter who would.
+    // There are no blocks yet, so any digester will do.
     match create(
         connection,
         Sha256Digester,
@@ -85,7 +85,7 @@ fn make<S: Alter + Drop>(
     }
 }
 
-/// Does what is asked of a host at a reading of the clock.
+/// Does the work on a host at a reading of the clock.
 fn work_on<D: Disk + Drop, G: Digester + Drop>(
     rt: &HostRuntime,
     host: Host<FileStore<D>, G>,
@@ -106,7 +106,7 @@ fn work_on<D: Disk + Drop, G: Digester + Drop>(
     }
 }
 
-/// That the clock is too far ahead, of a connection that stays.
+/// The result if the clock is too far ahead; the connection doesn't change.
 fn held_back<D: Disk + Drop>(
     rt: &HostRuntime,
     path: &str,
@@ -123,14 +123,14 @@ fn held_back<D: Disk + Drop>(
     })
 }
 
-/// At a report, tells the last stamp before it.
+/// Before a report, prints the last stamp on standard error.
 fn tell_stamp(rt: &HostRuntime, path: &str, asked: &Work, latest: u64) {
     if asked.is_report() {
         tell(rt, path, &Remark::LastStamp(latest));
     }
 }
 
-/// Does what is asked of a host whose last stamp this is, if the clock isn't too far ahead.
+/// Does the work on a host with this last stamp, unless the clock is too far ahead.
 fn work_in_time<D: Disk + Drop, G: Digester + Drop>(
     rt: &HostRuntime,
     path: &str,
@@ -152,7 +152,7 @@ fn work_in_time<D: Disk + Drop, G: Digester + Drop>(
     Ok(work_on(rt, host, reading, asked)?)
 }
 
-/// Does the work on a database that was opened, by a digester of the function that names its blocks.
+/// Does the work on an opened database, with the digester of the function that names its blocks.
 fn work_by<D: Disk + Drop, G: Digester + Drop>(
     rt: &HostRuntime,
     path: &str,
@@ -169,7 +169,7 @@ fn work_by<D: Disk + Drop, G: Digester + Drop>(
     work_in_time(rt, path, opened.into_host(digester), latest, clock, asked)
 }
 
-/// Does the work, by the digester of the function that the host's row tells.
+/// Does the work with the digester of the function in the host's row.
 fn work_by_digest<D: Disk + Drop>(
     rt: &HostRuntime,
     path: &str,
@@ -187,7 +187,7 @@ fn work_by_digest<D: Disk + Drop>(
     }
 }
 
-/// Opens the host of a database, and does what is asked of it.
+/// Opens the host of a database, and does the work on it.
 fn find<D: Disk + Drop>(
     rt: &HostRuntime,
     path: &str,
@@ -224,7 +224,7 @@ fn carry_out<D: Disk + Drop>(
     }
 }
 
-/// Does what is asked of a connection, and gives what is printed and what is left of it.
+/// Does the task on a connection. Returns the printed text and the rest of the connection.
 pub(crate) fn on_connection<D: Disk + Drop>(
     rt: &HostRuntime,
     path: &str,

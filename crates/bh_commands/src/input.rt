@@ -36,7 +36,8 @@ fn read_input(rt: &(impl Input + AllocGlobal)) -> Result<Vec<u8>, Fault> {
     }
 }
 
-/// Says on standard error why a line told no event. The status is then 1.
+/// Prints on standard error why a line is not an event, and returns the status: 1 for such a line,
+/// otherwise 0.
 fn tell_bad_line(rt: &impl Eprint, bad_line: Option<BadLine>) -> io::Result<u8> {
     let Some(BadLine { number, flaw }) = bad_line else {
         return Ok(0);
@@ -45,7 +46,8 @@ fn tell_bad_line(rt: &impl Eprint, bad_line: Option<BadLine>) -> io::Result<u8> 
     Ok(1)
 }
 
-/// Writes the answers to a script on standard output. What a failure leaves in the buffer goes out as that is dropped.
+/// Writes the answers to a script on standard output. If it fails, the buffer's rest is written
+/// when that is dropped.
 fn answer_bytes<D: Digester + Drop>(
     rt: &(impl Print + AllocGlobal),
     bytes: &[u8],
@@ -74,7 +76,7 @@ fn answer_bytes<D: Digester + Drop>(
     }
 }
 
-/// Answers the script of standard input on standard output. Nothing is left to print.
+/// Answers the script on standard input, on standard output. It leaves no text to print.
 pub fn answer_input(
     rt: &(impl Input + Print + Eprint + AllocGlobal),
     digest: BlockDigest,
@@ -105,8 +107,8 @@ fn first_line(alloc: Global, bytes: &[u8]) -> Result<Vec<u8>, AllocError>
         .collect(alloc)
 }
 
-/// The secret that some bytes tell: their first line. Of one that isn't UTF-8 (RFC 3629) it is empty, which is no
-/// secret.
+/// The secret in some bytes: their first line. If that isn't UTF-8 (RFC 3629), the secret is empty,
+/// which is invalid.
 pub(crate) fn secret_in(alloc: Global, bytes: &[u8]) -> Result<String, AllocError>
     ensures { IfOk result (λ secret. spec.IsSecretIn bytes.now (string_bytes secret)) }
 {
@@ -116,7 +118,7 @@ pub(crate) fn secret_in(alloc: Global, bytes: &[u8]) -> Result<String, AllocErro
     }
 }
 
-/// The secret of a command line: itself, or what standard input tells.
+/// A command line's secret: the word itself, or the first line of standard input.
 pub fn secret_of(rt: &(impl Input + AllocGlobal), given: SecretGiven) -> Result<String, Fault>
     ensures { IfOk result (spec.IsSecretGiven given) }
 {

@@ -1,4 +1,4 @@
-//! The subcommands of `bucketd`, and what each prints.
+//! The subcommands of `bucketd`, and their output.
 #![tactic(auto)]
 
 mod asked;

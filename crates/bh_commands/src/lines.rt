@@ -1,4 +1,10 @@
+ghost use Rattle.std.specs.Prelude.{◌≡◌, IfOk};
+ghost use Rattle.sqlite_wal.specs.Files.{image_at};
+ghost use Rattle.bh_maintenance.specs.Moves.{IsImported};
+ghost use Rattle.bh_maintenance.specs.declared.clocks.ClockRead.{ClockRead};
+
 use crate::asked::{OperatorServing, Serving, Work};
+use crate::clocks::reading_of;
 use crate::files::{init_file, work_in_file};
 use crate::input::{answer_input, secret_of};
 use crate::secrets::operator_secret;
@@ -8,16 +14,18 @@ use bh_connection::Manner;
 use bh_event::event::Command;
 use bh_maintenance::fault::Fault;
 use bh_maintenance::printed::Printed;
-use bh_maintenance::{backup_file, check_file, export_file, import_file};
+use bh_maintenance::{ClockRead, backup_file, check_file, export_file, import_file};
 use bh_types::block_digest::BlockDigest;
 use bh_types::limits::{Limits, Tuning};
-use bh_words::{ClockGiven, Line, SecretGiven};
-use sqlite::Wary;
+use bh_words::{ClockGiven, Leap, Line, SecretGiven};
+use sqlite::{FileFrom, Start, Wary};
+use sqlite_disk::Disk;
 
-/// Does what a command line asks for, and gives what is printed of it.
+/// Carries out a command line, and returns the printed text.
 ///
-/// Of a subcommand on a file the first of these is told: the file can't be opened, it holds no host (`47
-/// NotAHostFile`; of `init`: it holds something), the clock can't be read or is too far ahead, the event is refused.
+/// A subcommand on a file reports the first of these problems. The file can't be opened. It has no
+/// host (`47 NotAHostFile`), or for `init` isn't empty. The clock can't be read, or is too far
+/// ahead. The event is refused.
 pub fn carry_out(rt: &HostRuntime, line: Line) -> Result<Printed, Fault> {
     let (file, clock, task) = match line {
         Line::Script {
@@ -57,7 +65,9 @@ pub fn carry_out(rt: &HostRuntime, line: Line) -> Result<Printed, Fault> {
         Line::Export { file, tenant, to } => {
             return export_in(rt, file.as_str(), tenant.as_str(), to.as_str());
         }
-        Line::Import { file, given } => return import_in(rt, file.as_str(), given.as_str()),
+        Line::Import { file, given, leap } => {
+            return import_in(rt, file.as_str(), given.as_str(), leap);
+        }
         Line::Tell {
             port,
             secret_file,
@@ -116,7 +126,7 @@ pub fn carry_out(rt: &HostRuntime, line: Line) -> Result<Printed, Fault> {
     )
 }
 
-/// The digest function whose name was given.
+/// The digest function with the given name.
 fn known(digest: Option<BlockDigest>) -> Result<BlockDigest, Fault> {
     match digest {
         Some(digest) => Ok(digest),
@@ -124,7 +134,8 @@ fn known(digest: Option<BlockDigest>) -> Result<BlockDigest, Fault> {
     }
 }
 
-/// Where operators come. A secret is read before a file is opened, so that no other process waits for it.
+/// The operators' port and secret. The secret is read before a file is opened, so that no other
+/// process waits for it.
 fn operator_of(
     rt: &HostRuntime,
     port: Option<u16>,
@@ -141,7 +152,8 @@ fn operator_of(
     }
 }
 
-/// A new access key. Its secret is read before a file is opened, so that no other process waits for it.
+/// Adds an access key. Its secret is read before a file is opened, so that no other process waits
+/// for it.
 fn key_add(
     rt: &HostRuntime,
     tenant: String,
@@ -156,7 +168,7 @@ fn key_add(
     }))
 }
 
-/// Makes a host in a file. A crash may have left anything in what was being written.
+/// Creates a host in a file. A crash may leave anything in the bytes being written.
 fn make_in(
     rt: &HostRuntime,
     path: &str,
@@ -166,27 +178,34 @@ fn make_in(
     Ok(init_file(rt, path, Wary, limits, digest)?.into_printed())
 }
 
-/// Copies the host of a file to a new one. Of the contents of neither is anything said.
+/// Copies the host of a file to a new file, whatever either contains.
 fn back_up_in(rt: &HostRuntime, path: &str, to: &str) -> Result<Printed, Fault> {
     Ok(backup_file(rt, path, Wary, to, Wary)?.into_printed())
 }
 
-/// Copies a tenant of the host of a file to a new one. Of the contents of none is anything said.
+/// Copies a tenant of a file's host to a new file, whatever either contains.
 fn export_in(rt: &HostRuntime, path: &str, tenant: &str, to: &str) -> Result<Printed, Fault> {
     Ok(export_file(rt, path, Wary, tenant, to, Wary, Wary)?.into_printed())
 }
 
-/// Adds the tenant of a file that was exported to the host of another. Of the contents of neither is anything said.
-fn import_in(rt: &HostRuntime, path: &str, given: &str) -> Result<Printed, Fault> {
-    Ok(import_file(rt, path, Wary, given, Wary)?.into_printed())
+/// Adds the tenant of an exported file to another file's host, by the machine's clock, whatever
+/// either contains.
+fn import_in(rt: &HostRuntime, path: &str, given: &str, leap: Leap) -> Result<Printed, Fault>
+    ensures { IfOk result (λ printed. (clock : ClockRead) × (files : _) × (its : _) × (clock.leap ≡ leap)
+        × IsImported clock ⟦<FileFrom<Wary> as Disk>⟧ ⟦<FileFrom<Wary> as Disk>⟧ (image_at ⟦<Wary as Start>⟧)
+        (image_at ⟦<Wary as Start>⟧) printed files its) }
+{
+    let reading = reading_of(rt, None)?;
+    let clock = ClockRead { reading, leap };
+    Ok(import_file(rt, path, Wary, given, Wary, clock)?.into_printed())
 }
 
-/// Checks the host of a file, of whose contents nothing is said.
+/// Checks a file's host, whatever the file contains.
 fn check_in(rt: &HostRuntime, path: &str) -> Result<Printed, Fault> {
     Ok(check_file(rt, path, Wary)?.into_printed())
 }
 
-/// Does what is asked of the host of a file, of whose contents nothing is said.
+/// Does the work on a file's host, whatever the file contains.
 fn work_in(
     rt: &HostRuntime,
     path: &str,

@@ -1,4 +1,4 @@
-//! The secret of operators, in a file of its own.
+//! The operators' secret, in its own file.
 
 use crate::input::secret_in;
 use bh_maintenance::fault::{Fault, SecretFault};
@@ -6,10 +6,10 @@ use bh_types::names::Secret;
 use std::fs;
 use std::os::unix::fs::PermissionsExt;
 
-/// The most bytes of such a file.
+/// The maximum size of such a file in bytes.
 const MOST: u64 = 4096;
 
-/// The secret that a file's first line is. Only its owner may read or write it.
+/// The secret in a file's first line. Fails if anyone but the owner can read or write the file.
 pub(crate) fn operator_secret(rt: &HostRuntime, path: &str) -> Result<Secret, Fault> {
     match secret_at(rt, path) {
         Ok(secret) => Ok(secret),

@@ -4,16 +4,16 @@ ghost use Rattle.bh_commands.specs.Commands.{message_of, ordered_at};
 
 use bh_event::event::{Command, Event};
 
-/// What an operator asks of a host.
+/// An operator's task on a host.
 #[derive(Drop)]
 pub enum Task {
     /// A command on a tenant.
     Command(Command),
-    /// At most `limit` stale uploads and blocks that nothing refers to go, whosever they are.
+    /// Removes at most `limit` stale uploads and unreferenced blocks, of all tenants.
     Sweep { limit: u32 },
-    /// What all tenants together have stored is counted.
+    /// Counts what all tenants have stored.
     Report,
-    /// All tenants are told.
+    /// Lists all tenants.
     Tenants,
 }
 
@@ -28,7 +28,7 @@ impl From<Command> for Task {
 }
 
 impl Task {
-    /// The event that it is at a reading of the clock, in seconds since 1970.
+    /// The task's event at a reading of the clock, in seconds since 1970.
     pub fn at(self, reading: u64) -> Event
         ensures { arrival result ≡ ordered_at reading (message_of self) }
     {

@@ -1,4 +1,4 @@
-//! An operator's line, sent to a host that serves.
+//! Sends an operator's line to a running server.
 
 use crate::input::secret_of;
 use crate::secrets::operator_secret;
@@ -10,11 +10,9 @@ use std::io;
 use std::io::{Read, Write};
 use std::net::{Ipv4Addr, TcpStream};
 
-/// The most bytes of a reply that are taken.
-const MOST: u64 = 16384;
-
-/// Sends a line to the operator's port of 127.0.0.1, after the secret of a file if one is named, and prints the reply. It
-/// waits for it as long as the host takes. The line `-` stands for the first one of standard input.
+/// Sends a line to an operators' port on 127.0.0.1, after a file's secret if one is named, and
+/// prints the reply. It waits for the reply without a time limit. The line `-` means the first line
+/// of standard input.
 pub fn tell(
     rt: &HostRuntime,
     port: u16,
@@ -36,7 +34,7 @@ pub fn tell(
     }
 }
 
-/// An order may tell a secret, so it may stand on standard input as a secret may.
+/// An order may contain a secret, so it may come from standard input, as a secret may.
 fn order_of(rt: &HostRuntime, order: String) -> Result<String, Fault> {
     if order.as_str() == "-" {
         return secret_of(rt, SecretGiven::StandardInput);
@@ -44,7 +42,7 @@ fn order_of(rt: &HostRuntime, order: String) -> Result<String, Fault> {
     Ok(order)
 }
 
-/// The line that tells an order. A line feed within it stands between words of JSON, and goes as a space.
+/// The line of an order. A line feed within it separates words of JSON, and is sent as a space.
 fn line_of(alloc: Global, secret: Option<&str>, order: &str) -> Result<Vec<u8>, AllocError> {
     let mut line = Vec::new(alloc);
     if let Some(secret) = secret {
@@ -58,11 +56,11 @@ fn line_of(alloc: Global, secret: Option<&str>, order: &str) -> Result<Vec<u8>, 
     Ok(line)
 }
 
-/// Sends a line, and takes what is answered.
+/// Sends a line, and reads the reply. No size bounds it: a list of tenants has all of them.
 fn exchange(rt: &HostRuntime, port: u16, line: &[u8]) -> io::Result<Vec<u8>> {
     let mut stream = TcpStream::connect(rt, (Ipv4Addr::LOCALHOST, port))?;
     stream.write_all(line)?;
     let mut reply = Vec::new(rt.alloc());
-    stream.take(MOST).read_to_end(&mut reply)?;
+    stream.read_to_end(&mut reply)?;
     Ok(reply)
 }

@@ -1,4 +1,4 @@
-//! Whether two schemas of a SQL database are one.
+//! Whether two schemas of a SQL database are equal.
 #![tactic(auto)]
 
 mod parts;

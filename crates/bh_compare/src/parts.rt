@@ -6,7 +6,7 @@ use sqlite_schema::schema::{Column, Reference};
 use sqlite_value::order;
 use sqlite_value::value::Bytes;
 
-/// Values of which it can be told whether they are one.
+/// Values that can be compared for equality.
 pub trait Same {
     fn is_same(&self, other: &Self) -> bool
         ensures { IsTrue result ↔ (self.now ≡ other.now) };

@@ -19,7 +19,7 @@ impl Same for Stamps {
     }
 }
 
-/// Whether two tables have one name, tree and columns.
+/// Whether two tables have the same name, tree and columns.
 fn same_columns(left: &Table, right: &Table) -> bool
     ensures { IsTrue result ↔ ((left.now.name ≡ right.now.name) × (left.now.tree ≡ right.now.tree)
         × (left.now.columns ≡ right.now.columns) × (left.now.is_counted ≡ right.now.is_counted)) }
@@ -90,7 +90,8 @@ impl Same for View {
     }
 }
 
-/// Whether two schemas are one: the same tables, indexes and views, in one order and in the same trees.
+/// Whether two schemas are equal: the same tables, indexes and views, in the same order and in the
+/// same trees.
 pub fn same_schema(left: &Schema, right: &Schema) -> bool
     ensures { IsTrue result ↔ (left.now ≡ right.now) }
 {

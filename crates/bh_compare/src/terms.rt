@@ -8,7 +8,7 @@ use sqlite_schema::code::{Op, Terms, lend_value};
 use sqlite_value::order;
 use sqlite_value::value::ValueRef;
 
-/// The node at a place that is read to a depth; where there is none, its expression is NULL.
+/// The node at a place, read to a depth; if there is none, its expression is NULL.
 fn node(ops: &[Op], depth: usize, at: usize) -> Option<&Op>
     ensures { MatchOption result (term_to ops.now depth at ≡ lit Null)
         (λ op. (depth ≢ 0) × (term_to ops.now depth at ≡ op_term (term_to ops.now (depth - 1)) op.now)) }
@@ -25,7 +25,7 @@ fn is_null(op: &Op) -> bool
     }
 }
 
-/// Whether the expressions at two places, each read to a depth, are one.
+/// Whether the expressions at two places, each read to a depth, are equal.
 fn same_term(left: &[Op], depth: usize, at: usize, right: &[Op], reach: usize, place: usize) -> bool
     ensures { IsTrue result ↔ (term_to left.now depth at ≡ term_to right.now reach place) }
 {
@@ -58,14 +58,14 @@ fn same_term(left: &[Op], depth: usize, at: usize, right: &[Op], reach: usize, p
     }
 }
 
-/// Whether the expressions at two places, each read as deep as it may be, are one.
+/// Whether the expressions at two places, each read to the maximum depth, are equal.
 fn same_root(left: &[Op], at: usize, right: &[Op], place: usize) -> bool
     ensures { IsTrue result ↔ (term_in left.now at ≡ term_in right.now place) }
 {
     same_term(left, left.len(), at, right, right.len(), place)
 }
 
-/// Whether the expressions at the places of two lists are the same.
+/// Whether the expressions at the places of two lists are equal.
 #[tactic(auto, using(crate::proofs::Roots::same_at))]
 fn same_terms(left: &[Op], roots: &[usize], right: &[Op], places: &[usize]) -> bool
     ensures { IsTrue result ↔ (terms_in left.now roots.now ≡ terms_in right.now places.now) }

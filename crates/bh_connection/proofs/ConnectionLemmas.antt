@@ -39,6 +39,10 @@ ends_in WriteFailed stamp sent reply failed ends = ends
 ends_in ReadFailed stamp sent reply failed ends = ends
 ends_in StoreFailed stamp sent reply failed ends = absurd ends
 
+-- it doesn't end as the store's fault
+pub no_store_fault : (ended : End) (sent : ℕ) (reply : List ℕ) (failed : Bool) → EndsAs ended sent reply failed → ended ≡ StoreFailed → ⊥
+no_store_fault ended sent reply failed ends is = subst (λ (e : End). EndsAs e sent reply failed) is ends
+
 -- as its link says whether it failed
 gives_as : (before after : Ends) (taken : List ℕ) (failed : Bool) → after.reader_failed ≡ failed → Gives before.gave after.gave taken after.reader_failed → Gives before.gave after.gave taken failed
 gives_as before after taken failed is given = let P : Bool → Type 0 = λ f. Gives before.gave after.gave taken f in subst P is given
@@ -100,7 +104,9 @@ module _ {H : Type 0} (IsIntact IsOpen : H → Type 0) (seen : H → Seen) (left
           mid = new;
           applied = λ _. is_applied_all before.reading before.left after.left taken stamp reply old new ready still took did;
           kept = not_asked served.ended new;
+          read = λ _ fault. absurd (no_store_fault served.ended served.sent reply after.writer_failed ended fault);
         };
+        short = λ _ fault. absurd (no_store_fault served.ended served.sent reply after.writer_failed ended fault);
       }
     where
       some_whole : (s : Option ℕ) {P : Type 0} → P → IfSome s (λ _. P)
@@ -123,6 +129,7 @@ module _ {H : Type 0} (IsIntact IsOpen : H → Type 0) (seen : H → Seen) (left
         mid = old;
         applied = λ _. record { applied = λ _ opened. (opened, refl); told_apart = λ _. told; acknowledged = tt; crash = λ _ x leaves. inl leaves };
         kept = not_asked served.ended old;
+        read = λ _ fault. absurd (no_store_fault served.ended served.sent reply after.writer_failed ended fault);
       } in
       record {
         outcome = Some (all, (None, reply));
@@ -140,6 +147,7 @@ module _ {H : Type 0} (IsIntact IsOpen : H → Type 0) (seen : H → Seen) (left
           reader = going;
         };
         did = subst D (sym stays) none;
+        short = λ _ fault. absurd (no_store_fault served.ended served.sent reply after.writer_failed ended fault);
       }
 
   -- the reader failed
@@ -168,6 +176,7 @@ module _ {H : Type 0} (IsIntact IsOpen : H → Type 0) (seen : H → Seen) (left
           writer = going;
         };
         did = subst (λ x. IsTakenBack IsIntact IsOpen seen left old x) (sym stays) (record { same = λ intact opened. (opened, refl); survives = λ intact x leaves. leaves });
+        short = λ _ _. tt;
       }
     where
       keeps_same : (a : Option (List ℕ)) → Keeps a a

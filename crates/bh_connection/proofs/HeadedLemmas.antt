@@ -1,5 +1,5 @@
 -- A request whose body came from the reader, as the event of all the bytes that the reader would give.
-use Rattle.std.proofs.Common.{◌≡◌, ◌≢◌, ℕ, ◌≤◌, ◌++◌, Bool, true, false, List, [], length, take, refl, sym, ap, subst, ◌∙◌, arith, Option, Some, None, Ok, Err, inl, inr}
+use Rattle.std.proofs.Common.{◌<◌, ◌≡◌, ◌≢◌, ℕ, ◌≤◌, ◌++◌, Bool, true, false, List, [], length, take, refl, sym, ap, subst, ◌∙◌, arith, Option, Some, None, Ok, Err, inl, inr}
 use Rattle.std.specs.Prelude.{IfSome, nat_le, if◌then◌else◌}
 use Rattle.std.specs.Io.KnownBytes.{Appends, Keeps}
 use Rattle.std.proofs.lemmas.List.{take_all}
@@ -31,8 +31,8 @@ use Rattle.bh_host.proofs.Answered.{anew_told, told_happened}
 use Rattle.bh_host.proofs.ToldApart.{apart_on}
 use Rattle.bh_connection.proofs.ConnectionLemmas.{fixed_wanting}
 use Rattle.bh_connection.proofs.ConnectionLemmas.{answered as connected}
-use Rattle.bh_connection.specs.Connections.{Ends, EndsAs, EndsIn, IsApplied, IsKept, IsTakenBack, Outcome, Came, Did, CameTo}
-use Rattle.bh_connection.specs.declared.served.End.TheVariants.{ReadFailed}
+use Rattle.bh_connection.specs.Connections.{Ends, EndsAs, EndsIn, IsApplied, IsKept, IsReadFrom, IsTakenBack, Outcome, Came, Did, CameTo}
+use Rattle.bh_connection.specs.declared.served.End.TheVariants.{ReadFailed, StoreFailed}
 use Rattle.bh_connection.specs.declared.served.Served.{Served}
 
 -- a link that has failed is one whose reader failed
@@ -107,10 +107,10 @@ module _ {H : Type 0} (IsIntact IsOpen : H → Type 0) (seen : H → Seen) (left
         (stamp, latest, (RequestRead (answered head given), (answered head given, reads, refl), turned))
 
   -- a request that is answered: its reply goes out, as it was composed where the storage is intact
-  pub headed_told : (last : H) → IsKept IsIntact IsOpen seen left served.ended new last → (stamp : Option ℕ) (said reply : List ℕ) → (IsIntact last → reply ≡ said) → Goes (Some (stamp, said)) → before.reading ≤ last_reading
+  pub headed_told : (last : H) → IsKept IsIntact IsOpen seen left served.ended new last → (stamp : Option ℕ) (said reply : List ℕ) → (IsIntact last → reply ≡ said) → (IsIntact last → served.ended ≡ StoreFailed → IsReadFrom (seen new).now reply) → (IsIntact last → served.ended ≡ StoreFailed → served.sent < length reply) → Goes (Some (stamp, said)) → before.reading ≤ last_reading
       → served.stamp ≡ stamp → Appends before.held after.held (take served.sent reply) → Takes before.took after.took (take served.sent reply) after.writer_failed → EndsIn served.ended stamp served.sent reply after.writer_failed
       → CameTo IsIntact IsOpen seen left before after served old last
-  headed_told last goes None said reply as_said h early is out took ended =
+  headed_told last goes None said reply as_said read short h early is out took ended =
       let (same, told, going, crash) = h.receives.came in
       let W : Option ℕ → Type 0 = λ s. IfSome s (λ _. (n : ℕ) → HasExtent (seen old).limits (all_of before.left (all _ h)) n → length (all _ h) ≡ n) in
       record {
@@ -140,9 +140,11 @@ module _ {H : Type 0} (IsIntact IsOpen : H → Type 0) (seen : H → Seen) (left
             ];
           });
           kept = goes;
+          read = read;
         };
+        short = short;
       }
-  headed_told last goes (Some m) said reply as_said h early is out took ended =
+  headed_told last goes (Some m) said reply as_said read short h early is out took ended =
       let (come, going, did, survives) = h.receives.came in
       let it = taken _ h come in
       let W : Option ℕ → Type 0 = λ s. IfSome s (λ _. (n : ℕ) → HasExtent (seen old).limits (all_of before.left (all _ h)) n → length (all _ h) ≡ n) in
@@ -172,7 +174,9 @@ module _ {H : Type 0} (IsIntact IsOpen : H → Type 0) (seen : H → Seen) (left
             crash = tt;
           });
           kept = goes;
+          read = read;
         };
+        short = short;
       }
 
   -- the reader failed while the body came
@@ -197,6 +201,7 @@ module _ {H : Type 0} (IsIntact IsOpen : H → Type 0) (seen : H → Seen) (left
           writer = going;
         };
         did = record { same = same; survives = survives };
+        short = λ _ _. tt;
       }
     where
       keeps_same : (a : Option (List ℕ)) → Keeps a a

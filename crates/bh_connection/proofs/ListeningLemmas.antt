@@ -1,5 +1,5 @@
 -- Visits after visits.
-use Rattle.std.proofs.Common.{◌≡◌, ℕ, Bool, true, false, List, [], ◌∷◌, ◌++◌, refl, sym, ap, subst, ◌∙◌, Option, None, Result, Ok, Err, append-nil}
+use Rattle.std.proofs.Common.{◌≡◌, ℕ, Bool, true, false, List, [], ◌∷◌, ◌++◌, refl, sym, ap, subst, ◌∙◌, Option, None, Result, Ok, Err, append-nil, inl, inr, arith}
 use Rattle.std.specs.Prelude.{IsErr, MatchResult, filter_map}
 use Rattle.std.specs.List.{flat_map, cons_option}
 use Rattle.std.proofs.lemmas.Bool.{false≢true}
@@ -19,8 +19,8 @@ use Rattle.bh_connection.specs.Connections.{Ends}
 use Rattle.bh_connection.specs.declared.served.End.TheVariants.{ReadFailed}
 use Rattle.bh_connection.specs.declared.served.Served.{Served}
 use Rattle.bh_connection.specs.Operators.{Heard, CutOff, NotHeard, NoOrder, Obeyed, Copied, Obeys}
-use Rattle.bh_connection.specs.Visits.{Visit, OfClient, OfOperator, CameBy, AllCame, DidBy, DidFor, RanFor, event_of, told_of, event_heard, told_heard}
-use Rattle.bh_connection.specs.Listening.{Call, calls_for, calls_of, HasServedAll, IsServed, VisitedAs}
+use Rattle.bh_connection.specs.Visits.{Visit, OfClient, OfOperator, CameBy, AllCame, IsAdmitted, AllAdmitted, DidBy, DidFor, RanFor, event_of, told_of, event_heard, told_heard}
+use Rattle.bh_connection.specs.Listening.{Call, calls_for, calls_of, HasListened, HasServedAll, IsServed, VisitedAs, WereCounted}
 use Rattle.bh_connection.proofs.EachLemmas.{ran_stays, ran_applied, ran_back, ran_with, run_alone, ran_no_request, ran_request}
 
 -- one connection more
@@ -35,6 +35,10 @@ all_came-append : (secret : Option (List ℕ)) (limits : HostLimits) (visits : L
     → AllCame secret limits visits → CameBy secret limits visit → AllCame secret limits (visits ++ visit ∷ [])
 all_came-append secret limits [] visit all came = (came, tt)
 all_came-append secret limits (v ∷ visits) visit (first, rest) came = (first, all_came-append secret limits visits visit rest came)
+
+pub admitted_more : (operated : Bool) (visits : List Visit) (visit : Visit) → AllAdmitted operated visits → IsAdmitted operated visit → AllAdmitted operated (visits ++ visit ∷ [])
+admitted_more operated [] visit all one = (one, tt)
+admitted_more operated (v ∷ visits) visit (first, rest) one = (first, admitted_more operated visits visit rest one)
 
 -- ---- runs
 
@@ -83,13 +87,13 @@ module _ {H C : Type 0} (IsIntact IsOpen : H → Type 0) (seen : H → Seen) (le
   did_as secret operated Operator before after served old new admitted came =
       (OfOperator (record { before = before; after = after; served = served; heard = came.heard }), admitted refl, came.obeys)
 
-  pub visited_as : (secret : Option (List ℕ)) (a b : Option (List Call)) (caller : Caller) (before after : Ends) (served : Served) (old new : H)
-      → Logs a b (calls_for caller before after served) → VisitedAs IsIntact IsOpen seen left shows secret caller before after served old new
-      → (visit : Visit) × IsServed IsIntact IsOpen seen left shows secret a b old new visit
-  visited_as secret a b Request before after served old new calls came =
-      (OfClient (record { before = before; after = after; served = served; outcome = came.outcome }), record { calls = calls; came = came.came; did = came.did })
-  visited_as secret a b Operator before after served old new calls came =
-      (OfOperator (record { before = before; after = after; served = served; heard = came.heard }), record { calls = calls; came = came.hears; did = came.obeys })
+  pub visited_as : (secret : Option (List ℕ)) (operated : Bool) (a b : Option (List Call)) (caller : Caller) (before after : Ends) (served : Served) (old new : H)
+      → (caller ≡ Operator → operated ≡ true) → Logs a b (calls_for caller before after served) → VisitedAs IsIntact IsOpen seen left shows secret caller before after served old new
+      → (visit : Visit) × IsServed IsIntact IsOpen seen left shows secret operated a b old new visit
+  visited_as secret operated a b Request before after served old new admitted calls came =
+      (OfClient (record { before = before; after = after; served = served; outcome = came.outcome }), record { admitted = tt; calls = calls; came = came.came; did = came.did })
+  visited_as secret operated a b Operator before after served old new admitted calls came =
+      (OfOperator (record { before = before; after = after; served = served; heard = came.heard }), record { admitted = admitted refl; calls = calls; came = came.hears; did = came.obeys })
 
   -- ---- and what each tenant is told in them
 
@@ -119,3 +123,18 @@ module _ {H C : Type 0} (IsIntact IsOpen : H → Type 0) (seen : H → Seen) (le
 pub at_err : {X E : Type 0} (result : Result X E) (Q : Type 0) {P : Type 0} → IsErr result → P → MatchResult result (λ _. Q) (λ _. P)
 at_err (Ok x) Q failed p = absurd (false≢true failed)
 at_err (Err e) Q failed p = p
+
+-- so many as were asked for
+module _ {H : Type 0} (IsIntact IsOpen : H → Type 0) (seen : H → Seen) (left : H → Tables → Type 0) (secret : Option (List ℕ)) where
+  pub counted_of : {X E : Type 0} (operated : Bool) (lost : H → Bool) (before after : Option (List Call)) (count : ℕ) (result : Result X E) (old new : H)
+      → HasListened IsIntact IsOpen seen left secret operated lost before after count result old new → WereCounted IsIntact IsOpen seen left secret operated count result old new
+  counted_of operated lost before after count (Ok x) old new (visits, served, admitted, told) = (visits, served, admitted, told.0)
+  counted_of operated lost before after count (Err e) old new (visits, served, admitted, told) = (
+    visits,
+    served,
+    admitted,
+    elim told [
+      | inl failed ↦ (let few = failed.0 in omega (arith, few))
+      | inr ended ↦ ended.1
+    ],
+  )

@@ -1,5 +1,6 @@
 -- What came of an operator's line, and how its reply was sent.
 use Rattle.std.proofs.Common.{◌≡◌, ℕ, suc, ◌+◌, ◌<◌, Bool, true, false, List, [], ◌∷◌, ◌++◌, length, take, map, refl, sym, ap, subst, ◌∙◌, inl, inr, arith, Option, Some, None, append_assoc, append-nil}
+use Rattle.std.specs.Prelude.{is_some}
 use Rattle.std.specs.Io.KnownBytes.{Appends, Keeps}
 use Rattle.std.specs.List.{concat}
 use Rattle.std.proofs.lemmas.List.{map-append, take_all, take-append-le}
@@ -7,6 +8,8 @@ use Rattle.std.proofs.lemmas.List.Folds.{concat-append}
 use Rattle.bh_event.specs.Events.{Arrival as Event}
 use Rattle.bh_tables.specs.Typed.{Tables}
 use Rattle.bh_storage.specs.Calls.{Seen}
+use Rattle.bh_storage.specs.declared.error.Trouble.TheVariants.{Memory}
+use Rattle.bh_host.specs.Answers.{is_wanting}
 use Rattle.bh_host.specs.Replies.{wanting_text}
 use Rattle.bh_host.specs.declared.reply.Caller.TheVariants.{Operator}
 use Rattle.bh_http.specs.Transfers.{Transfer, Moved, Failed, Logs, MovesThen, Gives, Takes}
@@ -70,15 +73,16 @@ module _ {H C : Type 0} (IsIntact IsOpen : H → Type 0) (seen : H → Seen) (le
       → IsApplied IsIntact IsOpen seen left event (stamp, reply) old new
       → served.stamp ≡ stamp → Appends before.held after.held (take served.sent (line_text reply))
       → Takes before.took after.took (take served.sent (line_text reply)) after.writer_failed
-      → EndsAs served.ended served.sent (line_text reply) after.writer_failed
+      → EndsAs served.ended served.sent (line_text reply) after.writer_failed → is_some served.trouble ≡ is_wanting event.reading stamp
       → WasOrdered IsIntact IsOpen seen left shows secret before after served old new
-  obeyed before after served taken reply event stamp old new took gave going did is out took_out ended = record {
+  obeyed before after served taken reply event stamp old new took gave going did is out took_out ended noted = record {
     heard = Obeyed event (stamp, reply);
     hears = record {
       taken = taken;
       replied = record { consumed = took.consumed; short = took.short; stamp = is; out = out; ended = ended; gave = gave; took = took_out; reader = going };
       is = took.is;
     };
+    notes = noted;
     obeys = did;
   }
 
@@ -88,15 +92,16 @@ module _ {H C : Type 0} (IsIntact IsOpen : H → Type 0) (seen : H → Seen) (le
       → IsBackedUp IsIntact IsOpen seen left shows reply old new
       → served.stamp ≡ None → Appends before.held after.held (take served.sent (line_text reply))
       → Takes before.took after.took (take served.sent (line_text reply)) after.writer_failed
-      → EndsAs served.ended served.sent (line_text reply) after.writer_failed
+      → EndsAs served.ended served.sent (line_text reply) after.writer_failed → served.trouble ≡ None
       → WasOrdered IsIntact IsOpen seen left shows secret before after served old new
-  copied before after served taken reply to old new took gave going did is out took_out ended = record {
+  copied before after served taken reply to old new took gave going did is out took_out ended noted = record {
     heard = Copied to reply;
     hears = record {
       taken = taken;
       replied = record { consumed = took.consumed; short = took.short; stamp = is; out = out; ended = ended; gave = gave; took = took_out; reader = going };
       is = took.is;
     };
+    notes = noted;
     obeys = did;
   }
 
@@ -105,33 +110,33 @@ module _ {H C : Type 0} (IsIntact IsOpen : H → Type 0) (seen : H → Seen) (le
       → TookOrder secret before.reading before.left after.left taken None → Gives before.gave after.gave taken false → after.reader_failed ≡ false → new ≡ old → reply ≡ bad_line
       → served.stamp ≡ None → Appends before.held after.held (take served.sent (line_text reply))
       → Takes before.took after.took (take served.sent (line_text reply)) after.writer_failed
-      → EndsAs served.ended served.sent (line_text reply) after.writer_failed
+      → EndsAs served.ended served.sent (line_text reply) after.writer_failed → served.trouble ≡ None
       → WasOrdered IsIntact IsOpen seen left shows secret before after served old new
-  not_ordered before after served taken reply old new took gave going same text is out took_out ended =
+  not_ordered before after served taken reply old new took gave going same text is out took_out ended noted =
       let P : List ℕ → Type 0 = λ r. IsReplied before after served taken (None, r) in
       let replied : P reply = record { consumed = took.consumed; short = took.short; stamp = is; out = out; ended = ended; gave = gave; took = took_out; reader = going } in
-      record { heard = NoOrder; hears = record { taken = taken; replied = subst P text replied; is = took.is }; obeys = same }
+      record { heard = NoOrder; hears = record { taken = taken; replied = subst P text replied; is = took.is }; notes = noted; obeys = same }
 
   -- memory was wanting before it was known what is ordered
   pub not_heard : (before after : Ends) (served : Served) (taken reply : List ℕ) (old new : H)
       → TookPart before.left after.left taken → Gives before.gave after.gave taken after.reader_failed → after.reader_failed ≡ false → new ≡ old → reply ≡ wanting_text Operator
       → served.stamp ≡ None → Appends before.held after.held (take served.sent (line_text reply))
       → Takes before.took after.took (take served.sent (line_text reply)) after.writer_failed
-      → EndsAs served.ended served.sent (line_text reply) after.writer_failed
+      → EndsAs served.ended served.sent (line_text reply) after.writer_failed → served.trouble ≡ Some Memory
       → WasOrdered IsIntact IsOpen seen left shows secret before after served old new
-  not_heard before after served taken reply old new took given going same text is out took_out ended =
+  not_heard before after served taken reply old new took given going same text is out took_out ended noted =
       let gave : Gives before.gave after.gave taken false = gives_as before.gave after.gave taken after.reader_failed false going given in
       let P : List ℕ → Type 0 = λ r. IsReplied before after served taken (None, r) in
       let replied : P reply = record { consumed = took.consumed; short = took.short; stamp = is; out = out; ended = ended; gave = gave; took = took_out; reader = going } in
-      record { heard = NotHeard; hears = (taken, subst P text replied); obeys = same }
+      record { heard = NotHeard; hears = (taken, subst P text replied); notes = noted; obeys = same }
 
   -- the reader failed
   pub cut_off : (before after : Ends) (served : Served) (taken : List ℕ) (old new : H)
       → TookPart before.left after.left taken → Gives before.gave after.gave taken after.reader_failed → after.reader_failed ≡ true → after.writer_failed ≡ false
       → after.held ≡ before.held → after.took ≡ before.took → new ≡ old
-      → served.ended ≡ ReadFailed → served.stamp ≡ None → served.sent ≡ 0
+      → served.ended ≡ ReadFailed → served.stamp ≡ None → served.sent ≡ 0 → served.trouble ≡ None
       → WasOrdered IsIntact IsOpen seen left shows secret before after served old new
-  cut_off before after served taken old new took given failed going kept untaken same ended stamp sent =
+  cut_off before after served taken old new took given failed going kept untaken same ended stamp sent noted =
       let gave : Gives before.gave after.gave taken true = gives_as before.gave after.gave taken after.reader_failed true failed given in
       let K : Option (List ℕ) → Type 0 = λ h. Keeps before.held h in
       record {
@@ -149,6 +154,7 @@ module _ {H C : Type 0} (IsIntact IsOpen : H → Type 0) (seen : H → Seen) (le
           reader = failed;
           writer = going;
         };
+        notes = noted;
         obeys = same;
       }
     where

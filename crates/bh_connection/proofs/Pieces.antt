@@ -2,12 +2,13 @@
 use Rattle.std.proofs.Common.{◌≡◌, ℕ, zero, suc, ◌+◌, ◌≤◌, ◌<◌, List, [], ◌∷◌, ◌++◌, take, length, length-append, refl, sym, ap, ◌∙◌, arith, append-nil, subst, Bool, true, false, Option, Some}
 use Rattle.std.specs.Prelude.{◌↔◌, IsTrue}
 use Rattle.std.specs.Io.KnownBytes.{Appends}
-use Rattle.std.proofs.lemmas.List.{take_all}
+use Rattle.std.proofs.lemmas.List.{take_all, length-take}
 use Rattle.bh_http.specs.Transfers.{Transfer, Takes}
 use Rattle.bh_http.proofs.TransferLemmas.{nothing_appended, takes_none}
-use Rattle.bh_connection.specs.Connections.{EndsIn, Sends}
+use Rattle.bh_connection.specs.Connections.{EndsAs, EndsIn, Sends}
 use Rattle.bh_connection.specs.declared.served.End.{End}
 use Rattle.bh_connection.specs.declared.served.End.TheVariants.{Whole, WriteFailed, StoreFailed}
+use Rattle.bh_connection.proofs.ConnectionLemmas.{no_store_fault}
 use Rattle.bh_connection.proofs.OperatorLemmas.{appends_on, takes_on}
 
 take_none : (xs : List ℕ) → take zero xs ≡ []
@@ -18,6 +19,16 @@ take_front : (xs ys : List ℕ) (n : ℕ) → n ≡ length xs → take n (xs ++ 
 take_front [] ys n e = ap (λ k. take k ys) e ∙ take_none ys
 take_front (x ∷ xs) ys zero e = absurd (omega (arith, e))
 take_front (x ∷ xs) ys (suc n) e = ap (λ l. x ∷ l) (take_front xs ys n (omega (arith, e)))
+
+pub none_left : (n : ℕ) (xs : List ℕ) → n ≡ 0 → take n xs ≡ []
+none_left n xs e = ap (λ k. take k xs) e ∙ take_none xs
+
+-- what is left of a measured plan is measured
+pub measured_on : (left left_after : ℕ) (piece xs : List ℕ) → left ≡ length (piece ++ take left_after xs) → length piece + left_after ≤ left → left_after ≡ length (take left_after xs)
+measured_on left left_after piece xs all falls =
+    let long = length-append piece (take left_after xs) in
+    let most = length-take left_after xs in
+    omega (arith, all, falls, long, most)
 
 take_within : (ys zs : List ℕ) (count : ℕ) → count ≤ length ys → take count (ys ++ zs) ≡ take count ys
 take_within [] [] zero h = refl
@@ -69,8 +80,8 @@ module _ (intact : Type 0) (stamp : ℕ) (planned : List ℕ) (held after : Opti
   Sent sent ended = Sends intact stamp planned held after took took_after failed sent ended
 
   -- some bytes went out, and these may be followed by others
-  sent_front : (gone rest : List ℕ) (sent : ℕ) (ended : End) → Gone held after took took_after failed sent gone → (intact → gone ++ rest ≡ planned) → EndsIn ended (Some stamp) sent (gone ++ rest) failed → Sent sent ended
-  sent_front gone rest sent ended went is ends =
+  sent_front : (gone rest : List ℕ) (sent : ℕ) (ended : End) → Gone held after took took_after failed sent gone → (intact → gone ++ rest ≡ planned) → EndsIn ended (Some stamp) sent (gone ++ rest) failed → (intact → ended ≡ StoreFailed → sent < length (gone ++ rest)) → Sent sent ended
+  sent_front gone rest sent ended went is ends short =
       let front : take sent (gone ++ rest) ≡ gone = take_front gone rest sent went.count in
       record {
         reply = gone ++ rest;
@@ -78,18 +89,21 @@ module _ (intact : Type 0) (stamp : ℕ) (planned : List ℕ) (held after : Opti
         out = subst (λ (x : List ℕ). Appends held after x) (sym front) went.out;
         took = subst (λ (x : List ℕ). Takes took took_after x failed) (sym front) went.taken;
         ended = ends;
+        short = short;
       }
 
   -- what was still to come can't be read
-  pub sends_failed : (gone rest : List ℕ) (sent : ℕ) → Gone held after took took_after failed sent gone → (intact → gone ++ rest ≡ planned) → Sent sent StoreFailed
-  sends_failed gone rest sent went is =
+  pub sends_failed : (gone rest : List ℕ) (sent : ℕ) → Gone held after took took_after failed sent gone → (intact → gone ++ rest ≡ planned) → (intact → 0 < length rest) → Sent sent StoreFailed
+  sends_failed gone rest sent went is some =
       let long = length-append gone rest in
       let count = went.count in
-      sent_front gone rest sent StoreFailed went is (omega (arith, long, count), went.going)
+      sent_front gone rest sent StoreFailed went is (omega (arith, long, count), went.going) (λ i _. (let left = some i in omega (arith, long, count, left)))
 
   -- nothing is still to come
   pub sends_whole : (gone rest : List ℕ) (sent : ℕ) → Gone held after took took_after failed sent gone → (intact → rest ≡ []) → (intact → gone ++ rest ≡ planned) → Sent sent Whole
-  sends_whole gone rest sent went none is = sent_front gone [] sent Whole went (λ i. ap (λ l. gone ++ l) (sym (none i)) ∙ is i) (went.count ∙ ap length (sym (append-nil gone)), went.going)
+  sends_whole gone rest sent went none is =
+      let ends : EndsAs Whole sent (gone ++ []) failed = (went.count ∙ ap length (sym (append-nil gone)), went.going) in
+      sent_front gone [] sent Whole went (λ i. ap (λ l. gone ++ l) (sym (none i)) ∙ is i) ends (λ _ fault. absurd (no_store_fault Whole sent (gone ++ []) failed ends fault))
 
   -- a piece went out in part
   pub sends_part : (mid : Option (List ℕ)) (took_mid : Option (List Transfer)) (was : Bool) (gone piece rest : List ℕ) (sent count : ℕ) → Gone held mid took took_mid was sent gone
@@ -99,13 +113,15 @@ module _ (intact : Type 0) (stamp : ℕ) (planned : List ℕ) (held after : Opti
       let long = length-append gone (piece ++ rest) in
       let longer = length-append piece rest in
       let before = so_far.count in
+      let ends : EndsAs WriteFailed (sent + count) (gone ++ (piece ++ rest)) failed = (omega (arith, long, longer, before, short), h_broke broke short) in
       let front : take (sent + count) (gone ++ (piece ++ rest)) ≡ gone ++ take count piece = take_into gone piece rest (sent + count) count (omega (arith, before)) (omega (arith, short)) in
       record {
         reply = gone ++ (piece ++ rest);
         is = is;
         out = appends_on held mid after gone (take count piece) (take (sent + count) (gone ++ (piece ++ rest))) front so_far.out out;
         took = takes_on took took_mid took_after gone (take count piece) (take (sent + count) (gone ++ (piece ++ rest))) was failed front so_far.going so_far.taken taken;
-        ended = (omega (arith, long, longer, before, short), h_broke broke short);
+        ended = ends;
+        short = λ _ fault. absurd (no_store_fault WriteFailed (sent + count) (gone ++ (piece ++ rest)) failed ends fault);
       }
     where
       h_broke : IsTrue failed ↔ (count < length piece) → count < length piece → failed ≡ true

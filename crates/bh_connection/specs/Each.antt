@@ -1,4 +1,4 @@
--- A list of connections, and what each tenant is told, as if it were alone.
+-- A list of connections, and that each tenant is answered as if it were alone.
 use Rattle.std.specs.Prelude.{◌≡◌, ℕ, false, List, [], ◌∷◌, map, filter_map, Option, option_map}
 use Rattle.bh_types.specs.Limits.{HostLimits}
 use Rattle.bh_event.specs.Events.{Arrival as Event}
@@ -19,7 +19,7 @@ abbrev pub ends : {R W : Type 0} → (R → Option (List ℕ)) → (R → Option
     → (W → Option (List Transfer)) → Arrival R W → Ends
 ends remaining given contents taken arrival = ends_of remaining given contents taken arrival.reading arrival.reader arrival.writer
 
--- one connection: its ends before and after, what became of it, and the request that it brought, if it did
+-- one connection: its ends before and after, its result, and its request, if it had one
 pub record Row : Type 0 where
   pub before : Ends
   pub after : Ends
@@ -30,7 +30,7 @@ abbrev pub EachCame : HostLimits → List Row → Type 0
 EachCame limits [] = Unit {0}
 EachCame limits (row ∷ rows) = Came limits row.before row.after row.served row.outcome × EachCame limits rows
 
--- the events that connections brought, and what was told of them
+-- the events of connections, and their replies
 abbrev pub event_of : Row → Option Event
 event_of row = option_map (λ o. request_at row.before.reading o.0) row.outcome
 
@@ -51,14 +51,14 @@ abbrev pub HasServed : {H : Type 0} → (H → Type 0) → (H → Type 0) → (H
 HasServed IsIntact IsOpen seen left before after serveds old new =
     (rows : List Row) × HasServedAs IsIntact IsOpen seen left before after serveds old new rows
 
--- the connections of a list were served, and each tenant is alone in what they brought
+-- the connections of a list were served, and their events treat each tenant as if it were alone
 abbrev pub HasServedAlone : {H : Type 0} → (H → Type 0) → (H → Type 0) → (H → Seen) → (H → Tables → Type 0) → List Ends → List Ends
     → List Served → H → H → Type 0
 HasServedAlone IsIntact IsOpen seen left before after serveds old new =
     (rows : List Row) × HasServedAs IsIntact IsOpen seen left before after serveds old new rows
     × HasRunOn IsOpen seen (filter_map event_of rows) (filter_map told_of rows) old new
 
--- some requests came in turn, each at a reading of the clock, and no other event
+-- requests were applied in turn, each at a reading of the clock, and no other event
 abbrev pub RanSome : {H : Type 0} → (H → Type 0) → (H → Seen) → (H → Tables → Type 0) → H → H → Type 0
 RanSome IsOpen seen left old new =
     (requests : List (ℕ × List ℕ)) × (tolds : List Told) × RanOn IsOpen seen left (map (λ r. request_at r.0 r.1) requests) tolds old new

@@ -1,4 +1,4 @@
--- Visits that an acceptor gave, and the calls by which they came.
+-- The visits of an acceptor, and its calls for them.
 use Rattle.std.specs.Prelude.{◌≡◌, ◌⊎◌, ◌<◌, ◌≤◌, ℕ, Bool, true, false, List, [], ◌∷◌, ◌++◌, length, filter_map, Option, Result}
 use Rattle.std.specs.Prelude.{MatchResult, option_map, option_and_then}
 use Rattle.std.specs.List.{flat_map}
@@ -10,11 +10,11 @@ use Rattle.bh_host.specs.declared.reply.Caller.TheVariants.{Request, Operator}
 use Rattle.bh_http.specs.Transfers.{Logs}
 use Rattle.bh_connection.specs.Connections.{Ends, CameTo}
 use Rattle.bh_connection.specs.Operators.{WasOrdered}
-use Rattle.bh_connection.specs.Visits.{Visit, OfClient, OfOperator, CameBy, AllCame, DidBy, event_of, told_of}
+use Rattle.bh_connection.specs.Visits.{Visit, OfClient, OfOperator, CameBy, AllCame, IsAdmitted, AllAdmitted, DidBy, event_of, told_of}
 use Rattle.bh_connection.specs.declared.listener.Ports.{Ports}
 use Rattle.bh_connection.specs.declared.served.Served.{Served}
 
--- ---- the calls of an acceptor, and what each gave
+-- ---- the calls of an acceptor, with their results
 
 pub data Call : Type 0 where
   Accepted : (caller : Caller) → Call
@@ -24,7 +24,8 @@ pub data Call : Type 0 where
   Opened : (ends : Ends) → Call
   Closed : (ends : Ends) (served : Served) → Call
 
--- the calls of a connection that was served: the clock is asked once it was accepted, and what the clock told is its reading
+-- the calls of a connection that was served: after the accept the clock is read, which gives its
+-- reading
 abbrev pub calls_for : Caller → Ends → Ends → Served → List Call
 calls_for caller before after served = Accepted caller ∷ ToldReading before.reading ∷ Opened before ∷ Closed after served ∷ []
 
@@ -33,7 +34,7 @@ abbrev pub calls_of : Visit → List Call
 calls_of (OfClient row) = calls_for Request row.before row.after row.served
 calls_of (OfOperator row) = calls_for Operator row.before row.after row.served
 
--- the calls that end all: an accept failed, or the clock told nothing after one
+-- the calls that end serving: an accept failed, or the clock failed after one
 abbrev pub IsFault : List Call → Type 0
 IsFault calls = (calls ≡ NotAccepted ∷ []) ⊎ ((caller : Caller) × (calls ≡ Accepted caller ∷ ToldNone ∷ []))
 
@@ -41,32 +42,33 @@ IsFault calls = (calls ≡ NotAccepted ∷ []) ⊎ ((caller : Caller) × (calls 
 
 module _ {H C : Type 0} (IsIntact IsOpen : H → Type 0) (seen : H → Seen) (left : H → Tables → Type 0) (shows : C → Tables → Type 0)
     (secret : Option (List ℕ)) where
-  -- one was served as its caller's
+  -- one was served by its caller's kind
   abbrev pub VisitedAs : Caller → Ends → Ends → Served → H → H → Type 0
   VisitedAs Request before after served old new = CameTo IsIntact IsOpen seen left before after served old new
   VisitedAs Operator before after served old new = WasOrdered IsIntact IsOpen seen left shows secret before after served old new
 
   -- one was accepted and served
-  pub record IsServed (before after : Option (List Call)) (old new : H) (visit : Visit) : Type 0 where
+  pub record IsServed (operated : Bool) (before after : Option (List Call)) (old new : H) (visit : Visit) : Type 0 where
+    pub admitted : IsAdmitted operated visit
     pub calls : Logs before after (calls_of visit)
     pub came : CameBy secret (seen old).limits visit
     pub did : DidBy IsIntact IsOpen seen left shows visit old new
 
-  -- nothing is done after a fault
+  -- there are no calls after a fault
   pub record HasFailed (before after : Option (List Call)) (old new : H) (fault : List Call) : Type 0 where
     pub which : IsFault fault
     pub calls : Logs before after fault
     pub same : new ≡ old
 
-  abbrev pub ComesOne : {X E : Type 0} → Option (List Call) → Option (List Call) → Result X E → H → H → Type 0
-  ComesOne before after result old new =
-      MatchResult result (λ _. (visit : Visit) × IsServed before after old new visit)
+  abbrev pub ComesOne : {X E : Type 0} → Bool → Option (List Call) → Option (List Call) → Result X E → H → H → Type 0
+  ComesOne operated before after result old new =
+      MatchResult result (λ _. (visit : Visit) × IsServed operated before after old new visit)
       (λ _. (fault : List Call) × HasFailed before after old new fault)
 
 -- ---- connections in turn
 
 module _ {H : Type 0} (IsIntact IsOpen : H → Type 0) (seen : H → Seen) (left : H → Tables → Type 0) (secret : Option (List ℕ)) where
-  -- those that brought a request or an order are the events of a run, and each tenant is alone in it
+  -- those with a request or an order are the events of a run, and each tenant is alone in it
   pub record HasServedAll (visits : List Visit) (old new : H) : Type 0 where
     pub each : AllCame secret (seen old).limits visits
     pub ran : IsIntact new → RanOn IsOpen seen left (filter_map event_of visits) (filter_map told_of visits) old new
@@ -76,15 +78,22 @@ module _ {H : Type 0} (IsIntact IsOpen : H → Type 0) (seen : H → Seen) (left
   abbrev pub WasVisited : H → H → Type 0
   WasVisited old new = (visits : List Visit) × HasServedAll visits old new
 
-  -- so many were served, each that was accepted; or fewer and then a fault ended all, or a backup over which the host was lost;
-  -- no other call was made
-  abbrev pub HasListened : {X E : Type 0} → (H → Bool) → Option (List Call) → Option (List Call) → ℕ → Result X E → H → H → Type 0
-  HasListened lost before after count result old new = (visits : List Visit) × HasServedAll visits old new × MatchResult result
+  -- `count` connections were served, or at most as many if serving ended with an error. All are
+  -- clients' unless operators connect too
+  abbrev pub WereCounted : {X E : Type 0} → Bool → ℕ → Result X E → H → H → Type 0
+  WereCounted operated count result old new = (visits : List Visit) × HasServedAll visits old new × AllAdmitted operated visits
+      × MatchResult result (λ _. length visits ≡ count) (λ _. length visits ≤ count)
+
+  -- `count` connections were served, each that was accepted; or fewer, and then a fault ended it,
+  -- or a backup over which the host was lost. No other call was made
+  abbrev pub HasListened : {X E : Type 0} → Bool → (H → Bool) → Option (List Call) → Option (List Call) → ℕ → Result X E → H → H → Type 0
+  HasListened operated lost before after count result old new =
+      (visits : List Visit) × HasServedAll visits old new × AllAdmitted operated visits × MatchResult result
       (λ _. (length visits ≡ count) × Logs before after (flat_map calls_of visits))
       (λ _. ((length visits < count) × ((fault : List Call) × IsFault fault × Logs before after (flat_map calls_of visits ++ fault)))
       ⊎ ((lost new ≡ true) × (length visits ≤ count) × Logs before after (flat_map calls_of visits)))
 
-  -- a host that was lost had been served with until a visit
+  -- a host that was lost was served up to some visit
   abbrev pub WasLost : {C : Type 0} → (C → Tables → Type 0) → (H → Bool) → H → H → Type 0
   WasLost shows lost old new = lost old ≡ false → lost new ≡ true
       → (visits : List Visit) × (mid : H) × (visit : Visit) × HasServedAll visits old mid

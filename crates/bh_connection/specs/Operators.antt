@@ -1,9 +1,12 @@
--- What becomes of an operator's connection, and of the host by it.
-use Rattle.std.specs.Prelude.{◌≡◌, ◌≤◌, ℕ, true, false, List, [], ◌∷◌, ◌++◌, codes, length, take, Option, Some, None}
+-- The results of an operator's connection, and its effect on the host.
+use Rattle.std.specs.Prelude.{◌≡◌, ◌≤◌, ℕ, true, false, List, [], ◌∷◌, ◌++◌, codes, is_some, length, take, Option, Some, None}
 use Rattle.std.specs.Io.KnownBytes.{Appends, Consumes, Keeps}
 use Rattle.bh_event.specs.Events.{Arrival as Event}
 use Rattle.bh_tables.specs.Typed.{Tables}
 use Rattle.bh_storage.specs.Calls.{Seen}
+use Rattle.bh_storage.specs.declared.error.Trouble.{Trouble}
+use Rattle.bh_storage.specs.declared.error.Trouble.TheVariants.{Memory}
+use Rattle.bh_host.specs.Answers.{is_wanting}
 use Rattle.bh_host.specs.Replies.{wanting_text}
 use Rattle.bh_host.specs.Runs.{Told}
 use Rattle.bh_host.specs.declared.reply.Caller.TheVariants.{Operator}
@@ -15,7 +18,7 @@ use Rattle.bh_connection.specs.Connections.{Ends, EndsAs, IsApplied}
 use Rattle.bh_connection.specs.declared.served.End.TheVariants.{ReadFailed}
 use Rattle.bh_connection.specs.declared.served.Served.{Served}
 
--- the reply to a line that orders nothing
+-- the reply to a line without an order
 abbrev pub bad_line : List ℕ
 bad_line = codes "bad line"
 
@@ -23,8 +26,9 @@ bad_line = codes "bad line"
 abbrev pub line_text : List ℕ → List ℕ
 line_text reply = reply ++ 10 ∷ []
 
--- what an operator's line came to: its reader failed; memory was wanting before it was known what it orders; it orders
--- nothing; what it orders was applied; or it orders a copy under this name, and this was replied
+-- the result of an operator's line: its reader failed, or memory ran out before its order was
+-- known. Otherwise it has no order, its order was applied, or it orders a copy under this name,
+-- with this reply
 pub data Heard : Type 0 where
   CutOff : Heard
   NotHeard : Heard
@@ -34,7 +38,7 @@ pub data Heard : Type 0 where
 
 -- ---- its ends
 
--- the reader failed, at its last call: nothing is answered
+-- the reader failed, at its last call: no reply is sent
 pub record IsCutOff (before after : Ends) (served : Served) : Type 0 where
   pub taken : List ℕ
   pub consumed : Consumes before.left after.left taken
@@ -48,8 +52,8 @@ pub record IsCutOff (before after : Ends) (served : Served) : Type 0 where
   pub reader : after.reader_failed ≡ true
   pub writer : after.writer_failed ≡ false
 
--- no call of the reader failed, and these bytes were taken; the bytes out are the first ones of the reply's line, and all of
--- them unless a call of the writer failed or took none of some bytes
+-- no call of the reader failed, and these bytes were read. The bytes sent are the first ones of the
+-- reply's line; all of them unless a call of the writer failed or took none of some bytes
 pub record IsReplied (before after : Ends) (served : Served) (taken : List ℕ) (told : Told) : Type 0 where
   pub consumed : Consumes before.left after.left taken
   pub short : length taken ≤ 16384
@@ -60,7 +64,8 @@ pub record IsReplied (before after : Ends) (served : Served) (taken : List ℕ) 
   pub took : Takes before.took after.took (take served.sent (line_text told.1)) after.writer_failed
   pub reader : after.reader_failed ≡ false
 
--- all the bytes that its reader would give order this, or nothing, under the secret if there is one
+-- all the bytes that its reader would return have this order, or none, under the secret if there is
+-- one
 pub record IsHeard (secret : Option (List ℕ)) (before after : Ends) (served : Served) (order : Option Order) (told : Told) : Type 0 where
   pub taken : List ℕ
   pub replied : IsReplied before after served taken told
@@ -73,9 +78,20 @@ Hears secret before after served NoOrder = IsHeard secret before after served No
 Hears secret before after served (Obeyed event told) = IsHeard secret before after served (Some (ToDo event)) told
 Hears secret before after served (Copied to reply) = IsHeard secret before after served (Some (ToCopy to)) (None, reply)
 
+-- ---- the failure that is noted for the log
+
+-- that of memory, if the order was not known. Of an event there is one exactly if it has no stamp,
+-- and its reading is in range
+abbrev pub Notes : Heard → Option Trouble → Type 0
+Notes CutOff trouble = trouble ≡ None
+Notes NotHeard trouble = trouble ≡ Some Memory
+Notes NoOrder trouble = trouble ≡ None
+Notes (Obeyed event told) trouble = is_some trouble ≡ is_wanting event.reading told.0
+Notes (Copied to reply) trouble = trouble ≡ None
+
 -- ---- its host
 
--- it stays unless a line orders something, and then that is applied, or it is copied
+-- it doesn't change unless a line has an order, which is then applied, or is a copy
 abbrev pub Obeys : {H C : Type 0} → (H → Type 0) → (H → Type 0) → (H → Seen) → (H → Tables → Type 0) → (C → Tables → Type 0) → Heard → H → H
     → Type 0
 Obeys IsIntact IsOpen seen left shows CutOff old new = new ≡ old
@@ -88,4 +104,5 @@ pub record WasOrdered {H C : Type 0} (IsIntact IsOpen : H → Type 0) (seen : H 
     (shows : C → Tables → Type 0) (secret : Option (List ℕ)) (before after : Ends) (served : Served) (old new : H) : Type 0 where
   pub heard : Heard
   pub hears : Hears secret before after served heard
+  pub notes : Notes heard served.trouble
   pub obeys : Obeys IsIntact IsOpen seen left shows heard old new

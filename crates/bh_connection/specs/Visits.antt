@@ -12,7 +12,7 @@ use Rattle.bh_connection.specs.Operators.{Heard, CutOff, NotHeard, NoOrder, Obey
 use Rattle.bh_connection.specs.declared.doors.Operators.{Operators}
 use Rattle.bh_connection.specs.declared.served.Served.{Served}
 
--- an operator's connection: its ends before and after, what became of it, and what its line came to
+-- an operator's connection: its ends before and after, its result, and the result of its line
 pub record LineRow : Type 0 where
   pub before : Ends
   pub after : Ends
@@ -23,7 +23,7 @@ pub data Visit : Type 0 where
   OfClient : (row : Row) → Visit
   OfOperator : (row : LineRow) → Visit
 
--- the event that it brought, and what was told of it; a copy is none
+-- the event of the line, and its reply; a copy is not an event
 abbrev pub event_heard : Heard → Option Event
 event_heard CutOff = None
 event_heard NotHeard = None
@@ -46,7 +46,7 @@ abbrev pub told_of : Visit → Option Told
 told_of (OfClient row) = each.told_of row
 told_of (OfOperator row) = told_heard row.heard
 
--- what became of it, under an operator's secret if there is one: a request was taken, or a line
+-- its result, under an operator's secret if there is one: a request was read, or a line
 abbrev pub CameBy : Option (List ℕ) → HostLimits → Visit → Type 0
 CameBy secret limits (OfClient row) = Came limits row.before row.after row.served row.outcome
 CameBy secret limits (OfOperator row) = Hears secret row.before row.after row.served row.heard
@@ -55,29 +55,33 @@ abbrev pub AllCame : Option (List ℕ) → HostLimits → List Visit → Type 0
 AllCame secret limits [] = Unit {0}
 AllCame secret limits (visit ∷ visits) = CameBy secret limits visit × AllCame secret limits visits
 
--- the secret of operators, if they come and have one
+-- the operators' secret, if there is a port for them and they have one
 abbrev pub secret_at : Option Operators → Option (List ℕ)
 secret_at operators = option_and_then (λ o. option_map (λ s. s.now) o.secret) operators
 
--- operators come only where they may
+-- operators connect only if there is a port for them
 abbrev pub IsAdmitted : Bool → Visit → Type 0
 IsAdmitted operated (OfClient row) = Unit {0}
 IsAdmitted operated (OfOperator row) = operated ≡ true
+
+abbrev pub AllAdmitted : Bool → List Visit → Type 0
+AllAdmitted operated [] = Unit {0}
+AllAdmitted operated (visit ∷ visits) = IsAdmitted operated visit × AllAdmitted operated visits
 
 module _ {H C : Type 0} (IsIntact IsOpen : H → Type 0) (seen : H → Seen) (left : H → Tables → Type 0) (shows : C → Tables → Type 0) where
   abbrev pub DidBy : Visit → H → H → Type 0
   DidBy (OfClient row) old new = Did IsIntact IsOpen seen left row.before.reading row.served.ended row.outcome old new
   DidBy (OfOperator row) old new = Obeys IsIntact IsOpen seen left shows row.heard old new
 
-  -- some visit was made, or none
+  -- there was a visit, or none
   abbrev pub DidFor : Bool → H → H → Type 0
   DidFor operated old new = (visit : Visit) × IsAdmitted operated visit × DidBy visit old new
 
--- some requests and orders came in turn, each at a reading of the clock
+-- requests and orders were applied in turn, each at a reading of the clock
 abbrev pub RanAny : {H : Type 0} → (H → Type 0) → (H → Seen) → (H → Tables → Type 0) → H → H → Type 0
 RanAny IsOpen seen left old new = (events : List Event) × (tolds : List Told) × RanOn IsOpen seen left events tolds old new
 
--- where no operator may come, only requests
+-- without a port for operators, only requests
 abbrev pub RanFor : {H : Type 0} → Bool → (H → Type 0) → (H → Seen) → (H → Tables → Type 0) → H → H → Type 0
 RanFor false IsOpen seen left old new = RanSome IsOpen seen left old new
 RanFor true IsOpen seen left old new = RanAny IsOpen seen left old new

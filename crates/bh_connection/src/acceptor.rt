@@ -10,22 +10,22 @@ use bh_host::Caller;
 use bh_link::ends::{Sink, Source};
 use std::io;
 
-/// Where connections come from, one after another, and the clock by which they are served.
+/// Accepts connections, one after another, and reads the clock by which they are served.
 ///
-/// What a socket or a clock gives no contract can say. An acceptor that tells its calls, and what they gave, tells by
-/// them what whoever serves its connections did.
+/// No contract can promise what a socket or a clock returns. But an acceptor may record its calls
+/// with their results, and by these a server's contract is stated.
 pub trait Acceptor {
     type Reader: Source + Drop;
 
     type Writer: Sink + Drop;
 
-    /// Its calls and what they gave, oldest first, if it tells them.
+    /// Its calls with their results, oldest first, if it records them.
     ghost calls: { Self → Option (List Call) } = { λ _. None };
 
-    /// Whether operators may come, beside clients.
+    /// Whether it accepts operators, beside clients.
     ghost operated: { Self → Bool } = { λ _. true };
 
-    /// Waits for the next connection, which is then its own, and says whose it is.
+    /// Waits for the next connection, makes it the current one, and returns who connected.
     fn accept(&mut self) -> io::Result<Caller>
         ensures calls { MatchResult result (λ caller. Logs (calls self.old) (calls self.new) (Accepted caller ∷ []))
             (λ _. Logs (calls self.old) (calls self.new) (NotAccepted ∷ [])) }
@@ -47,7 +47,7 @@ pub trait Acceptor {
         ensures reading { result.reading ≡ reading }
         ensures operated { operated self.new ≡ operated self.old };
 
-    /// Closes its connection, of which this became.
+    /// Closes its connection; `served` is how it ended.
     fn close(&mut self, arrival: Arrival<Self::Reader, Self::Writer>, served: Served)
         ensures calls { Logs (calls self.old) (calls self.new)
             (Closed (ends Self.Reader.Source.remaining Self.Reader.Source.transfers

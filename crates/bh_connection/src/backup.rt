@@ -8,28 +8,28 @@ ghost use Rattle.bh_connection.specs.Connections.{IsTakenBack};
 
 use bh_storage::storage::Storage;
 
-/// What is answered once a copy is made and synced.
+/// The reply if a copy was made and synced.
 const BACKUP: &[u8] = b"backup";
 
-/// What is answered where none was made, or the host was lost over it.
+/// The reply if no backup was made, or if the host was lost over it.
 const FAULT: &[u8] = b"fault";
 
-/// A storage of which a copy can be made in a file of its own.
+/// A storage that can be copied to a new file.
 pub trait BackUp: Storage {
     /// A copy.
     type Copy: Drop;
 
-    /// Whoever opens it, also after a crash, is shown these tables.
+    /// The tables that a copy has when it is opened, even after a crash.
     ghost shows: { Self.Copy → Tables → Type 0 };
 
-    /// It was closed to be copied, and couldn't be opened again: no call on it does anything from then on.
+    /// It was closed to be copied, and could not be reopened: from then on every call fails.
     ghost lost: { Self → Bool };
 
     fn is_lost(&self) -> bool
         ensures { result ≡ lost self.now };
 
-    /// Copies what stands to a new file of this name, and syncs it. None where the name is taken, the copy isn't made, or the
-    /// storage isn't opened again: standard error tells why.
+    /// Copies the committed tables to a new file of this name, and syncs it. `None` if the name is
+    /// taken, the copy fails, or the storage can't be reopened: the cause is on standard error.
     fn back_up(&mut self, to: &str) -> Option<Self::Copy>
         requires { Clean Self.IsIntact Self.IsOpen self.old → IsAtRest Self.IsSoundStore (Self.seen self.old) }
         ensures intact { Self.IsIntact self.new → Self.IsIntact self.old }
@@ -39,7 +39,7 @@ pub trait BackUp: Storage {
         ensures copied { IfSome result (λ copy. Self.IsIntact self.new → shows copy (Self.seen self.old).now) };
 }
 
-/// Copies a storage, and gives what is answered.
+/// Copies a storage, and returns the reply.
 pub(crate) fn backup_reply<H: BackUp>(host: &mut H, to: &str) -> &'static [u8]
     requires { Clean H.IsIntact H.IsOpen host.old → IsAtRest H.IsSoundStore (H.seen host.old) }
     ensures intact { H.IsIntact host.new → H.IsIntact host.old }

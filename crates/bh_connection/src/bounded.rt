@@ -10,22 +10,22 @@ use std::net::TcpStream;
 /// The stream of the connection that is served, while one is.
 pub(crate) type Current = RefCell<Option<TcpStream>>;
 
-/// That stream, whose bytes no contract can name.
+/// That stream. Contracts can't name its bytes.
 #[derive(Clone, Copy, Drop)]
 pub(crate) struct Peer<'a>(pub(crate) &'a Current);
 
-/// A reader or a writer whose calls have so much time in all: once they took longer, each call fails. What passes between
-/// two calls doesn't count. A call that waits isn't ended.
+/// A reader or a writer with a time limit on all of its calls together: once it has passed, each
+/// call fails. The time between two calls doesn't count. A call that is waiting isn't interrupted.
 #[derive(Clone, Copy, Drop)]
 pub(crate) struct Bounded<T, C> {
     inner: T,
     clock: C,
-    /// How many milliseconds its calls may still take, while their time isn't over.
+    /// How many milliseconds its calls may still take; `None` once the limit has passed.
     left: Option<u64>,
 }
 
 impl<T, C: Clock> Bounded<T, C> {
-    /// With the seconds that its calls have.
+    /// With a limit in seconds for all of its calls.
     pub(crate) fn new(inner: T, clock: C, timeout: u64) -> Bounded<T, C> {
         Bounded {
             inner,
@@ -34,7 +34,7 @@ impl<T, C: Clock> Bounded<T, C> {
         }
     }
 
-    /// Whose time is over: each call fails.
+    /// One whose time limit has passed: each call fails.
     pub(crate) fn over(inner: T, clock: C) -> Bounded<T, C> {
         Bounded {
             inner,
@@ -43,7 +43,7 @@ impl<T, C: Clock> Bounded<T, C> {
         }
     }
 
-    /// When a call begins, by the clock. Fails where the time is over.
+    /// The time at which a call begins. Fails if the time limit has passed.
     fn begin(&self) -> io::Result<u64> {
         match self.left {
             Some(_) => self.clock.milliseconds(),
@@ -51,7 +51,7 @@ impl<T, C: Clock> Bounded<T, C> {
         }
     }
 
-    /// Counts the time of a call that began then. A clock that tells nothing counts none.
+    /// Counts the time of a call that began at `began`. If the clock fails, the call isn't counted.
     fn end(&mut self, began: u64)
         ensures { self.new.inner ≡ self.old.inner }
     {

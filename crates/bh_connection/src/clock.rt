@@ -7,10 +7,10 @@ pub trait Clock {
     /// Its reading: whole seconds since 1970.
     fn seconds(&self) -> io::Result<u64>;
 
-    /// Milliseconds since some moment, to measure by.
+    /// Milliseconds since some moment, to measure time.
     fn milliseconds(&self) -> io::Result<u64>;
 
-    /// Waits so long.
+    /// Waits this long.
     fn wait(&self, duration: Duration);
 }
 

@@ -8,6 +8,7 @@ ghost use Rattle.bh_link.specs.Taking.{Opens, announced_size};
 ghost use Rattle.bh_model.specs.Runs.{last_reading};
 ghost use Rattle.bh_storage.specs.Calls.{Clean, IsAtRest};
 ghost use Rattle.bh_tables.specs.Typed.{Tables};
+ghost use Rattle.bh_host.specs.Answers.{IsSmallReply};
 ghost use Rattle.bh_host.specs.Replies.{reply_bytes, reply_trouble, clock_text};
 ghost use Rattle.bh_host.specs.declared.reply.Caller.TheVariants.{Request};
 ghost use Rattle.bh_host.specs.Resting.{StaysAtRest};
@@ -27,14 +28,17 @@ use bh_types::moment::LAST_READING;
 use httparse::spans::{EMPTY_HEADER_SPAN, HeaderSpan};
 use std::alloc::Global;
 
-/// Serves one connection: takes its request, applies it as its body comes, and writes the response.
+/// Serves one connection: reads its request, applies it while its body is received, and writes the
+/// response.
 ///
-/// A reading above 250,000,000,000 seconds is answered ClockOutOfRange, and nothing is read. Otherwise the head is read
-/// a byte at a time, and no byte after the body of a request that is accepted. What is done and answered is what
-/// [`bh_host::apply`] does and answers at all the bytes that the reader would give.
+/// A reading above 250,000,000,000 seconds is answered ClockOutOfRange, and nothing is read.
+/// Otherwise the head is read a byte at a time, and no byte after the body of an accepted request.
+/// The effect and the answer are those of [`bh_host::apply`] on all the bytes that the reader would
+/// return.
 ///
-/// The bytes of an object are read and sent in pieces, once its transaction is committed. Where one can't be read, what goes out
-/// ends there, and a fault may have shut the store: what was acknowledged stands.
+/// An object's bytes are read and sent in pieces, after its transaction was committed. If one can't
+/// be read, the response ends there, and a fault may have shut the store. Acknowledged changes
+/// remain.
 pub fn serve_connection<H: Storage, R: Source, W: Sink>(
     alloc: Global,
     routes: &Routes,
@@ -74,8 +78,8 @@ pub fn serve_connection<H: Storage, R: Source, W: Sink>(
     }
 }
 
-/// Applies the request of a head, whose body comes from the reader, and writes the response. The bytes of the head came
-/// before.
+/// Applies a request whose head was read, while its body is read from the reader, and writes the
+/// response.
 fn serve_headed<H: Storage, R: Source, W: Sink>(
     alloc: Global,
     routes: &Routes,
@@ -114,8 +118,8 @@ fn serve_headed<H: Storage, R: Source, W: Sink>(
     }
 }
 
-/// Applies the request of the head that was taken, and writes the response. Bytes that are no head, or one that is refused, are
-/// answered as they are.
+/// Applies the request whose head was read, and writes the response. Bytes that are not a head, or
+/// whose head is refused, are answered as they are.
 fn serve_opened<H: Storage, R: Source, W: Sink>(
     alloc: Global,
     routes: &Routes,
@@ -148,7 +152,7 @@ fn serve_opened<H: Storage, R: Source, W: Sink>(
     }
 }
 
-/// What becomes of a connection whose reader failed.
+/// The result for a connection whose reader failed.
 fn broken_off() -> Served
     ensures stamp { result.stamp ≡ None }
     ensures sent { result.sent ≡ 0 }
@@ -162,7 +166,7 @@ fn broken_off() -> Served
     }
 }
 
-/// What is answered where nothing was applied.
+/// The reply if nothing was applied.
 fn left_out(reply: Reply) -> Told
     ensures stamp { result.stamp ≡ None }
     ensures reply { result.reply ≡ reply }
@@ -170,9 +174,10 @@ fn left_out(reply: Reply) -> Told
     Told { stamp: None, reply }
 }
 
-/// Writes a reply.
+/// Writes a reply. It has no object that should be sent in pieces.
 fn answer<W: Sink>(writer: &mut Link<W>, told: Told) -> Served
-    requires { writer.old.failed ≡ false }
+    requires writes { writer.old.failed ≡ false }
+    requires small { IsSmallReply told.reply }
     ensures stamp { result.stamp ≡ told.stamp }
     ensures out { Appends (W.contents writer.old.inner) (W.contents writer.new.inner) (take result.sent (reply_bytes told.reply)) }
     ensures took { Takes (W.transfers writer.old.inner) (W.transfers writer.new.inner)

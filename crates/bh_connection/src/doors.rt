@@ -1,5 +1,5 @@
-//! Where clients come, and where operators do: whichever listener has a connection is taken next, and where both have one
-//! they take turns.
+//! The listeners of clients and of operators. Whichever has a connection is taken next; if both
+//! have one, they take turns.
 
 ghost use Rattle.std.specs.Prelude.{◌≡◌, option_map};
 ghost use Rattle.bh_connection.specs.Visits.{secret_at};
@@ -12,18 +12,18 @@ use std::io::ErrorKind;
 use std::net::TcpListener;
 use std::os::fd::AsRawFd;
 
-/// How long is waited for a connection in one call of the system, in milliseconds.
+/// How many milliseconds one system call waits for a connection.
 const WAIT: i32 = 60_000;
 
-/// Where operators come.
+/// The listener for operators.
 #[derive(Clone, Copy)]
 pub struct Operators<'a> {
     pub listener: &'a TcpListener,
-    /// What their lines begin with, before a space, if whoever comes there isn't an operator.
+    /// The secret that a line begins with, before a space, if other processes may connect too.
     pub secret: Option<&'a [u8]>,
 }
 
-/// Where connections come: those of clients, and of operators if they may come.
+/// The listeners: of clients, and of operators if there is a port for them.
 #[derive(Clone, Copy)]
 pub struct Doors<'a> {
     pub clients: &'a TcpListener,
@@ -41,7 +41,8 @@ impl<'a> Doors<'a> {
         }
     }
 
-    /// Where there are two, neither may wait in its accept, since a connection may have gone that was there.
+    /// If there are two listeners, neither may block in accept, since a waiting connection may have
+    /// gone.
     pub(crate) fn make_ready(&self) -> io::Result<()> {
         match self.operators {
             Some(operators) => {
@@ -53,15 +54,15 @@ impl<'a> Doors<'a> {
     }
 }
 
-/// Whose listeners have a connection.
+/// Which listeners have a connection.
 #[derive(Clone, Copy)]
 struct Ready {
     clients: bool,
     operators: bool,
 }
 
-/// Whose connection is next: after a client's an operator's, where one is there, and after an operator's a client's. None
-/// where none comes for a while. One call of the system asks for both.
+/// Who is next: after a client an operator, if one waits, and after an operator a client. `None` if
+/// nobody connects for a while. One system call polls both listeners.
 pub(crate) fn next_caller(
     clients: &TcpListener,
     operators: &TcpListener,
@@ -86,7 +87,7 @@ fn other(caller: Caller) -> Caller {
     }
 }
 
-/// Waits until a listener has a connection, or a while.
+/// Waits until a listener has a connection, or the time is over.
 ///
 /// POSIX.1-2017, poll
 fn wait_for(clients: &TcpListener, operators: &TcpListener) -> io::Result<Ready> {

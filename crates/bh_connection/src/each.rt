@@ -20,8 +20,9 @@ pub struct Arrival<R, W> {
     pub writer: Link<W>,
 }
 
-/// Serves connections in turn. To each tenant the answers are those of a machine that it has to itself, wherever any
-/// connection breaks. Its vector is taken first: where memory is wanting for it, nothing is read or applied.
+/// Serves connections in turn. Each tenant is answered as by a machine of its own, wherever a
+/// connection breaks. The result's vector is allocated first: if that fails, nothing is read or
+/// applied.
 pub fn serve_each<H: Storage, R: Source, W: Sink>(
     alloc: Global,
     routes: &Routes,

@@ -1,4 +1,5 @@
-//! Connections on a host: each brings one request, or one line of an operator, and is answered as an event is.
+//! Connections to a host. Each has one request, or one line of an operator, and is answered like an
+//! event.
 #![tactic(auto)]
 
 mod acceptor;

@@ -2,7 +2,7 @@ ghost use Rattle.std.specs.Prelude.{◌≡◌, is_some, option_map};
 ghost use Rattle.bh_storage.specs.Calls.{Clean, IsAtRest};
 ghost use Rattle.bh_host.specs.Resting.{StaysAtRest};
 ghost use Rattle.bh_connection.specs.Each.{IsGoing, ends};
-ghost use Rattle.bh_connection.specs.Listening.{ComesOne, HasListened, VisitedAs, WasLost, WasVisited, secret_of};
+ghost use Rattle.bh_connection.specs.Listening.{ComesOne, HasListened, VisitedAs, WasLost, WasVisited, WereCounted, secret_of};
 ghost use Rattle.bh_connection.specs.Visits.{DidFor, RanFor, secret_at};
 
 use crate::acceptor::Acceptor;
@@ -23,27 +23,27 @@ use std::io;
 use std::io::ErrorKind;
 use std::net::{Ipv4Addr, Net, TcpListener, TcpStream};
 
-/// Why serving ends once a backup has lost the host.
-const LOST: &str = "the host isn't open any more";
+/// Why serving ends after a backup over which the host was lost.
+const LOST: &str = "the host is no longer open";
 
-/// Where operators come to a port of 127.0.0.1.
+/// The port on 127.0.0.1 for operators.
 #[derive(Clone, Copy)]
 pub struct OperatorPort<'a> {
-    /// 0: one that the system chooses.
+    /// With 0 the system chooses one.
     pub port: u16,
-    /// What their lines begin with, before a space, if whoever comes there isn't an operator.
+    /// The secret that a line begins with, before a space, if other processes may connect too.
     pub secret: Option<&'a [u8]>,
 }
 
-/// The ports of 127.0.0.1 on which a host is served; 0: one that the system chooses.
+/// The ports on 127.0.0.1 on which a host is served; with 0 the system chooses one.
 #[derive(Clone, Copy)]
 pub struct Ports<'a> {
     pub port: u16,
     pub operator: Option<OperatorPort<'a>>,
 }
 
-/// Serves so many connections on ports of 127.0.0.1, as [`serve_listener`] does. Once it listens it says so on standard
-/// error, with each port.
+/// Serves `count` connections on ports of 127.0.0.1, as [`serve_listener`] does. Once it listens,
+/// it logs each port to standard error.
 pub fn serve_port<
     N: Net<Stream = TcpStream, Listener = TcpListener> + AllocGlobal + Eprint,
     H: BackUp,
@@ -62,6 +62,8 @@ pub fn serve_port<
     ensures lost { WasLost H.IsIntact H.IsOpen H.seen H.left (secret_of ports.entry) H.shows H.lost host.old host.new }
     ensures ran { H.IsIntact host.new → RanFor (is_some ports.entry.operator) H.IsOpen H.seen H.left host.old host.new }
     ensures visited { WasVisited H.IsIntact H.IsOpen H.seen H.left (secret_of ports.entry) host.old host.new }
+    ensures counted { WereCounted H.IsIntact H.IsOpen H.seen H.left (secret_of ports.entry) (is_some ports.entry.operator)
+        count result host.old host.new }
 {
     let clients = bound(net, ports.port)?;
     tell_address(net, "listening", &clients);
@@ -99,7 +101,7 @@ fn bound<N: Net<Stream = TcpStream, Listener = TcpListener> + AllocGlobal>(
     }
 }
 
-/// An error that names the address; where memory for its text is wanting, the error as it is.
+/// An error that names the address. If memory for its text runs out, the error is unchanged.
 fn not_bound(alloc: Global, port: u16, error: io::Error) -> io::Error {
     match format!(in alloc; "unable to listen on 127.0.0.1:{port}: {error}") {
         Ok(text) => io::Error::new(error.kind(), text.as_str()),
@@ -107,17 +109,17 @@ fn not_bound(alloc: Global, port: u16, error: io::Error) -> io::Error {
     }
 }
 
-/// Says on standard error who is listened to, and where. What standard error doesn't take is lost.
+/// Logs to standard error which port listens for whom. If that can't be written, it is lost.
 fn tell_address<E: Eprint>(errors: &E, what: &str, listener: &TcpListener) {
     if let Ok(address) = listener.local_addr() {
         let _ = eprintln!(errors; "{what} on {address}");
     }
 }
 
-/// Serves so many connections, one after another, as [`serve_from`] does. One that breaks, or that isn't read in time or
-/// written in time, counts, and serving goes on; a fault of a listener that doesn't pass, or of the clock, ends it. Whatever
-/// the sockets gave, only requests were applied, and orders where operators may come, and to each tenant the replies are
-/// those of a machine that it has to itself.
+/// Serves `count` connections, one after another, as [`serve_from`] does. A connection that breaks
+/// or times out counts, and serving goes on. A permanent fault of a listener, or a fault of the
+/// clock, ends it. Whatever the sockets returned, only requests were applied, and orders if there
+/// is a port for operators. Each tenant is answered as by a machine of its own.
 pub fn serve_listener<E: Eprint + AllocGlobal, H: BackUp, C: Clock>(
     errors: &E,
     routes: &Routes,
@@ -132,6 +134,8 @@ pub fn serve_listener<E: Eprint + AllocGlobal, H: BackUp, C: Clock>(
     ensures lost { WasLost H.IsIntact H.IsOpen H.seen H.left (secret_at doors.entry.operators) H.shows H.lost host.old host.new }
     ensures ran { H.IsIntact host.new → RanFor (is_some doors.entry.operators) H.IsOpen H.seen H.left host.old host.new }
     ensures visited { WasVisited H.IsIntact H.IsOpen H.seen H.left (secret_at doors.entry.operators) host.old host.new }
+    ensures counted { WereCounted H.IsIntact H.IsOpen H.seen H.left (secret_at doors.entry.operators)
+        (is_some doors.entry.operators) count result host.old host.new }
 {
     doors.make_ready()?;
     let current: Current = RefCell::new(None);
@@ -155,10 +159,11 @@ pub fn serve_listener<E: Eprint + AllocGlobal, H: BackUp, C: Clock>(
     )
 }
 
-/// Serves so many connections of an acceptor, one after another: each that is accepted, at the reading that the clock gives
-/// after that, a client's as a request and an operator's as a line, under a secret if there is one; and each is closed
-/// before the next is waited for. A fault of an accept or of the clock ends it, and nothing is done after it. So does a backup
-/// over which the host is lost, once it is answered.
+/// Serves `count` connections of an acceptor, one after another. A client's is served as a request,
+/// an operator's as a line, which begins with the secret if there is one. The clock is read after
+/// each accept, and each connection is closed before the next accept. A fault of an accept or of
+/// the clock ends it, and nothing is done after it. So does a backup over which the host is lost,
+/// once it was answered.
 pub fn serve_from<H: BackUp, A: Acceptor>(
     alloc: Global,
     routes: &Routes,
@@ -171,8 +176,8 @@ pub fn serve_from<H: BackUp, A: Acceptor>(
     ensures stays { StaysAtRest H.IsIntact H.IsOpen H.IsSoundStore H.seen H.left host.old host.new }
     ensures lost { WasLost H.IsIntact H.IsOpen H.seen H.left (option_map (λ s. s.now) secret.entry) H.shows H.lost host.old host.new }
     ensures ran { H.IsIntact host.new → RanFor (A.operated acceptor.old) H.IsOpen H.seen H.left host.old host.new }
-    ensures listened { HasListened H.IsIntact H.IsOpen H.seen H.left (option_map (λ s. s.now) secret.entry) H.lost
-        (A.calls acceptor.old) (A.calls acceptor.new) count result host.old host.new }
+    ensures listened { HasListened H.IsIntact H.IsOpen H.seen H.left (option_map (λ s. s.now) secret.entry)
+        (A.operated acceptor.old) H.lost (A.calls acceptor.old) (A.calls acceptor.new) count result host.old host.new }
 {
     for served in 0..count {
         serve_next(alloc, routes, host, acceptor, secret)?;
@@ -196,7 +201,7 @@ fn serve_next<H: BackUp, A: Acceptor>(
     ensures operated { A.operated acceptor.new ≡ A.operated acceptor.old }
     ensures did { DidFor H.IsIntact H.IsOpen H.seen H.left H.shows (A.operated acceptor.old) host.old host.new }
     ensures comes { ComesOne H.IsIntact H.IsOpen H.seen H.left H.shows (option_map (λ s. s.now) secret.entry)
-        (A.calls acceptor.old) (A.calls acceptor.new) result host.old host.new }
+        (A.operated acceptor.old) (A.calls acceptor.old) (A.calls acceptor.new) result host.old host.new }
 {
     let caller = acceptor.accept()?;
     let reading = acceptor.seconds()?;
@@ -206,7 +211,7 @@ fn serve_next<H: BackUp, A: Acceptor>(
     Ok(())
 }
 
-/// Serves one connection, as its caller's.
+/// Serves one connection, as a client's or an operator's.
 fn serve_visit<H: BackUp, R: Source, W: Sink>(
     alloc: Global,
     routes: &Routes,

@@ -1,5 +1,5 @@
-//! What the log tells of a connection. No field of a request is told but the tenant of its access key, and nothing of an
-//! operator's line.
+//! The log's line for a connection. Of a request's fields, it has only the tenant of the access
+//! key; of an operator's line, nothing.
 
 use bh_host::Caller;
 use bh_http::request::MAX_FIELDS;
@@ -9,7 +9,7 @@ use bh_types::moment::{Moment, moment_text};
 use httparse::{EMPTY_HEADER, Header, Request, Response, Status};
 use std::alloc::{AllocError, Global};
 
-/// The most bytes of a method or a target that are told.
+/// The maximum bytes that are logged of a method or a target.
 const MOST: usize = 200;
 
 /// More fields than a response has.
@@ -18,26 +18,26 @@ const RESPONSE_FIELDS: usize = 16;
 /// A request, or an operator's line, that was served.
 #[derive(Drop)]
 pub(crate) struct Entry<'a> {
-    /// Whose it was.
+    /// Who connected.
     pub(crate) caller: Caller,
     /// The clock's reading, in seconds since 1970.
     pub(crate) reading: u64,
-    /// The bytes that came, those of its head at least.
+    /// The request's first bytes, at least its head.
     pub(crate) request: &'a [u8],
-    /// The bytes of the response, those of its head at least; none where the request wasn't read.
+    /// The response's first bytes, at least its head; empty if the request wasn't read.
     pub(crate) response: &'a [u8],
-    /// How many bytes came, and how many went out.
+    /// The number of bytes received, and of bytes sent.
     pub(crate) taken: u64,
     pub(crate) sent: u64,
     /// How long it took, in milliseconds.
     pub(crate) took: u64,
-    /// What was wanting, where memory or the store was.
+    /// The failure, if memory or the store failed.
     pub(crate) trouble: Option<Trouble>,
 }
 
-/// The line that tells of it: the time (RFC 3339, UTC), the tenant, the method, the target, the status, the refusal, the
-/// bytes that came and went, and the milliseconds; `-` stands for what there isn't, and `operator` for the method of an
-/// operator's line. Where memory or the store was wanting, the trouble follows.
+/// The log's line: time (RFC 3339, UTC), tenant, method, target, status, refusal, bytes received
+/// and sent, and milliseconds. `-` is in place of a missing value, and `operator` in place of an
+/// operator's method. If memory or the store failed, the failure follows.
 pub(crate) fn line_of(alloc: Global, entry: &Entry<'_>) -> Result<String, AllocError> {
     let time = time_text(alloc, entry.reading)?;
     let asked = match entry.caller {
@@ -58,7 +58,7 @@ pub(crate) fn line_of(alloc: Global, entry: &Entry<'_>) -> Result<String, AllocE
     with_trouble(alloc, line, entry.trouble)
 }
 
-/// A line, and the trouble after it.
+/// A line, followed by the failure.
 fn with_trouble(
     alloc: Global,
     line: String,
@@ -77,7 +77,8 @@ fn time_text(alloc: Global, reading: u64) -> Result<String, AllocError> {
     }
 }
 
-/// The tenant, the method and the target. Of a line that is no request line nothing is told: a secret may stand there.
+/// The tenant, the method and the target. If the bytes aren't a request line, nothing is logged,
+/// since they may be a secret.
 fn asked_text(alloc: Global, bytes: &[u8]) -> Result<String, AllocError> {
     let mut headers = [EMPTY_HEADER; MAX_FIELDS];
     let mut request = Request::new(&mut headers);
@@ -96,7 +97,7 @@ fn asked_text(alloc: Global, bytes: &[u8]) -> Result<String, AllocError> {
     format!(in alloc; "{tenant} {method} {target}")
 }
 
-/// The tenant of the one access key.
+/// The tenant of the only access key.
 fn tenant_text(alloc: Global, headers: &[Header<'_>]) -> Result<String, AllocError> {
     if let Some(id) = only_value(headers, "x-access-key") {
         if let Some(key) = AccessKeyId::read(alloc, id)? {
@@ -106,7 +107,7 @@ fn tenant_text(alloc: Global, headers: &[Header<'_>]) -> Result<String, AllocErr
     String::from_str(alloc, "-")
 }
 
-/// The value of a field that stands once.
+/// The value of a field that occurs once.
 fn only_value<'a>(headers: &[Header<'a>], name: &str) -> Option<&'a [u8]> {
     let mut found = None;
     for header in headers {
@@ -120,7 +121,7 @@ fn only_value<'a>(headers: &[Header<'a>], name: &str) -> Option<&'a [u8]> {
     found
 }
 
-/// The bytes of a text that are told.
+/// The bytes of a text that are logged.
 fn cut(text: &str) -> &[u8] {
     let bytes = text.as_bytes();
     bytes.get(..MOST).unwrap_or(bytes)
@@ -140,7 +141,7 @@ fn answered_text(alloc: Global, bytes: &[u8]) -> Result<String, AllocError> {
     }
 }
 
-/// No status, and the refusal or `bad_line`.
+/// `-` and the refusal or `bad line`.
 fn replied_text(alloc: Global, reply: &[u8]) -> Result<String, AllocError> {
     let line = reply.strip_suffix(b"\n").unwrap_or(reply);
     match line.first() {
@@ -150,7 +151,7 @@ fn replied_text(alloc: Global, reply: &[u8]) -> Result<String, AllocError> {
     }
 }
 
-/// A refusal's number and code stand in one word.
+/// A refusal's number and code, joined to one word.
 fn refused_text(alloc: Global, status: u16, refusal: &[u8]) -> Result<String, AllocError> {
     joined(format!(in alloc; "{status} ")?, refusal)
 }

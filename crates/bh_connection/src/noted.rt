@@ -4,13 +4,13 @@ use std::alloc::Global;
 use std::io;
 use std::io::{Read, Write};
 
-/// A reader or a writer, its first bytes and how many passed. Of a writer these are the bytes of its first call, though it
-/// didn't take them.
+/// A reader or a writer that records its first bytes, and the number of bytes that passed. A writer
+/// records the bytes of its first call, even if they weren't written.
 #[derive(Drop)]
 pub(crate) struct Noted<T> {
     inner: T,
     first: Vec<u8>,
-    /// How many bytes are noted at most.
+    /// The maximum number of bytes to record.
     most: usize,
     passed: u64,
 }
@@ -25,12 +25,12 @@ impl<T> Noted<T> {
         }
     }
 
-    /// The first bytes: where memory for them is wanting, fewer.
+    /// The first bytes; fewer if memory for them ran out.
     pub(crate) fn first(&self) -> &[u8] {
         self.first.as_slice()
     }
 
-    /// How many bytes passed.
+    /// The number of bytes that passed.
     pub(crate) fn passed(&self) -> u64 {
         self.passed
     }

@@ -19,15 +19,17 @@ use bh_storage::error::Trouble;
 use bh_types::moment::Moment;
 use std::alloc::Global;
 
-/// What is answered to a line that orders nothing.
+/// The reply to a line without an order.
 const BAD_LINE: &[u8] = b"bad line";
 
-/// Serves one connection of an operator: takes its line, does what it orders, and writes the reply and a line feed.
+/// Serves one connection of an operator: reads its line, carries out its order, and writes the
+/// reply and a line feed.
 ///
-/// The line is read a byte at a time, and no byte after its line feed. What it orders, under the secret if there is one, is
-/// what [`bh_operator::order::order_of_line`] says, at the reading; one that orders nothing changes nothing and is answered
-/// `bad line`. What is done and answered of an event is what [`apply`] does and answers. A backup is answered `backup` once
-/// the copy is whole and synced, or `fault`.
+/// The line is read a byte at a time, and no byte after its line feed. Its order is parsed by
+/// [`bh_operator::order::order_of_line`], at the reading, and must begin with the secret if there
+/// is one. A line without an order changes nothing and is answered `bad line`. An event is applied
+/// and answered as by [`apply`]. A backup is answered `backup` once the copy is complete and
+/// synced, or `fault`.
 pub fn serve_line<H: BackUp, R: Source, W: Sink>(
     alloc: Global,
     routes: &Routes,
@@ -84,6 +86,7 @@ fn answer_line<W: Sink>(
     ensures took { Takes (W.transfers writer.old.inner) (W.transfers writer.new.inner)
         (take result.sent (line_text reply.now)) writer.new.failed }
     ensures ended { EndsAs result.ended result.sent (line_text reply.now) writer.new.failed }
+    ensures trouble { result.trouble ≡ trouble }
 {
     let sent = send_line(writer, reply);
     let ended = if writer.failed() {
@@ -99,7 +102,8 @@ fn answer_line<W: Sink>(
     }
 }
 
-/// Writes a reply and a line feed, and says how many bytes went out before the sink failed or took none.
+/// Writes a reply and a line feed. Returns how many bytes were sent before the sink failed or took
+/// none.
 fn send_line<W: Sink>(writer: &mut Link<W>, reply: &[u8]) -> u64
     requires { writer.old.failed ≡ false }
     ensures within { result ≤ length reply.now + 1 }

@@ -1,6 +1,6 @@
-//! A reply whose bytes are read from the store as they go out.
+//! A reply whose bytes are read from the store while they are sent.
 
-ghost use Rattle.std.specs.Prelude.{◌≡◌, ◌⊎◌, ◌++◌, ◌+◌, ◌<◌, ◌^◌, length, Some, false};
+ghost use Rattle.std.specs.Prelude.{◌≡◌, ◌⊎◌, ◌++◌, ◌+◌, ◌<◌, ◌≤◌, ◌^◌, length, Some, true, false};
 ghost use Rattle.bh_storage.specs.Calls.{Clean, LeavesNothingNew, IsAtRest};
 ghost use Rattle.bh_storage.specs.Plans.{to_come};
 ghost use Rattle.bh_connection.specs.Connections.{Sends};
@@ -15,7 +15,7 @@ use bh_storage::storage::Storage;
 use bh_types::moment::Moment;
 use std::alloc::Global;
 
-/// What became of a reply that went out in pieces.
+/// The outcome of a reply that was sent in pieces.
 fn sent_so(stamp: Moment, sent: u64, ended: End, trouble: Option<Trouble>) -> Served
     ensures stamp { result.stamp ≡ Some stamp }
     ensures sent { result.sent ≡ sent }
@@ -29,14 +29,15 @@ fn sent_so(stamp: Moment, sent: u64, ended: End, trouble: Option<Trouble>) -> Se
     }
 }
 
-/// Whether more bytes are to come than can be counted. No object is so long.
+/// Whether the reply has more bytes than can be counted. No object is so long.
 fn is_too_long(head: &[u8], plan: &Plan) -> bool
-    ensures { result ≡ false → length head.now + plan.now.left < 2 ^ 64 }
+    ensures short { result ≡ false → length head.now + plan.now.left < 2 ^ 64 }
+    ensures long { result ≡ true → 2 ^ 64 ≤ length head.now + plan.now.left }
 {
     plan.left > u64::MAX - head.len() as u64
 }
 
-/// Writes a reply, piece after piece, as its bytes are read: outside a transaction, and at most one block at a time. Where
+/// Writes a reply piece by piece, reading at most one block at a time, outside a transaction. If
 /// one can't be read, the reply ends there.
 pub fn send_planned<H: Storage, W: Sink>(
     alloc: Global,
@@ -47,6 +48,8 @@ pub fn send_planned<H: Storage, W: Sink>(
     requires rest { Clean H.IsIntact H.IsOpen host.old → IsAtRest H.IsSoundStore (H.seen host.old) }
     requires open { H.IsIntact host.old → H.IsOpen host.old }
     requires writes { writer.old.failed ≡ false }
+    requires measured { Clean H.IsIntact H.IsOpen host.old
+        → reply.plan.left ≡ length (to_come reply.plan (H.seen host.old).now) }
     ensures intact { H.IsIntact host.new → H.IsIntact host.old }
     ensures ready { Clean H.IsIntact H.IsOpen host.new → IsAtRest H.IsSoundStore (H.seen host.new) }
     ensures limits { (H.seen host.new).limits ≡ (H.seen host.old).limits }
@@ -71,6 +74,9 @@ pub fn send_planned<H: Storage, W: Sink>(
         sent += count as u64;
         if count < bytes.len() {
             return sent_so(stamp, sent, End::WriteFailed, None);
+        }
+        if left.left == 0 {
+            return sent_so(stamp, sent, End::Whole, None);
         }
         match host.next_piece(alloc, &mut left) {
             Ok(Some(next)) => piece = next,

@@ -21,24 +21,26 @@ use std::io::{BufReader, ErrorKind, Read};
 use std::net::{Shutdown, TcpListener, TcpStream};
 use std::time::Duration;
 
-/// How long a client that was answered is waited for, in seconds.
+/// How many seconds to wait for a client to close, after its response was sent.
 const CLOSING: u64 = 1;
 
-/// How many reads of a client that was answered are thrown away at most, and how many bytes each takes.
+/// How many reads to discard, at most, of a client that has its response, and the bytes of each.
 const LATE_READS: u32 = 8192;
 
 const LATE: usize = 512;
 
-/// How many bytes are read ahead: most heads have fewer. A body is read past them into a room of its own.
+/// How many bytes are read ahead: most heads have fewer. The rest of a body is read into its own
+/// buffer.
 const AHEAD: usize = 1024;
 
 /// More bytes than the head of a response has.
 const RESPONSE_HEAD: usize = 1024;
 
-/// How long a listener for which the system has no file or memory is left alone, in milliseconds.
+/// How many milliseconds to wait before the next accept, if the system has no file descriptor or
+/// memory for one.
 const PAUSE: u64 = 100;
 
-// Errors of accept(2) that pass. Of the first three the next connection may come at once.
+// Temporary errors of accept(2). After the first three, the next connection may come at once.
 const EINTR: i32 = 4;
 
 const EAGAIN: i32 = 11;
@@ -56,34 +58,34 @@ const ENOBUFS: i32 = 105;
 /// How each connection is served.
 #[derive(Clone, Copy)]
 pub struct Manner {
-    /// How many seconds there are to read its request, and then, once it is carried out, to write the response.
+    /// How many seconds a request may take to read, and then its response to write.
     pub timeout: u64,
-    /// Whether a line on standard error tells of it.
+    /// Whether each connection is logged to standard error.
     pub is_logged: bool,
 }
 
-/// One way of a connection, by the clock of its listener.
+/// One direction of a connection, with the clock of its listener.
 type Way<'a, C> = Bounded<Peer<'a>, &'a C>;
 
-/// One way of it, and what passed there.
+/// One direction of a connection, with the record of its bytes.
 type NotedWay<'a, C> = Noted<Way<'a, C>>;
 
-/// The bytes that come, read ahead into a buffer; where memory for it is wanting, without one.
+/// The received bytes, buffered; without a buffer if memory for it runs out.
 type Ahead<'a, C> = Either<BufReader<NotedWay<'a, C>>, NotedWay<'a, C>>;
 
-/// The connections of a listener of TCP, and of one of operators, where they may come.
+/// The connections of a TCP listener, and of a second one for operators if there is one.
 #[derive(Drop)]
 pub(crate) struct Sockets<'a, C, E> {
     pub(crate) alloc: Global,
     pub(crate) doors: Doors<'a>,
-    /// Whose the last connection was.
+    /// Who connected last.
     pub(crate) last: Caller,
     pub(crate) current: &'a Current,
     pub(crate) clock: &'a C,
     /// Standard error.
     pub(crate) errors: &'a E,
     pub(crate) manner: Manner,
-    /// When the connection came, in milliseconds, where it is logged.
+    /// When the connection came, in milliseconds, if it is logged.
     pub(crate) since: u64,
 }
 
@@ -134,7 +136,7 @@ impl<'a, C: Clock, E: Eprint> Acceptor for Sockets<'a, C, E> {
 }
 
 impl<'a, C: Clock, E: Eprint> Sockets<'a, C, E> {
-    /// Takes the next connection, and says whose it is.
+    /// Accepts the next connection, and returns who connected.
     fn take_next(&self) -> io::Result<Caller>
         ensures { IfOk result (λ caller. caller ≡ Operator → is_some self.now.doors.operators ≡ true) }
     {
@@ -151,7 +153,8 @@ impl<'a, C: Clock, E: Eprint> Sockets<'a, C, E> {
         }
     }
 
-    /// The next connection of either listener. Where an accept finds none after all, both are asked again.
+    /// The next connection of either listener. If an accept finds none after all, both are polled
+    /// again.
     fn next_of_both(&self, operators: &TcpListener) -> io::Result<(Caller, TcpStream)> {
         for tried in 0..u64::MAX {
             let Some(caller) = next_caller(self.doors.clients, operators, self.last)? else {
@@ -164,7 +167,7 @@ impl<'a, C: Clock, E: Eprint> Sockets<'a, C, E> {
         Err(io::Error::from(ErrorKind::TimedOut))
     }
 
-    /// A connection of this caller's, if there is one.
+    /// The caller and its connection, if there is one.
     fn accepted_of(
         &self,
         operators: &TcpListener,
@@ -187,7 +190,8 @@ impl<'a, C: Clock, E: Eprint> Sockets<'a, C, E> {
         self.clock.milliseconds().unwrap_or(0)
     }
 
-    /// One way of the connection. A stream that has no timeouts might be waited for without end: its time is over.
+    /// One direction of the connection. If the stream has no timeouts, a call could wait forever:
+    /// so its time is over at once.
     fn way(&self) -> Way<'a, C> {
         match set_timeouts(self.current, self.manner.timeout) {
             Ok(()) => Bounded::new(Peer(self.current), self.clock, self.manner.timeout),
@@ -195,8 +199,8 @@ impl<'a, C: Clock, E: Eprint> Sockets<'a, C, E> {
         }
     }
 
-    /// How many bytes of a request and of its response are noted for the log.
-    /// Of an operator's line nothing is: a secret may stand there.
+    /// How many bytes of a request and of its response are recorded for the log. An operator's line
+    /// is not recorded, since it may have a secret.
     fn noted(&self) -> (usize, usize) {
         match (self.manner.is_logged, self.last) {
             (true, Caller::Request) => (MAX_HEAD, RESPONSE_HEAD),
@@ -229,7 +233,7 @@ impl<'a, C: Clock, E: Eprint> Sockets<'a, C, E> {
     }
 }
 
-/// Makes a stream that of the connection.
+/// Makes a stream the current connection.
 fn keep(current: &Current, stream: TcpStream) -> io::Result<()> {
     match current.try_replace(Some(stream)) {
         Ok(_) => Ok(()),
@@ -237,7 +241,7 @@ fn keep(current: &Current, stream: TcpStream) -> io::Result<()> {
     }
 }
 
-/// The next connection. An accept that fails for a while is tried again.
+/// The next connection. Temporary errors of accept are retried.
 fn accepted<C: Clock>(listener: &TcpListener, clock: &C) -> io::Result<TcpStream> {
     for tried in 0..u64::MAX {
         match listener.accept() {
@@ -248,7 +252,7 @@ fn accepted<C: Clock>(listener: &TcpListener, clock: &C) -> io::Result<TcpStream
     Err(io::Error::from(ErrorKind::TimedOut))
 }
 
-/// Waits until an error of an accept may have passed; one that doesn't pass is given back.
+/// Waits until a temporary error of accept may have passed; another error is returned.
 fn wait_out<C: Clock>(clock: &C, error: io::Error) -> io::Result<()> {
     match error.raw_os_error() {
         Some(EINTR | EAGAIN | ECONNABORTED) => Ok(()),
@@ -267,7 +271,7 @@ fn read_ahead<'a, C: Clock>(alloc: Global, way: Way<'a, C>, noted: usize) -> Ahe
     }
 }
 
-/// The way by which the bytes came.
+/// The receiving direction of a connection.
 fn way_of<'a, C: Clock>(ahead: Ahead<'a, C>) -> NotedWay<'a, C> {
     match ahead {
         Either::Left(reader) => reader.into_inner(),
@@ -287,8 +291,8 @@ fn set_timeouts(current: &Current, seconds: u64) -> io::Result<()> {
     }
 }
 
-/// Closes the writing half, and reads until the client has closed its own: a socket that is closed with bytes unread
-/// would take from the client what it hasn't read of the response yet.
+/// Shuts down the writing half, and reads until the client closes its own. If a socket is closed
+/// with unread bytes, the client may lose the end of the response.
 ///
 /// RFC 9112, section 9.6
 fn see_off<S: Read + Drop>(current: &Current, mut rest: S) {
@@ -304,7 +308,7 @@ fn see_off<S: Read + Drop>(current: &Current, mut rest: S) {
     }
 }
 
-/// Closes the writing half, and sets how long the client is waited for.
+/// Closes the writing half, and sets how long to wait for the client.
 fn shut(current: &Current) -> io::Result<()> {
     let waiting = Some(Duration::from_secs(CLOSING));
     let current = current.try_borrow()?;

@@ -1,4 +1,4 @@
--- The ranges of the definitions that those of the program are.
+-- The definitions' ranges that correspond to the program's.
 use Rattle.bh_types.specs.Ranges.{Asked, Asked.Between, Asked.From, Asked.Last}
 use Rattle.bh_core.specs.declared.ranges.Asked as program
 

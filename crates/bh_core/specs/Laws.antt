@@ -1,11 +1,11 @@
--- What shows that a range is the intended one.
+-- Evidence that a range is the intended one.
 use Rattle.std.specs.Prelude.{◌≡◌, ℕ, ◌+◌, ◌-◌, ◌^◌, ◌<◌, ◌≤◌, List, [], ◌∷◌, ◌++◌, length, codes, Option, Some, IfOk}
 use Rattle.std.specs.Fmt.{decimal}
 use Rattle.bh_types.specs.Ranges.{Asked, Asked.Between, Asked.From, Asked.Last, asked_in, range_of, cut}
 use Rattle.bh_types.specs.declared.range.RangePlan.{RangePlan}
 use Rattle.bh_types.specs.declared.range.RangePlan.TheVariants.{Whole, Part}
 
--- a part has a byte, and lies within the object
+-- a part has at least one byte, and lies within the object
 abbrev pub LiesWithin : ℕ → RangePlan → Type 0
 LiesWithin size Whole = Unit {0}
 LiesWithin size (Part first last) = (first ≤ last) × (last < size)
@@ -13,7 +13,7 @@ LiesWithin size (Part first last) = (first ≤ last) × (last < size)
 abbrev pub RangesLieWithin : Type 0
 RangesLieWithin = (text : Option (List ℕ)) (size : ℕ) → IfOk (range_of text size) (LiesWithin size)
 
--- the bytes that a plan names of so many
+-- the number of bytes in a plan for a body of a size
 abbrev pub plan_size : ℕ → RangePlan → ℕ
 plan_size size Whole = size
 plan_size size (Part first last) = last + 1 - first
@@ -35,6 +35,6 @@ CanBeAsked (Between first last) = (first ≤ last) × (last ≤ 2 ^ 62)
 CanBeAsked (From first) = first ≤ 2 ^ 62
 CanBeAsked (Last count) = count ≤ 2 ^ 62
 
--- so written, each range is what is asked for
+-- each range that is written so is parsed as itself
 abbrev pub WrittenIsAsked : Type 0
 WrittenIsAsked = (asked : Asked) → CanBeAsked asked → asked_in (written asked) ≡ Some asked

@@ -1,6 +1,5 @@
-//! What is decided of a request before anything is read or written: which bytes a range names, which parts an upload is
-//! completed with, before which moment those are begun that are stale, whether a quota is kept, and until when a version
-//! is. Only the list of these parts takes memory.
+//! Decisions on a request that need no reads or writes: a range's bytes, the parts of a completed
+//! upload, which uploads are stale, quotas, and retention. Only the list of parts allocates memory.
 #![tactic(auto)]
 
 pub mod laws;

@@ -11,22 +11,22 @@ use bh_types::refusal::Refusal;
 use bh_types::wanted::Named;
 use std::alloc::Global;
 
-/// What the completion of an upload has to know of one of its parts.
+/// The facts about an upload's part that its completion needs.
 #[derive(Drop)]
 pub struct PartRow {
     /// The part's number.
     pub number: u32,
-    /// How many bytes it has.
+    /// Its size in bytes.
     pub size: u64,
     /// The checksum of its bytes, in base64.
     pub sum: String,
 }
 
-/// The places, from 0, of the parts that an upload is completed with, in the order in which they are named (Amazon S3
-/// API Reference, CompleteMultipartUpload). [`Refusal::InvalidPartOrder`] where the numbers named do not ascend; else
-/// [`Refusal::InvalidPart`] where one is not there or has another checksum than the one given; else
-/// [`Refusal::EntityTooSmall`] where one but the last has fewer than `least` bytes.
-/// Each part is passed once where they stand in the order of their numbers.
+/// The places, from 0, of the parts that an upload is completed with, in the order of the request
+/// (Amazon S3 API Reference, CompleteMultipartUpload). Fails with [`Refusal::InvalidPartOrder`] if
+/// the numbers do not ascend. Then fails with [`Refusal::InvalidPart`] if a part doesn't exist or
+/// has another checksum. Then fails with [`Refusal::EntityTooSmall`] if one but the last has fewer
+/// than `least` bytes. If the parts are ordered by number, each is visited once.
 pub fn check_complete(
     alloc: Global,
     parts: &[PartRow],
@@ -67,7 +67,7 @@ fn chosen_places(
     Ok(places)
 }
 
-/// Whether the parts stand in the order of their numbers.
+/// Whether the parts are ordered by number.
 fn are_ordered(parts: &[PartRow]) -> bool
     ensures { result ≡ spec.are_ordered parts.now }
 {
@@ -80,7 +80,8 @@ fn are_ordered(parts: &[PartRow]) -> bool
     }
 }
 
-/// Where the next part is looked for: parts that are named stand one behind another where all are ordered.
+/// The place from which to look for the next part: if all are ordered, named parts follow one
+/// another.
 fn start_after(at: usize, ordered: bool) -> usize
     ensures within { result ≤ at + 1 }
     ensures first { ordered ≡ false → result ≡ 0 }
@@ -100,7 +101,8 @@ fn chosen_place(parts: &[PartRow], from: usize, name: &Named) -> Result<usize, R
     }
 }
 
-/// Where the part of a number stands; it is looked for from a place on, and then among all.
+/// The place of the part with a number. The search begins at a place, and then starts again at the
+/// first.
 fn place_from(parts: &[PartRow], from: usize, number: u32) -> Option<usize>
     requires within { from ≤ length parts.now }
     requires start { spec.IsStart parts.now from }

@@ -8,10 +8,10 @@ use bh_types::digits::{is_number, number_of};
 use bh_types::range::RangePlan;
 use bh_types::refusal::Refusal;
 
-/// What a number of more than this counts as.
+/// Greater numbers count as this one.
 const GREATEST_NUMBER: u64 = 1 << 62;
 
-/// What a Range field asks for.
+/// The range in a Range field.
 #[derive(Clone, Copy)]
 enum Asked {
     Between { first: u64, last: u64 },
@@ -19,9 +19,10 @@ enum Asked {
     Last(u64),
 }
 
-/// Which bytes of an object of a size in bytes are answered where the request has this Range field, if it has one
-/// (RFC 9110, section 14.1.2): one range of bytes, in decimal digits. A field of another form is ignored.
-/// [`Refusal::InvalidRange`] where the object has none of the bytes asked for (section 15.5.17).
+/// The bytes to return of an object of `size` bytes, given the request's Range field, if it has one
+/// (RFC 9110, section 14.1.2). The field has one range of bytes, in decimal digits; a field of
+/// another form is ignored. Fails with [`Refusal::InvalidRange`] if the object has none of the
+/// bytes (section 15.5.17).
 pub fn range_of(range: Option<&[u8]>, size: u64) -> Result<RangePlan, Refusal>
     ensures { result ≡ spec.range_of (option_copied range.entry) size }
 {

@@ -4,11 +4,11 @@ ghost use Rattle.bh_model.specs.Retention as spec;
 use bh_types::moment::Moment;
 use bh_types::refusal::Refusal;
 
-/// Whether a version may have this retention date from a moment on, where `present` is the date that it has (Amazon S3
-/// API Reference, PutObjectRetention; User Guide, "Compliance mode"). [`Refusal::InvalidRequest`] where it is not `able`
-/// to have one, as in a bucket that is not locked; else [`Refusal::InvalidArgument`] where the date is not given as it
-/// should be, which is `None`, or is not after the moment; else [`Refusal::AccessDenied`] where it is before the present
-/// one.
+/// Whether a version may get this retention date at a moment; `present` is the date that it has
+/// already (Amazon S3 API Reference, PutObjectRetention; User Guide, "Compliance mode"). Fails with
+/// [`Refusal::InvalidRequest`] if it isn't `able` to have one, as in a bucket that is not locked.
+/// Fails with [`Refusal::InvalidArgument`] if the date is invalid, which is `None`, or not after
+/// the moment. Fails with [`Refusal::AccessDenied`] if it is before the present date.
 pub fn decide_retain(
     able: bool,
     present: Option<Moment>,
@@ -32,8 +32,8 @@ pub fn decide_retain(
     }
 }
 
-/// The date that a new version gets at a moment, where its request gives one; the inner `None` is a date that is not
-/// given as it should be. The refusals are those of [`decide_retain`].
+/// The date of a new version at a moment, if its request has one; the inner `None` is an invalid
+/// date. Fails as [`decide_retain`] does.
 pub fn first_date(
     locked: bool,
     given: Option<Option<Moment>>,

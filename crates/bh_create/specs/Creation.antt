@@ -1,4 +1,4 @@
--- What making a host in an empty database does to its connection.
+-- The effect on a connection of creating a host in an empty database.
 use Rattle.std.specs.Prelude.{◌≡◌, true, None, Result, OnOk}
 use Rattle.sqlite.specs.Schema.{Schema}
 use Rattle.sqlite.specs.State.{State}
@@ -20,10 +20,10 @@ use Rattle.bh_schema.specs.Storage.{seen_in, left_in}
 abbrev pub IsEmpty : State → Type 0
 IsEmpty s = s.now.schema ≡ no_schema
 
--- a host with these limits was committed, which keeps that this function is to name its blocks. It has no tenant, and has
--- read no clock
+-- a host with these limits and this function's number was committed. It has no tenant, and has read
+-- no clock
 pub record IsNewHost (limits : HostLimits) (named : BlockDigest) (s : State) : Type 0 where
-  -- however blocks are named
+  -- whatever function names blocks
   pub rest : (digest : Octets → Octets) → IsAtRest (IsSoundHost digest) (seen_in limits s)
   pub tables : (seen_in limits s).now ≡ new_host limits.min_part limits.max_body (digest_number named)
   pub latest : latest_of (seen_in limits s).now ≡ 0
@@ -31,9 +31,9 @@ pub record IsNewHost (limits : HostLimits) (named : BlockDigest) (s : State) : T
   -- a crash leaves it
   pub left : (x : Tables) → left_in s x → x ≡ new_host limits.min_part limits.max_body (digest_number named)
 
--- ---- the calls that make it
+-- ---- the calls that create it
 
--- in a transaction, the database has this schema and no row
+-- in a transaction, the database has this schema and no rows
 pub record IsMaking (schema : Schema) (s : State) : Type 0 where
   pub inside : (standing s).inside ≡ true
   pub blank : IsBlank schema s
@@ -43,7 +43,7 @@ pub record Keeps (old new : State) : Type 0 where
   pub follows : KeepsDisk old new
   pub kept : IsStateClean new → (standing new).kept ≡ (standing old).kept
 
--- nothing is committed, and on success the database has this schema and no row
+-- nothing is committed, and on success the database has this schema and no rows
 pub record Makes {X E : Type 0} (schema : Schema) (old new : State) (result : Result X E) : Type 0 where
   pub keeps : Keeps old new
   pub made : OnOk result (IsStateClean new → IsMaking schema new)

@@ -1,4 +1,5 @@
--- The tables and indexes of a host: the schema before each and after it, and what a text is that makes it.
+-- The tables and indexes of a host: the schema before each and after it, and the SQL that creates
+-- it.
 use Rattle.std.specs.Prelude.{◌≡◌, ◌⊎◌, ℕ, List, [], ◌∷◌}
 use Rattle.sqlite.specs.Change.{created, indexed}
 use Rattle.sqlite.specs.Schema.{Schema}
@@ -53,7 +54,7 @@ before item.Locks = first_schema
 before item.Retains = after item.Locks
 before item.Tallies = second_schema
 
--- a text that makes its table, over the schema before it, with nothing against that
+-- the SQL of its table, over the schema before it, which has no conflict with it
 pub record IsTableText (item : Item) (sql : List ℕ) : Type 0 where
   pub table : Table
   pub leads : created (before item) table ≡ after item

@@ -57,7 +57,7 @@ fn commit_new<S: Alter>(
     commit(connection)
 }
 
-/// Makes a host in an empty database and commits it. After an error nothing of it stands.
+/// Creates a host in an empty database and commits it. After an error there is no trace of it.
 pub fn make<S: Alter>(
     connection: &mut Connection<S>,
     limits: Limits,

@@ -16,16 +16,16 @@ use bh_types::refusal::Refusal;
 use sqlite::{Alter, Connection, Error};
 use sqlite_schema::schema::Schema;
 
-/// Why no host was made, with what was given for it.
+/// Why no host was created, and the arguments.
 #[derive(Drop)]
 pub struct CreateError<S: Alter + Drop, D: Digester + Drop> {
     /// `NotAHostFile` or `Unavailable`.
     pub refusal: Refusal,
-    /// The error of the database, where the refusal is `Unavailable`.
+    /// The error of the database, if the refusal is `Unavailable`.
     pub cause: Option<Error>,
     /// The database.
     pub connection: Connection<S>,
-    /// What was to name blocks of bytes.
+    /// The digester that was passed.
     pub digester: D,
 }
 
@@ -35,12 +35,14 @@ fn is_empty(schema: &Schema) -> bool
     schema.tables.is_empty() && schema.indexes.is_empty() && schema.views.is_empty()
 }
 
-/// A new host in an empty database: it has these limits and no tenant, keeps which function names its blocks, its last
-/// stamp is 0 (seconds since 1970), and it is committed, so that a crash leaves it. No block is kept in memory.
+/// Creates a host in an empty database, with these limits, this digest function, no tenant and the
+/// last stamp 0 (seconds since 1970). It is committed, so that it survives a crash. The cache is
+/// empty.
 ///
-/// `NotAHostFile` where the database has a table, an index or a view, and then the connection is as it was.
-/// `Unavailable` where memory or the store was wanting, or a transaction was open, or a limit on the steps of a
-/// statement is set: an open transaction is taken back, and the database is as it was last committed.
+/// Fails with `NotAHostFile` if the database has a table, an index or a view; then the connection
+/// doesn't change. Fails with `Unavailable` if memory or the store failed, if a transaction was
+/// open, or if a limit on a statement's steps is set. An open transaction is then rolled back, and
+/// the database is as it was last committed.
 pub fn create<S: Alter + Drop, D: Digester + Drop>(
     connection: Connection<S>,
     digester: D,

@@ -1,4 +1,4 @@
-//! Makes a host of buckets in an empty database.
+//! Creates a host of buckets in an empty database.
 #![tactic(auto)]
 
 mod fill;

@@ -9,7 +9,7 @@ ghost use Rattle.bh_create.specs.Items.{before, after, IsTextOf, Lead};
 
 use sqlite::{Alter, Connection, Error};
 
-/// What a host's database is made of, in this order: tables and indexes.
+/// A table or an index of a host's database, in this order.
 #[derive(Clone, Copy)]
 enum Item {
     Host,
@@ -32,7 +32,7 @@ enum Item {
     Tallies,
 }
 
-/// What a host of version 1 has.
+/// The tables and indexes of a host of version 1.
 const FIRST: [Item; 15] = [
     Item::Host,
     Item::Tenants,
@@ -52,7 +52,7 @@ const FIRST: [Item; 15] = [
 ];
 
 impl Item {
-    /// The text that makes it.
+    /// Its SQL.
     fn text(self) -> &'static str
         ensures { IsTextOf self result.now }
     {
@@ -94,7 +94,7 @@ impl Item {
     }
 }
 
-/// Makes one, with no row, after those before it.
+/// Creates one, without rows, after those before it.
 fn create_item<S: Alter>(connection: &mut Connection<S>, item: Item) -> Result<usize, Error>
     requires { IsStateClean (state S.Store connection.old) → IsMaking (before item) (state S.Store connection.old) }
     ensures makes { Makes (after item) (state S.Store connection.old) (state S.Store connection.new) result }
@@ -103,7 +103,7 @@ fn create_item<S: Alter>(connection: &mut Connection<S>, item: Item) -> Result<u
     connection.execute(item.text(), &[])
 }
 
-/// Makes these, one after another, which are all that a host of version 1 has.
+/// Creates these, one after another, which are all that a host of version 1 has.
 fn create_all<S: Alter>(connection: &mut Connection<S>, items: &[Item]) -> Result<(), Error>
     requires making { IsStateClean (state S.Store connection.old) → IsMaking no_schema (state S.Store connection.old) }
     requires lead { Lead no_schema items.now with_uses_by_count }
@@ -116,7 +116,8 @@ fn create_all<S: Alter>(connection: &mut Connection<S>, items: &[Item]) -> Resul
     Ok(())
 }
 
-/// Makes the tables of a host of version 1 and their indexes, with no row. They stay as they are: files have them.
+/// Creates the tables of a host of version 1 and their indexes, without rows. Their text never
+/// changes: existing files have it.
 pub fn create_first_tables<S: Alter>(connection: &mut Connection<S>) -> Result<(), Error>
     requires { IsStateClean (state S.Store connection.old) → IsMaking no_schema (state S.Store connection.old) }
     ensures makes { Makes with_uses_by_count (state S.Store connection.old) (state S.Store connection.new) result }
@@ -125,7 +126,7 @@ pub fn create_first_tables<S: Alter>(connection: &mut Connection<S>) -> Result<(
     create_all(connection, &FIRST)
 }
 
-/// Makes the tables of a host of version 2 and their indexes, with no row.
+/// Creates the tables of a host of version 2 and their indexes, without rows.
 pub fn create_second_tables<S: Alter>(connection: &mut Connection<S>) -> Result<(), Error>
     requires { IsStateClean (state S.Store connection.old) → IsMaking no_schema (state S.Store connection.old) }
     ensures makes { Makes with_retains (state S.Store connection.old) (state S.Store connection.new) result }
@@ -137,7 +138,7 @@ pub fn create_second_tables<S: Alter>(connection: &mut Connection<S>) -> Result<
     Ok(())
 }
 
-/// Makes the tables of a host and their indexes, with no row.
+/// Creates the tables of a host and their indexes, without rows.
 pub fn create_tables<S: Alter>(connection: &mut Connection<S>) -> Result<(), Error>
     requires { IsStateClean (state S.Store connection.old) → IsMaking no_schema (state S.Store connection.old) }
     ensures makes { Makes with_tallies (state S.Store connection.old) (state S.Store connection.new) result }

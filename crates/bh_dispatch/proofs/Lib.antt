@@ -8,3 +8,4 @@ pub mod Operating
 pub mod Documented
 pub mod Unchanged
 pub mod Piecing
+mod Cutting

@@ -4,7 +4,7 @@ use Rattle.std.specs.Prelude.{ok_or}
 use Rattle.std.proofs.lemmas.Bool.{false≢true}
 use Rattle.bh_types.specs.Limits.{HostLimits}
 use Rattle.bh_types.specs.Outcomes.{◌>>=◌}
-use Rattle.bh_types.specs.Rejections.{plainly}
+use Rattle.bh_types.specs.Rejections.{plainly, for_date}
 use Rattle.bh_types.specs.declared.refusal.Refusal.{Refusal}
 use Rattle.bh_types.specs.declared.refusal.Refusal.TheVariants.{NoSuchLifecycleConfiguration}
 use Rattle.bh_machine.specs.Machine.{operated, bare_operated, service_operated, bucket_operated, listing_operated, lifecycle_operated, upload_operated, object_operated, page_asked, place_asked, upload_asked}
@@ -67,7 +67,8 @@ module _ (s : Option State) where
   bare_stays at (Upload (CreateMultipartUpload object)) tells = absurd (false≢true tells)
   bare_stays at (Upload (AbortMultipartUpload object upload)) tells = absurd (false≢true tells)
   bare_stays at (Object (HeadObject object version)) tells = then_stays (wanted_version object.bucket object.key version s) _ (λ f. refl)
-  bare_stays at (Object (GetRetention object version)) tells = then_stays (wanted_version object.bucket object.key version s) _ (λ f. refl)
+  bare_stays at (Object (GetRetention object version)) tells =
+      then_stays (for_date (wanted_version object.bucket object.key version s)) _ (λ f. refl)
   bare_stays at (Object (CopyObject object source date)) tells = absurd (false≢true tells)
   bare_stays at (Object (DeleteObject object version)) tells = absurd (false≢true tells)
 

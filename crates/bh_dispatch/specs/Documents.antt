@@ -1,4 +1,4 @@
--- What is taken of a request's body for a document.
+-- Reading a request's body as a document.
 use Rattle.std.specs.Prelude.{◌≡◌, ◌<◌, length, Result, Ok, Err}
 use Rattle.bh_docs.specs.Requests.{document_end}
 use Rattle.bh_http.specs.Bodies.{Coming, IsWhole, MayBreak}
@@ -8,8 +8,8 @@ use Rattle.bh_storage.specs.declared.error.StepError.TheVariants.{Refused, Faile
 use Rattle.bh_types.specs.declared.refusal.Refusal.{Refusal}
 use Rattle.bh_types.specs.declared.refusal.Refusal.TheVariants.{MalformedJson}
 
--- of the bytes that came, all are there; or they are too many for a document, and all came; or memory was wanting, or they broke
--- off
+-- all received bytes; or they are too many for a document, and all were received; or memory ran
+-- out, or the body broke off
 abbrev pub TakenAs : Octets → Coming → Result Octets (StepError Refusal) → Type 0
 TakenAs given after (Ok document) = (document ≡ given) × IsWhole after
 TakenAs given after (Err (Refused refusal)) = (refusal ≡ MalformedJson) × (document_end < length given) × IsWhole after

@@ -1,4 +1,4 @@
--- What a call on a host's connection does that carries out an operation of a tenant.
+-- The effect on a host's connection of a call that carries out a tenant's operation.
 use Rattle.std.specs.Prelude.{◌≤◌, ℕ, Option, Result}
 use Rattle.sqlite.specs.Held.{Held}
 use Rattle.sqlite_trees.specs.declared.store.Store.{Ghosts}
@@ -16,25 +16,26 @@ use Rattle.bh_schema.specs.Connections.{IsClean, tables}
 use Rattle.bh_schema.specs.Working.{WorksOn, WorksOnBy}
 
 module _ {S : Type 0} (g : Ghosts S) where
-  -- blocks in memory are those of the tables, which name blocks by this function, and a block has room for some bytes
+  -- cached blocks are those of the tables, which name blocks by this function, and a block has room
+  -- for some bytes
   pub record HasBlocks (digest : Octets → Octets) (blocks : KeptBlocks) (size : ℕ) (c : Held S) : Type 0 where
     pub kept : IsClean g c → Agrees blocks (tables g c).blocks
     pub digests : IsClean g c → AreDigests digest (tables g c).blocks
     pub positive : 1 ≤ size
 
-  -- a step of a tenant is carried out in the transaction that is open
+  -- a tenant's step is carried out in the open transaction
   pub record CarriesOut {E : Type 0} (t : Octets) (step : Option State → Result machine.Outcome E) (old new : Held S)
       (result : Result Answer (StepError E)) : Type 0 where
     pub works : WorksOn g (Unless result) old new
     pub carries : IsClean g new → Carries answer_view t step (tables g old) (tables g new) result
 
-  -- a step of a tenant is carried out so by the bytes that came of a body
+  -- a tenant's step is carried out so by the received bytes of a body
   pub record OperatesOn {X E : Type 0} (shown : X → machine.Answer) (t : Octets) (step : Octets → Option State → Result machine.Outcome E)
       (before after : Coming) (old new : Held S) (result : Result (Outcome X E) (StepError E)) : Type 0 where
     pub works : WorksOn g (UnlessSpoilt result) old new
     pub operates : Operates shown t step (IsClean g new) before after (tables g old) (tables g new) result
 
-  -- a step by a body's bytes, where blocks are named by this function, and more is said of the bytes
+  -- a step on a body's bytes, if blocks are named by this function, with more clauses on the bytes
   pub record OperatesOnBy (digest : Octets → Octets) {X E : Type 0} (shown : X → machine.Answer) (t : Octets)
       (step : Octets → Option State → Result machine.Outcome E) (Says : Octets → Type 0) (before after : Coming) (old new : Held S)
       (result : Result (Outcome X E) (StepError E)) : Type 0 where

@@ -1,4 +1,4 @@
--- A host as a storage, alone and beside what is remembered of it.
+-- A host as a storage, alone and with remembered facts.
 use Rattle.sqlite_trees.specs.declared.store.Store.{Ghosts}
 use Rattle.bh_model.specs.State.{Octets}
 use Rattle.bh_storage.specs.Calls.{Seen, StaysAtWork}
@@ -9,12 +9,13 @@ use Rattle.bh_dispatch.specs.declared.storage.HostStorage.{HostStorage}
 use Rattle.bh_dispatch.specs.declared.recalling.RecallingStorage.{RecallingStorage}
 
 module _ {S D : Type 0} (g : Ghosts S) where
-  -- a call in a transaction doesn't shut the host's store, and the transaction goes on with sound tables
+  -- a call in a transaction doesn't shut the host's store, and the transaction continues with sound
+  -- tables
   abbrev pub GoesOn : (Octets → Octets) → (Type 0 → Type 0) → HostStorage S D → HostStorage S D → Type 0
   GoesOn digest = StaysAtWork (λ h. storage.IsIntact g h.host) (λ h. storage.IsOpen g h.host) (IsSoundHost digest)
       (λ h. storage.seen g h.host) (λ h. storage.left g h.host)
 
-  -- what is shown beside what is remembered
+  -- the storage's view, given what is remembered
   abbrev pub seen : RecallingStorage S D → Seen
   seen r = recalled r.memo (storage.seen g r.storage.host)
 

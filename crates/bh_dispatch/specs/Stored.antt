@@ -1,6 +1,9 @@
--- What an operation stores of the bytes that are sent with it.
+-- What an operation stores of its request's bytes.
 use Rattle.std.specs.Fn.{Once, FnOnceReturns}
-use Rattle.std.specs.Prelude.{◌≡◌, ℕ}
+use Rattle.std.specs.Prelude.{◌≡◌, ℕ, Result}
+use Rattle.sqlite.specs.Held.{Held}
+use Rattle.sqlite_trees.specs.declared.store.Store.{Ghosts}
+use Rattle.bh_http.specs.Bodies.{Coming, Gives}
 use Rattle.bh_model.specs.State.{Octets}
 use Rattle.bh_operation.specs.declared.operation.Operation.{Operation}
 use Rattle.bh_operation.specs.declared.operation.Operation.TheVariants.{Store}
@@ -9,27 +12,37 @@ use Rattle.bh_view.specs.Bodies.{StoresPieces}
 use Rattle.bh_types.specs.Rejections.{plain}
 use Rattle.bh_types.specs.declared.refusal.Refusal.{Refusal}
 use Rattle.bh_types.specs.declared.rejection.Rejection.{Rejection}
+use Rattle.bh_schema.specs.Connections.{IsClean, tables}
+use Rattle.bh_storage.specs.Calls.{IfDone}
 use Rattle.bh_storage.specs.declared.answer.Answer.{Answer}
 use Rattle.bh_storage.specs.declared.answer.Offer.{Offer}
 use Rattle.bh_storage.specs.declared.answer.Offer.TheVariants.{Whole}
 use Rattle.bh_storage.specs.declared.error.Outcome.{Outcome}
 use Rattle.bh_storage.specs.declared.error.Outcome.TheVariants.{Done, Spoilt}
+use Rattle.bh_storage.specs.declared.error.StepError.{StepError}
 
--- an object and a part are cut into pieces of so many bytes
+-- an object and a part are cut into blocks of a size
 abbrev pub StoresBody : (Octets → Octets) → ℕ → Octets → Operation → Tables → Tables → Type 0
 StoresBody digest size body (Store operation) old new = StoresPieces digest size body old new
 StoresBody digest size body operation old new = Unit {0}
 
--- what a call gives is made so
+-- a call on a connection, which received some bytes of a body, cut them so if its operation was done
+pub record CutsBody {S X E : Type 0} (g : Ghosts S) (digest : Octets → Octets) (size : ℕ) (operation : Operation) (before after : Coming)
+    (old new : Held S) (result : Result (Outcome X E) (StepError E)) : Type 0 where
+  pub given : Octets
+  pub gives : Gives before after given
+  pub cut : IfDone result (IsClean g new → StoresBody digest size given operation (tables g old) (tables g new))
+
+-- the result of a call is converted so
 abbrev pub Makes : {X F : Type 0} → Once F (X × Unit {0}) Answer → F → (X → Answer) → Type 0
 Makes {X} g call made = (x : X) (answer : Answer) → FnOnceReturns g call (x, tt) answer → answer ≡ made x
 
--- what a step came to, as an answer
+-- the result of a step, as an answer
 abbrev pub outcome_as : {X : Type 0} → (X → Answer) → Outcome X Refusal → Outcome Answer Rejection
 outcome_as shown (Done x) = Done (shown x)
 outcome_as shown (Spoilt r) = Spoilt (plain r)
 
--- an answer that is there as a whole
+-- an answer that is complete
 abbrev pub offer_as : Outcome Answer Rejection → Outcome Offer Rejection
 offer_as (Done answer) = Done (Whole answer)
 offer_as (Spoilt r) = Spoilt r

@@ -1,4 +1,4 @@
--- The operations that only tell.
+-- The operations that only read.
 use Rattle.std.specs.Prelude.{Bool, true, false}
 use Rattle.bh_operation.specs.declared.operation.Operation.{Operation}
 use Rattle.bh_operation.specs.declared.operation.Operation.TheVariants.{Bare, ByDocument, Store, GetObject}
@@ -9,7 +9,7 @@ use Rattle.bh_operation.specs.declared.operation.LifecycleOperation.TheVariants.
 use Rattle.bh_operation.specs.declared.operation.UploadOperation.TheVariants.{ListParts}
 use Rattle.bh_operation.specs.declared.operation.ObjectOperation.TheVariants.{HeadObject, GetRetention}
 
--- of those that read nothing of their request's body
+-- for those that don't need their request's body
 abbrev pub bare_tells : BareOperation → Bool
 bare_tells (Service operation) = true
 bare_tells (Bucket (HeadBucket bucket)) = true
@@ -21,7 +21,7 @@ bare_tells (Object (HeadObject object version)) = true
 bare_tells (Object (GetRetention object version)) = true
 bare_tells operation = false
 
--- whether an operation only tells, so that the tenant's state stays
+-- whether an operation only reads, so that the tenant's state is unchanged
 abbrev pub only_tells : Operation → Bool
 only_tells (Bare operation) = bare_tells operation
 only_tells (ByDocument operation) = false

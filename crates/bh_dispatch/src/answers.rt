@@ -1,4 +1,4 @@
-//! What operations give, as answers of a host's storage.
+//! The results of operations, as answers of a host's storage.
 ghost use Rattle.std.specs.Prelude.{◌≡◌};
 ghost use Rattle.std.specs.Result.{result_map_both};
 ghost use Rattle.bh_storage.specs.Errors.{step_rejected};
@@ -10,7 +10,7 @@ use bh_storage::error::{Outcome, StepError};
 use bh_types::refusal::Refusal;
 use bh_types::rejection::Rejection;
 
-/// What a step gives, as an answer.
+/// The result of a step, as an answer.
 pub fn told<T, F: FnOnce(T) -> Answer>(
     outcome: Result<T, StepError<Refusal>>,
     as_answer: F,
@@ -21,7 +21,7 @@ pub fn told<T, F: FnOnce(T) -> Answer>(
     Ok(as_answer(outcome?))
 }
 
-/// What a step gives whose body comes in pieces, as an answer.
+/// The result of a step that receives a body, as an answer.
 pub fn received<T, F: FnOnce(T) -> Answer>(
     outcome: Result<Outcome<T, Refusal>, StepError<Refusal>>,
     as_answer: F,
@@ -36,7 +36,7 @@ pub fn received<T, F: FnOnce(T) -> Answer>(
     }
 }
 
-/// An answer that is there as a whole.
+/// An answer that is complete.
 pub fn offered(
     outcome: Result<Outcome<Answer, Rejection>, StepError<Rejection>>,
 ) -> Result<Outcome<Offer, Rejection>, StepError<Rejection>>

@@ -1,12 +1,12 @@
-//! What the functions are given that carry out an operation.
+//! The common arguments of operations.
 use bh_types::limits::Limits;
 use bh_types::moment::Moment;
 use bh_types::names::TenantName;
 
-/// Who asks for an operation, and when.
+/// The caller of an operation, and the time.
 #[derive(Drop)]
 pub struct Asked<'a> {
-    /// What the host was made with.
+    /// The limits that the host was created with.
     pub limits: Limits,
     pub tenant: &'a TenantName,
     pub at: Moment,

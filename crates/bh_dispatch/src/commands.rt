@@ -1,4 +1,4 @@
-//! What an operator is told of a tenant.
+//! Replies to operators about one tenant.
 
 ghost use Rattle.bh_model.specs.Operations as machine;
 ghost use Rattle.bh_schema.specs.Working.{Works};
@@ -12,7 +12,7 @@ use bh_usage::{keys, usage};
 use sqlite::{Alter, Connection};
 use std::alloc::Global;
 
-/// Tells what a tenant uses: InvalidName, NoSuchTenant.
+/// How many bytes a tenant uses. Refusals: InvalidName, NoSuchTenant.
 pub fn show_usage<S: Alter>(
     connection: &mut Connection<S>,
     alloc: Global,
@@ -27,7 +27,7 @@ pub fn show_usage<S: Alter>(
     }
 }
 
-/// Names a tenant's access keys: InvalidName, NoSuchTenant.
+/// Names a tenant's access keys. Refusals: InvalidName, NoSuchTenant.
 pub fn show_keys<S: Alter>(
     connection: &mut Connection<S>,
     alloc: Global,

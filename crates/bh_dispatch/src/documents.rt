@@ -1,4 +1,4 @@
-//! The operations that read the document that comes with their request.
+//! The operations that read the document in their request.
 ghost use Rattle.std.specs.Prelude.{◌≡◌, ◌≤◌, None};
 ghost use Rattle.std.specs.Result.{result_map_both};
 ghost use Rattle.bh_http.specs.Bodies.{Gives};
@@ -28,8 +28,8 @@ use bh_uploads::lifecycle;
 use sqlite::{Alter, Connection};
 use std::alloc::Global;
 
-/// The document that comes with a request, whole: MalformedJson where it is longer than any may be, once all of it came, of
-/// which no byte is kept.
+/// A request's document, read whole. If it is longer than the maximum, it is read without being
+/// stored, and then refused with MalformedJson.
 fn take_document<B: Body>(alloc: Global, body: &mut B) -> Result<Vec<u8>, StepError<Refusal>>
     requires going { (B.coming body.old).broken ≡ None }
     ensures takes { (given : Octets) × Gives (B.coming body.old) (B.coming body.new) given
@@ -44,7 +44,7 @@ fn take_document<B: Body>(alloc: Global, body: &mut B) -> Result<Vec<u8>, StepEr
     }
 }
 
-/// Carries out an operation by the document that came with it.
+/// Carries out an operation with its document.
 fn carry_out_document<S: Alter>(
     connection: &mut Connection<S>,
     alloc: Global,
@@ -86,7 +86,8 @@ fn carry_out_document<S: Alter>(
     }
 }
 
-/// Carries out an operation that reads a document, once that came: MalformedJson where it is longer than `DOCUMENT_END`.
+/// Carries out an operation whose body is a document, after that was received. Fails with
+/// MalformedJson if it is longer than `DOCUMENT_END`.
 pub fn operate_document<S: Alter, B: Body>(
     connection: &mut Connection<S>,
     alloc: Global,

@@ -1,5 +1,5 @@
-//! A host over a SQL database as the storage that a host's events are applied to: each operation goes to the
-//! function that carries it out.
+//! A host in a SQL database, as the storage to which events are applied. Each operation is passed
+//! to the function that carries it out.
 #![tactic(auto)]
 
 mod answers;

@@ -12,7 +12,7 @@ use bh_types::rejection::Rejection;
 use bh_uploads::lifecycle;
 use sqlite::{Alter, Connection};
 
-/// Carries out what is asked of a bucket's rule with no document.
+/// Carries out an operation on a bucket's rule, without a document.
 pub fn operate_lifecycle<S: Alter>(
     connection: &mut Connection<S>,
     tenant: &TenantName,

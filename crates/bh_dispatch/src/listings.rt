@@ -1,4 +1,4 @@
-//! The operations that list what a bucket has, a page at a time.
+//! The operations that list a bucket's contents, a page at a time.
 ghost use Rattle.std.specs.Option.{option_copied};
 ghost use Rattle.std.specs.Prelude.{◌≡◌, option_map};
 ghost use Rattle.bh_listing.specs.Told.{asked_view};
@@ -24,7 +24,7 @@ use bh_upload_listing::uploads::list_uploads;
 use sqlite::{Alter, Connection};
 use std::alloc::Global;
 
-/// What a page asks for that comes after this key.
+/// A request for the page after this key.
 fn page_of<'a>(page: &'a Page, after: Option<&'a [u8]>) -> PageAsked<'a>
     ensures asked { asked_view result ≡ page_asked page.now }
     ensures after { token_of result ≡ option_copied after.entry }
@@ -37,7 +37,7 @@ fn page_of<'a>(page: &'a Page, after: Option<&'a [u8]>) -> PageAsked<'a>
     }
 }
 
-/// The marker's key, and which version of it a page of versions comes after.
+/// The marker's key, and the version of it after which a page of versions begins.
 fn version_after(after: &Option<VersionMarker>) -> (Option<&[u8]>, Wanted)
     ensures { option_map (λ key. record { key = key; version = result.1 }) (option_copied result.0) ≡ option_map place_asked after.now }
 {
@@ -47,7 +47,7 @@ fn version_after(after: &Option<VersionMarker>) -> (Option<&[u8]>, Wanted)
     }
 }
 
-/// The marker's key, and which upload of it a page of uploads comes after.
+/// The marker's key, and the upload of it after which a page of uploads begins.
 fn upload_after(after: &Option<UploadMarker>) -> (Option<&[u8]>, Option<UploadId>)
     ensures { option_map (λ key. record { key = key; upload = result.1 }) (option_copied result.0) ≡ option_map upload_asked after.now }
 {
@@ -57,7 +57,7 @@ fn upload_after(after: &Option<UploadMarker>) -> (Option<&[u8]>, Option<UploadId
     }
 }
 
-/// Tells a page of what a bucket has.
+/// Returns a page of a bucket's contents.
 pub fn operate_listing<S: Alter>(
     connection: &mut Connection<S>,
     alloc: Global,

@@ -56,7 +56,7 @@ pub fn bytes_of(bytes: &Option<Bytes>) -> Option<&[u8]>
     }
 }
 
-/// Carries out what is asked of all buckets of a tenant.
+/// Carries out an operation on all buckets of a tenant.
 fn operate_service<S: Alter>(
     connection: &mut Connection<S>,
     alloc: Global,
@@ -77,7 +77,7 @@ fn operate_service<S: Alter>(
     }
 }
 
-/// Carries out what is asked of a bucket itself.
+/// Carries out an operation on a bucket itself.
 fn operate_bucket<S: Alter>(
     connection: &mut Connection<S>,
     asked: &Asked<'_>,
@@ -141,7 +141,7 @@ fn copy_object<S: Alter>(
     told(copies::copy_object(connection, &copy), Answer::Copied)
 }
 
-/// Carries out what is asked of an object that neither takes nor gives its bytes.
+/// Carries out an operation on an object, without its bytes.
 fn operate_object<S: Alter>(
     connection: &mut Connection<S>,
     asked: &Asked<'_>,
@@ -176,7 +176,7 @@ fn operate_object<S: Alter>(
     }
 }
 
-/// Carries out an operation that reads nothing of its request's body.
+/// Carries out an operation that doesn't need its request's body.
 fn carry_out<S: Alter>(
     connection: &mut Connection<S>,
     alloc: Global,
@@ -203,7 +203,8 @@ fn carry_out<S: Alter>(
     }
 }
 
-/// Carries out an operation that reads nothing of its request's body once that came, of which no byte is kept.
+/// Carries out an operation that ignores its request's body, after that was received. None of its
+/// bytes is stored.
 fn operate_bare<S: Alter, B: Body>(
     connection: &mut Connection<S>,
     alloc: Global,
@@ -226,7 +227,7 @@ fn operate_bare<S: Alter, B: Body>(
     }
 }
 
-/// Finds an object, once the body of its request came. Its bytes are still to be read.
+/// Finds an object, after the request's body was received. The object's bytes are still to be read.
 fn get_object<S: Alter, B: Body>(
     connection: &mut Connection<S>,
     tenant: &TenantName,
@@ -252,7 +253,7 @@ fn get_object<S: Alter, B: Body>(
     }
 }
 
-/// Stores the bytes of an object or of a part as they come.
+/// Stores the bytes of an object or of a part while they are received.
 fn operate_store<S: Alter, D: Digester, B: Body>(
     connection: &mut Connection<S>,
     alloc: Global,
@@ -312,9 +313,10 @@ fn operate_store<S: Alter, D: Digester, B: Body>(
     }
 }
 
-/// Carries out an operation of a tenant, on a host with these limits and at a moment that is not after the last stamp.
-/// The bytes of objects and of parts are stored as they come; a document is taken whole, of at most `DOCUMENT_END` bytes. An
-/// object that is found is answered by a plan of its bytes.
+/// Carries out a tenant's operation, on a host with these limits and at a moment that is not after
+/// the last stamp. The bytes of objects and parts are stored while they are received. A document is
+/// read whole, up to `DOCUMENT_END` bytes. If an object is found, the answer is a plan of its
+/// bytes.
 pub fn operate<S: Alter, D: Digester, B: Body>(
     connection: &mut Connection<S>,
     alloc: Global,

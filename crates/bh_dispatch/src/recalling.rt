@@ -1,7 +1,8 @@
-ghost use Rattle.std.specs.Prelude.{◌≡◌, None, Ok, IfOk};
+ghost use Rattle.std.specs.Prelude.{◌≡◌, ◌≤◌, None, Ok, IfOk};
 ghost use Rattle.std.specs.Option.{option_copied};
+ghost use Rattle.bh_machine.specs.Machine.{operated};
 ghost use Rattle.bh_model.specs.Operations as machine;
-ghost use Rattle.bh_view.specs.View.{view};
+ghost use Rattle.bh_view.specs.View.{view, latest_of};
 ghost use Rattle.bh_memo.specs.Facts.{nothing};
 ghost use Rattle.bh_storage.specs.Answers.{found_answer, offer_view};
 ghost use Rattle.bh_storage.specs.Calls.{Clean, IsWorking, Unless, UnlessSpoilt, Decides, Carries, Operates};
@@ -10,9 +11,10 @@ ghost use Rattle.bh_schema.specs.Storage.{IsClean};
 ghost use Rattle.bh_view.specs.Bodies.{IsSoundHost};
 ghost use Rattle.bh_objects.specs.Found.{mode_in};
 ghost use Rattle.bh_dispatch.specs.Seeing.{seen, RecallsOn};
+ghost use Rattle.bh_dispatch.specs.Stored.{CutsBody};
 
 use crate::operations::bytes_of;
-use crate::storage::HostStorage;
+use crate::storage::{HostStorage, block_size_of};
 use crate::telling::only_tells;
 use bh_event::event::Command;
 use bh_http::body::{Body, drain};
@@ -37,11 +39,11 @@ use bh_types::wanted::Wanted;
 use sqlite::Alter;
 use std::alloc::Global;
 
-/// A host as a storage that needn't ask its tables twice.
+/// A host as a storage that remembers facts of its tables.
 #[derive(Drop)]
 pub struct RecallingStorage<S: Alter + Drop, D: Digester + Drop> {
     pub storage: HostStorage<S, D>,
-    /// What is remembered of its tables.
+    /// The remembered facts of its tables.
     pub memo: Memo,
 }
 
@@ -57,7 +59,7 @@ impl<S: Alter + Drop, D: Digester + Drop> RecallingStorage<S, D> {
         }
     }
 
-    /// The state of a tenant's bucket, which is remembered from then on: NoSuchBucket.
+    /// The state of a tenant's bucket, which is then remembered. Refusal: NoSuchBucket.
     fn bucket_state(
         &mut self,
         tenant: &TenantName,
@@ -77,8 +79,8 @@ impl<S: Alter + Drop, D: Digester + Drop> RecallingStorage<S, D> {
         Ok(state)
     }
 
-    /// An object, whose bucket is asked for where its state isn't remembered: NoSuchBucket, NoSuchKey, NoSuchVersion,
-    /// MethodNotAllowed, InvalidRange.
+    /// Finds an object. Its bucket is queried unless its state is remembered. Refusals:
+    /// NoSuchBucket, NoSuchKey, NoSuchVersion, MethodNotAllowed, InvalidRange.
     fn find_object(
         &mut self,
         tenant: &TenantName,
@@ -99,7 +101,7 @@ impl<S: Alter + Drop, D: Digester + Drop> RecallingStorage<S, D> {
             .find_object(tenant, object, version, range, state)
     }
 
-    /// Finds an object, once the body of its request came.
+    /// Finds an object, after the request's body was received.
     fn get_object<B: Body>(
         &mut self,
         tenant: &TenantName,
@@ -124,6 +126,49 @@ impl<S: Alter + Drop, D: Digester + Drop> RecallingStorage<S, D> {
                 Ok(Outcome::Done(Offer::Planned(found)))
             }
             Err(cause) => Err(StepError::Failed(Trouble::from(cause))),
+        }
+    }
+
+    /// Carries out a tenant's operation as a storage does, and cuts bodies into blocks of `size`
+    /// bytes.
+    pub fn operate_in_blocks<B: Body>(
+        &mut self,
+        size: u64,
+        alloc: Global,
+        tenant: &TenantName,
+        at: Moment,
+        operation: &Operation,
+        body: &mut B,
+    ) -> Result<Outcome<Offer, Rejection>, StepError<Rejection>>
+        requires positive { 1 ≤ size }
+        requires going { (B.coming body.old).broken ≡ None }
+        requires working { IsClean S.Store self.old.storage.host → IsWorking (IsSoundHost D.digest_of) (seen S.Store self.old) }
+        requires early { IsClean S.Store self.old.storage.host → at ≤ latest_of (seen S.Store self.old).now }
+        ensures goes_on { RecallsOn S.Store D.digest_of (UnlessSpoilt result) self.old self.new }
+        ensures operates { Operates (offer_view (seen S.Store self.new).now) tenant.now
+            (λ given. operated (seen S.Store self.old).limits at given operation.now)
+            (IsClean S.Store self.new.storage.host) (B.coming body.old) (B.coming body.new)
+            (seen S.Store self.old).now (seen S.Store self.new).now result }
+        ensures measured { IfPlanned result (λ found. IsClean S.Store self.new.storage.host
+            → IsMeasured (seen S.Store self.new).now found) }
+        ensures cuts { CutsBody S.Store D.digest_of size operation.now (B.coming body.old) (B.coming body.new)
+            self.old.storage.host.connection self.new.storage.host.connection result }
+    {
+        match operation {
+            Operation::GetObject {
+                object,
+                version,
+                range,
+            } => self.get_object(tenant, object, *version, bytes_of(range), body),
+            _ if only_tells(operation) => {
+                let storage = &mut self.storage;
+                storage.operate_in_blocks(size, alloc, tenant, at, operation, body)
+            }
+            _ => {
+                self.memo.forget(tenant);
+                let storage = &mut self.storage;
+                storage.operate_in_blocks(size, alloc, tenant, at, operation, body)
+            }
         }
     }
 }
@@ -155,7 +200,7 @@ impl<S: Alter + Drop, D: Digester + Drop> Storage for RecallingStorage<S, D> {
         self.storage.commit()
     }
 
-    /// What is remembered may be of the transaction.
+    /// Remembered facts may be the transaction's.
     fn take_back(&mut self) {
         self.storage.take_back();
         self.memo.clear();
@@ -198,7 +243,7 @@ impl<S: Alter + Drop, D: Digester + Drop> Storage for RecallingStorage<S, D> {
             return Err(StepError::Refused(Refusal::AccessDenied));
         }
         self.storage.authenticate(alloc, key, secret)?;
-        // Not before, since what is refused isn't to be kept.
+        // Not earlier, since a refused secret must not be remembered.
         self.memo.remember_secret(alloc, key, secret);
         Ok(())
     }
@@ -210,19 +255,22 @@ impl<S: Alter + Drop, D: Digester + Drop> Storage for RecallingStorage<S, D> {
         at: Moment,
         operation: &Operation,
         body: &mut B,
-    ) -> Result<Outcome<Offer, Rejection>, StepError<Rejection>> {
-        match operation {
-            Operation::GetObject {
-                object,
-                version,
-                range,
-            } => self.get_object(tenant, object, *version, bytes_of(range), body),
-            _ if only_tells(operation) => self.storage.operate(alloc, tenant, at, operation, body),
-            _ => {
-                self.memo.forget(tenant);
-                self.storage.operate(alloc, tenant, at, operation, body)
-            }
-        }
+    ) -> Result<Outcome<Offer, Rejection>, StepError<Rejection>>
+        requires going { (B.coming body.old).broken ≡ None }
+        requires working { IsClean S.Store self.old.storage.host → IsWorking (IsSoundHost D.digest_of) (seen S.Store self.old) }
+        requires early { IsClean S.Store self.old.storage.host → at ≤ latest_of (seen S.Store self.old).now }
+        ensures goes_on { RecallsOn S.Store D.digest_of (UnlessSpoilt result) self.old self.new }
+        ensures operates { Operates (offer_view (seen S.Store self.new).now) tenant.now
+            (λ given. operated (seen S.Store self.old).limits at given operation.now)
+            (IsClean S.Store self.new.storage.host) (B.coming body.old) (B.coming body.new)
+            (seen S.Store self.old).now (seen S.Store self.new).now result }
+        ensures measured { IfPlanned result (λ found. IsClean S.Store self.new.storage.host
+            → IsMeasured (seen S.Store self.new).now found) }
+        ensures cuts { CutsBody S.Store D.digest_of self.old.storage.host.cache.tuning.block_size operation.now
+            (B.coming body.old) (B.coming body.new) self.old.storage.host.connection self.new.storage.host.connection result }
+    {
+        let size = block_size_of(&self.storage.host.cache);
+        self.operate_in_blocks(size, alloc, tenant, at, operation, body)
     }
 
     fn next_piece(&mut self, alloc: Global, plan: &mut Plan) -> Result<Option<Vec<u8>>, Trouble> {

@@ -1,14 +1,16 @@
-ghost use Rattle.std.specs.Prelude.{◌≡◌, ◌≤◌, false, true, Ok, IfOk, OnOk};
+ghost use Rattle.std.specs.Prelude.{◌≡◌, ◌≤◌, false, true, None, Ok, IfOk, OnOk};
 ghost use Rattle.std.specs.Option.{option_copied};
+ghost use Rattle.bh_machine.specs.Machine.{operated};
 ghost use Rattle.bh_model.specs.Operations as machine;
-ghost use Rattle.bh_view.specs.View.{view};
-ghost use Rattle.bh_storage.specs.Answers.{found_answer};
-ghost use Rattle.bh_storage.specs.Calls.{Unless, Purges, Decides, Carries};
-ghost use Rattle.bh_storage.specs.Plans.{IsMeasured};
+ghost use Rattle.bh_view.specs.View.{view, latest_of};
+ghost use Rattle.bh_storage.specs.Answers.{found_answer, offer_view};
+ghost use Rattle.bh_storage.specs.Calls.{Unless, UnlessSpoilt, Purges, Decides, Operates, Carries};
+ghost use Rattle.bh_storage.specs.Plans.{IfPlanned, IsMeasured};
 ghost use Rattle.bh_schema.specs.Storage.{IsClean, seen, Works};
 ghost use Rattle.bh_memo.specs.Facts.{has_no_rule};
 ghost use Rattle.bh_objects.specs.Found.{mode_in};
 ghost use Rattle.bh_dispatch.specs.Seeing.{GoesOn};
+ghost use Rattle.bh_dispatch.specs.Stored.{CutsBody};
 
 use crate::{commands, operations};
 use bh_cache::blocks::BlockCache;
@@ -36,8 +38,8 @@ use bh_types::wanted::Wanted;
 use sqlite::Alter;
 use std::alloc::Global;
 
-/// The size of the blocks that bytes are stored in.
-fn block_size_of(cache: &BlockCache) -> u64
+/// The size in bytes of the blocks in which bodies are stored.
+pub(crate) fn block_size_of(cache: &BlockCache) -> u64
     ensures is { result ≡ cache.now.tuning.block_size }
     ensures positive { 1 ≤ result }
 {
@@ -48,12 +50,13 @@ fn block_size_of(cache: &BlockCache) -> u64
 /// A host as a storage of buckets and objects.
 #[derive(Drop)]
 pub struct HostStorage<S: Alter + Drop, D: Digester + Drop> {
-    /// Its database, and what it was made with.
+    /// Its database, limits and settings.
     pub host: Host<S, D>,
 }
 
 impl<S: Alter + Drop, D: Digester + Drop> HostStorage<S, D> {
-    /// Takes away a tenant's uploads that are stale at a moment, and tells whether any of its buckets has a rule.
+    /// Removes a tenant's uploads that are stale at a moment, and returns whether any of its
+    /// buckets has a rule.
     pub fn purge_telling(
         &mut self,
         alloc: Global,
@@ -70,7 +73,7 @@ impl<S: Alter + Drop, D: Digester + Drop> HostStorage<S, D> {
         bh_uploads::purge::purge(&mut self.host.connection, alloc, tenant, at)
     }
 
-    /// The state of a tenant's bucket: NoSuchBucket.
+    /// The state of a tenant's bucket. Refusal: NoSuchBucket.
     pub fn bucket_state(
         &mut self,
         tenant: &TenantName,
@@ -85,7 +88,8 @@ impl<S: Alter + Drop, D: Digester + Drop> HostStorage<S, D> {
         reads::bucket_state(&mut self.host.connection, tenant, bucket)
     }
 
-    /// An object of a bucket in this state: NoSuchKey, NoSuchVersion, MethodNotAllowed, InvalidRange.
+    /// An object of a bucket in this state. Refusals: NoSuchKey, NoSuchVersion, MethodNotAllowed,
+    /// InvalidRange.
     pub fn find_object(
         &mut self,
         tenant: &TenantName,
@@ -108,6 +112,48 @@ impl<S: Alter + Drop, D: Digester + Drop> HostStorage<S, D> {
         let (bucket, key) = (&object.bucket, &object.key);
         let connection = &mut self.host.connection;
         gets::find_object(connection, tenant, bucket, key, version, range, state)
+    }
+
+    /// Carries out a tenant's operation as a storage does, and cuts bodies into blocks of `size`
+    /// bytes.
+    pub fn operate_in_blocks<B: Body>(
+        &mut self,
+        size: u64,
+        alloc: Global,
+        tenant: &TenantName,
+        at: Moment,
+        operation: &Operation,
+        body: &mut B,
+    ) -> Result<Outcome<Offer, Rejection>, StepError<Rejection>>
+        requires positive { 1 ≤ size }
+        requires going { (B.coming body.old).broken ≡ None }
+        requires working { Works S.Store D.digest_of self.old.host }
+        requires early { IsClean S.Store self.old.host → at ≤ latest_of (seen S.Store self.old.host).now }
+        ensures goes_on { GoesOn S.Store D.digest_of (UnlessSpoilt result) self.old self.new }
+        ensures operates { Operates (offer_view (seen S.Store self.new.host).now) tenant.now
+            (λ given. operated (seen S.Store self.old.host).limits at given operation.now)
+            (IsClean S.Store self.new.host) (B.coming body.old) (B.coming body.new)
+            (seen S.Store self.old.host).now (seen S.Store self.new.host).now result }
+        ensures measured { IfPlanned result (λ found. IsClean S.Store self.new.host → IsMeasured (seen S.Store self.new.host).now found) }
+        ensures cuts { CutsBody S.Store D.digest_of size operation.now (B.coming body.old) (B.coming body.new)
+            self.old.host.connection self.new.host.connection result }
+    {
+        let host = &mut self.host;
+        let blocks = Blocks {
+            cache: &host.cache,
+            digester: &host.digester,
+            size,
+        };
+        operations::operate(
+            &mut host.connection,
+            alloc,
+            &blocks,
+            host.limits,
+            tenant,
+            at,
+            operation,
+            body,
+        )
     }
 }
 
@@ -166,24 +212,21 @@ impl<S: Alter + Drop, D: Digester + Drop> Storage for HostStorage<S, D> {
         at: Moment,
         operation: &Operation,
         body: &mut B,
-    ) -> Result<Outcome<Offer, Rejection>, StepError<Rejection>> {
+    ) -> Result<Outcome<Offer, Rejection>, StepError<Rejection>>
+        requires going { (B.coming body.old).broken ≡ None }
+        requires working { Works S.Store D.digest_of self.old.host }
+        requires early { IsClean S.Store self.old.host → at ≤ latest_of (seen S.Store self.old.host).now }
+        ensures goes_on { GoesOn S.Store D.digest_of (UnlessSpoilt result) self.old self.new }
+        ensures operates { Operates (offer_view (seen S.Store self.new.host).now) tenant.now
+            (λ given. operated (seen S.Store self.old.host).limits at given operation.now)
+            (IsClean S.Store self.new.host) (B.coming body.old) (B.coming body.new)
+            (seen S.Store self.old.host).now (seen S.Store self.new.host).now result }
+        ensures measured { IfPlanned result (λ found. IsClean S.Store self.new.host → IsMeasured (seen S.Store self.new.host).now found) }
+        ensures cuts { CutsBody S.Store D.digest_of self.old.host.cache.tuning.block_size operation.now
+            (B.coming body.old) (B.coming body.new) self.old.host.connection self.new.host.connection result }
+    {
         let size = block_size_of(&self.host.cache);
-        let host = &mut self.host;
-        let blocks = Blocks {
-            cache: &host.cache,
-            digester: &host.digester,
-            size,
-        };
-        operations::operate(
-            &mut host.connection,
-            alloc,
-            &blocks,
-            host.limits,
-            tenant,
-            at,
-            operation,
-            body,
-        )
+        self.operate_in_blocks(size, alloc, tenant, at, operation, body)
     }
 
     fn next_piece(&mut self, alloc: Global, plan: &mut Plan) -> Result<Option<Vec<u8>>, Trouble> {

@@ -1,4 +1,4 @@
-//! Operations that only tell.
+//! Operations that only read.
 ghost use Rattle.std.specs.Prelude.{◌≡◌};
 ghost use Rattle.bh_dispatch.specs.Telling as spec;
 
@@ -6,7 +6,7 @@ use bh_operation::operation::{
     BareOperation, BucketOperation, LifecycleOperation, ObjectOperation, Operation, UploadOperation,
 };
 
-/// Whether an operation only tells, so that nothing of its tenant changes.
+/// Whether an operation only reads, so that nothing of its tenant changes.
 pub fn only_tells(operation: &Operation) -> bool
     ensures { result ≡ spec.only_tells operation.now }
 {

@@ -26,7 +26,7 @@ use bh_uploads::{abort, begin, complete};
 use sqlite::{Alter, Connection};
 use std::alloc::Global;
 
-/// The document names the parts; all but the last have the limits' least size.
+/// The document names the parts; all but the last have at least the minimum size.
 pub fn complete_upload<'a, S: Alter>(
     connection: &mut Connection<S>,
     alloc: Global,
@@ -91,7 +91,7 @@ fn list_parts<S: Alter>(
     )
 }
 
-/// Carries out what is asked of a multipart upload with no document and no part's bytes.
+/// Carries out an operation on a multipart upload, without a document or a part's bytes.
 pub fn operate_upload<S: Alter>(
     connection: &mut Connection<S>,
     alloc: Global,

@@ -1,4 +1,4 @@
--- The reply documents as JSON data. What is written is the compact text of the data.
+-- The reply documents as JSON data. The reply is the compact text of the data.
 use Rattle.std.specs.Prelude.{ℕ, List, codes, map, Option, Some, None, string_bytes}
 use Rattle.serde_json.specs.Data.{Data, number, unsigned, string, array, object, Members, member, no_members, put, item, no_items}
 use Rattle.serde_json.specs.View.{items_of}
@@ -22,11 +22,11 @@ natural n = number (unsigned n)
 abbrev pub moment : ℕ → Data
 moment m = string (moment_text m)
 
--- the entries, each as it is shown
+-- the entries, each as data
 abbrev pub array_of : {A : Type 0} → (A → Data) → List A → Data
 array_of shown entries = array (items_of (map shown entries))
 
--- a member that may be missing
+-- an optional member
 abbrev pub member_if : List ℕ → Option Data → Members → Members
 member_if name None rest = rest
 member_if name (Some d) rest = member name d rest
@@ -48,7 +48,7 @@ error_data code resource =
 abbrev pub error_text : List ℕ → List ℕ → List ℕ
 error_text code resource = compact_text (error_data code resource)
 
--- a bucket's name and the moment of its making
+-- a bucket's name and creation time
 abbrev pub bucket_view : BucketEntry → List ℕ × ℕ
 bucket_view b = (string_bytes b.name, b.created)
 
@@ -66,7 +66,7 @@ buckets_data buckets = object (member (codes "Buckets") (array_of bucket_data bu
 abbrev pub buckets_text : List (List ℕ × ℕ) → List ℕ
 buckets_text buckets = compact_text (buckets_data buckets)
 
--- what a tenant uses, as contracts see it
+-- a tenant's usage, as contracts see it
 abbrev pub usage_view : told.Usage → Usage
 usage_view u = record {
   buckets = u.buckets;

@@ -1,4 +1,5 @@
--- What the pages of a bucket's listings have in common, as JSON data: a document gets its members one by one.
+-- The common members of the pages of a bucket's listings, as JSON data: a document gets its members
+-- one by one.
 use Rattle.std.specs.Prelude.{ℕ, List, codes, is_some, Option, Some, option_map, option_and_then, string_bytes}
 use Rattle.serde_json.specs.Data.{Data, boolean, string, object, member, no_members}
 use Rattle.bh_docs.specs.Documents.{natural, array_of, with_member}
@@ -19,7 +20,7 @@ module _ {E N : Type 0} where
       (with_member max_name (Some (natural p.max))
       (with_member (codes "IsTruncated") (Some (boolean (is_some p.next))) (object no_members))))
 
-  -- with its rolled-up names, and its entries under a name
+  -- with its grouped names, and its entries under a name
   abbrev pub with_lists : (E → Data) → List ℕ → Page E N → Data → Data
   with_lists shown list_name p document =
       with_member list_name (Some (array_of shown p.entries.items))
@@ -32,7 +33,7 @@ module _ {I : Type 0} where
   abbrev pub id_data : (I → List ℕ) → Option (Next I) → Option Data
   id_data text next = option_map (λ id. string (text id)) (option_and_then (λ (n : Next I). n.id) next)
 
-  -- with the markers that the next page comes after, the id's under a name
+  -- with the markers of the next page; the id's has a name
   abbrev pub with_markers : (I → List ℕ) → List ℕ → Option (Next I) → Data → Data
   with_markers text id_name next document =
       with_member id_name (id_data text next) (with_member (codes "NextKeyMarker") (name_data next) document)

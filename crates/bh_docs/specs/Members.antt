@@ -8,7 +8,7 @@ use Rattle.bh_types.specs.Tokens.{token_text}
 use Rattle.bh_docs.specs.declared.document.Shown.{Shown}
 use Rattle.bh_docs.specs.declared.document.Shown.TheVariants.{Nothing, Text, Count, Flag, At, Version, Upload, Token}
 
--- what a member shows, as data
+-- a member's value, as data
 abbrev pub shown_data : Shown → Option Data
 shown_data Nothing = None
 shown_data (Text text) = Some (string text.now)

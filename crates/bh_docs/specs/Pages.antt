@@ -1,5 +1,5 @@
--- The pages of listings as JSON data. A page says where the next one begins where it is truncated,
--- and only there.
+-- The pages of listings as JSON data. A page has the position of the next one if and only if it is
+-- truncated.
 use Rattle.std.specs.Prelude.{ℕ, ◌+◌, List, map, length, codes, true, false, is_some, Option, Some, None, option_map, option_and_then}
 use Rattle.std.specs.Prelude.{string_bytes}
 use Rattle.std.specs.declared.alloc.Global.{Global}
@@ -25,7 +25,7 @@ use Rattle.bh_docs.specs.declared.versions.VersionEntry.{VersionEntry}
 use Rattle.bh_docs.specs.declared.page.Page.{Page}
 use Rattle.bh_docs.specs.declared.page.Next.{Next}
 
--- an object or a part, with the member that names it
+-- an object or a part, and the member that names it
 abbrev pub stored_data : List ℕ → Option Data → Stored → Data
 stored_data name shown s =
     with_member name shown
@@ -35,7 +35,7 @@ stored_data name shown s =
 
 -- ---- ListObjectsV2
 
--- what contracts see of a page
+-- a page as contracts see it
 abbrev pub prefix_view : CommonPrefix → Octets
 prefix_view p = string_bytes p.prefix
 
@@ -57,7 +57,7 @@ page_view p = record {
   next = option_map string_bytes p.next;
 }
 
--- an object, as it is shown
+-- an object as data
 abbrev pub item_data : ObjectItem → Data
 item_data o =
     object (member (codes "ChecksumSHA256") (string o.checksum)
@@ -84,7 +84,7 @@ objects_with p token =
     (member_if (codes "NextContinuationToken") token
     (member (codes "Prefix") (string p.prefix) no_members))))))))
 
--- the token is that of the last name shown
+-- the token is that of the last name listed
 abbrev pub token_data : Option Octets → Option Data
 token_data next = option_map (λ name. string (token_text name)) next
 
@@ -96,7 +96,7 @@ objects_text p = compact_text (objects_data p)
 
 -- ---- ListObjectVersions
 
--- what contracts see of a page
+-- a page as contracts see it
 abbrev pub stored_view : StoredObject → StoredItem
 stored_view o = record { size = o.size; checksum = string_bytes o.checksum }
 
@@ -122,7 +122,7 @@ versions_view p = record {
   next = option_map next_view p.next;
 }
 
--- a version, or a delete marker where no object is stored
+-- a version, or a delete marker if no object is stored
 abbrev pub version_end : VersionItem → Members → Members
 version_end v rest =
     member (codes "IsLatest") (boolean v.latest)
@@ -171,7 +171,7 @@ versions_text p = compact_text (versions_data p)
 
 -- ---- ListMultipartUploads
 
--- what contracts see of a page
+-- a page as contracts see it
 abbrev pub upload_view : UploadEntry → UploadItem
 upload_view u = record { key = string_bytes u.key; id = u.id; begun = u.initiated }
 
@@ -223,7 +223,7 @@ uploads_text p = compact_text (uploads_data p)
 
 -- ---- ListParts
 
--- what contracts see of a page
+-- a page as contracts see it
 abbrev pub part_view : PartEntry → PartItem
 part_view p = record { number = p.number; moment = p.stored.modified; size = p.stored.size; checksum = string_bytes p.stored.checksum }
 

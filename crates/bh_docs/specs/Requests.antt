@@ -1,5 +1,5 @@
--- What request documents ask: MalformedJSON where the shape is another, anywhere in the document,
--- and then InvalidArgument where a whole number is out of its range.
+-- Request documents: MalformedJSON if the shape is wrong, anywhere in the document, and then
+-- InvalidArgument if an integer is out of its range.
 use Rattle.std.specs.Prelude.{ℕ, ℤ, pos, negsuc, ◌&&◌, nat_le, List, [], ◌∷◌, length, codes, Option, Some, None, option_map, ok_or, Result}
 use Rattle.std.specs.Prelude.{Ok, Err, if◌then◌else◌, string_bytes}
 use Rattle.std.specs.Str.{bytes_eq}
@@ -21,15 +21,15 @@ abbrev pub ranged : ℕ → ℕ → ℤ → Result ℕ Refusal
 ranged low high (pos n) = if nat_le low n && nat_le n high then Ok n else Err InvalidArgument
 ranged low high (negsuc n) = Err InvalidArgument
 
--- how many bytes a request document has at most
+-- the maximum size of a request document in bytes
 abbrev pub document_end : ℕ
 document_end = 2097152
 
--- the document of a body, which is not longer
+-- the document of a body that isn't longer
 abbrev pub document_of : List ℕ → Result Data Refusal
 document_of body = if nat_le (length body) document_end then or_malformed (data_of body) else Err MalformedJson
 
--- the state that a bucket's versioning is to have
+-- the new state of a bucket's versioning
 -- Amazon S3 API Reference, PutBucketVersioning
 abbrev pub versioning_of : List ℕ → Result BucketState Refusal
 versioning_of body = do
@@ -44,11 +44,11 @@ lifecycle_of body = do
   days ← or_malformed (lifecycle_shape document)
   ranged 1 3650 days
 
--- a date in the one mode that the host does
+-- a date in the only mode that the host supports
 abbrev pub date_told : List ℕ × List ℕ → Result ℕ Refusal
 date_told (mode, date) = if bytes_eq mode (codes "COMPLIANCE") then ok_or (moment_of date) InvalidArgument else Err InvalidArgument
 
--- the date until which a version is to be kept
+-- the date until which a version is retained
 -- Amazon S3 API Reference, PutObjectRetention
 abbrev pub retention_of : List ℕ → Result ℕ Refusal
 retention_of body = do

@@ -23,7 +23,7 @@ data_of body = if is_utf8 body then read body else None
 
 -- ---- parts of a shape
 
--- the members of an object that has so many
+-- the members of an object with that many of them
 abbrev pub members_if : ℕ → Members → Option Members
 members_if count members = if members_len members == count then Some members else None
 
@@ -47,7 +47,7 @@ only_item no_items = None
 only_item (item d no_items) = Some d
 only_item (item d (item e rest)) = None
 
--- a whole number that fits 64 bits, with a sign or without
+-- an integer that fits in 64 bits, with a sign or without
 abbrev pub whole : Data → Option ℤ
 whole d = as_number d >>= as_integer
 
@@ -90,7 +90,7 @@ lifecycle_shape d = do
 
 -- ---- {"Mode":text,"RetainUntilDate":text}
 
--- a mode and a date, whatever texts they are
+-- a mode and a date, as any texts
 abbrev pub retention_view : RetentionShape → List ℕ × List ℕ
 retention_view told = (told.mode.now, told.date.now)
 

@@ -1,4 +1,4 @@
-//! What the documents are built of.
+//! The building blocks of documents.
 
 ghost use Rattle.std.specs.Prelude.{◌≡◌, ◌≤◌, false, map, option_map, Some, IfOk};
 ghost use Rattle.std.specs.String.{string_bytes};
@@ -18,7 +18,7 @@ use std::alloc::{AllocError, Global};
 
 /// An entry of a list in a document.
 pub trait Listed {
-    /// What is shown of the entry.
+    /// The entry as data.
     ghost shown: { Self → Data };
 
     fn value(&self, alloc: Global) -> Result<Value, AllocError>
@@ -35,7 +35,7 @@ fn values_of<E: Listed>(alloc: Global, entries: &[E]) -> Result<Vec<Value>, Allo
     Ok(values)
 }
 
-/// The compact text of a document that holds no float.
+/// The compact text of a document without floats.
 pub fn print(alloc: Global, document: &Value) -> Result<String, AllocError>
     requires { has_float (view document.now) ≡ false }
     ensures text { IfOk result (λ text. string_bytes text ≡ compact_text (view document.now)) }
@@ -45,10 +45,10 @@ pub fn print(alloc: Global, document: &Value) -> Result<String, AllocError>
     document.to_string(alloc)
 }
 
-/// What a member shows.
+/// The value of a member.
 #[derive(Clone, Copy)]
 pub enum Shown<'a> {
-    /// Nothing: the member is left out.
+    /// No value: the member is left out.
     Nothing,
     Text(&'a str),
     Count(u64),
@@ -86,7 +86,7 @@ pub fn object_of(alloc: Global, members: &[(&str, Shown<'_>)]) -> Result<Value, 
     Ok(document)
 }
 
-/// An object with one more member, if there is something to show.
+/// An object with one more member, if the member has a value.
 pub fn with_shown(
     alloc: Global,
     document: Value,
@@ -114,7 +114,7 @@ pub fn with_entries<E: Listed>(
     with_member(alloc, document, name, Some(entries))
 }
 
-/// An object with one more member, if there is a value for it.
+/// An object with one more member, if it has a value.
 pub fn with_member(
     alloc: Global,
     document: Value,

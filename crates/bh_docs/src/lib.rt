@@ -1,7 +1,7 @@
 //! The JSON documents (RFC 8259) of a bucket host.
 //!
-//! A request's document is read exactly where it has its shape, and a reply's document is one exact
-//! text. Beside that, only memory can be wanting.
+//! A request's document is accepted exactly if it has its shape, and a reply's document is one
+//! exact text. Otherwise, only memory can run out.
 #![tactic(auto)]
 
 mod document;

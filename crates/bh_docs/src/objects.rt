@@ -11,7 +11,7 @@ use crate::stored::Stored;
 use serde_json::Value;
 use std::alloc::{AllocError, Global};
 
-/// An object, as ListObjectsV2 shows it.
+/// An object in the answer to ListObjectsV2.
 #[derive(Drop)]
 pub struct ObjectEntry {
     pub key: String,
@@ -27,11 +27,11 @@ impl Listed for ObjectEntry {
     }
 }
 
-/// A page of ListObjectsV2. The next one begins after the last name shown.
+/// A page of ListObjectsV2. The next one begins after the last name listed.
 pub type ObjectsPage = Page<ObjectEntry, String>;
 
-/// The answer to ListObjectsV2 (Amazon S3 API Reference): compact JSON with its members in byte order. An error says that
-/// memory ran out.
+/// The answer to ListObjectsV2 (Amazon S3 API Reference): compact JSON with its members in byte
+/// order. Fails if memory runs out.
 pub fn objects_document(alloc: Global, page: &ObjectsPage) -> Result<String, AllocError>
     ensures { IfOk result (λ text. string_bytes text ≡ spec.objects_text (spec.page_view page.now)) }
 {

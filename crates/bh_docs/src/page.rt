@@ -1,4 +1,4 @@
-//! What the pages of a bucket's listings have in common.
+//! The common parts of the pages of a bucket's listings.
 
 ghost use Rattle.std.specs.Prelude.{◌≡◌, false, List, ℕ, Some, IfOk};
 ghost use Rattle.std.specs.String.{string_bytes};
@@ -20,25 +20,25 @@ use std::alloc::{AllocError, Global};
 pub struct Page<E, N> {
     pub bucket: String,
     pub prefix: String,
-    /// How many entries the page may have.
+    /// The maximum number of entries on the page.
     pub max: u32,
     pub prefixes: Vec<CommonPrefix>,
-    /// The entries that aren't rolled up.
+    /// The entries that aren't grouped.
     pub entries: Vec<E>,
-    /// Where the next page begins, where this one is truncated.
+    /// The position of the next page, if this one is truncated.
     pub next: Option<N>,
 }
 
-/// Where a page begins that comes after an entry of a key, or after a rolled-up name.
+/// The position of a page that comes after an entry of a key, or after a grouped name.
 #[derive(Drop)]
 pub struct Next<I> {
-    /// The key of the last entry, or its rolled-up name.
+    /// The key of the last entry, or its grouped name.
     pub name: String,
-    /// The id of the last entry, but for a rolled-up name.
+    /// The id of the last entry, unless that is a grouped name.
     pub id: Option<I>,
 }
 
-/// An id that tells the entries of a key apart.
+/// An id that distinguishes the entries of a key.
 pub trait EntryId {
     ghost text: { Self → List ℕ };
 
@@ -62,8 +62,8 @@ impl EntryId for UploadId {
     }
 }
 
-/// What every page tells, by the names that its listing has for the bucket and for the size of a page: without its
-/// entries, and without where the next page begins.
+/// The members that all pages have, with the names that the listing has for the bucket and for the
+/// page's size. The entries and the position of the next page are left out.
 pub fn head<'a, E, N>(
     alloc: Global,
     page: &'a Page<E, N>,
@@ -101,7 +101,7 @@ fn next_id<I: EntryId>(next: &Option<Next<I>>) -> Shown<'static>
     }
 }
 
-/// A document with the markers that the next page comes after, if there is one, the id's under this name.
+/// A document with the markers of the next page, if there is one; the id's has this name.
 pub fn with_markers<I: EntryId>(
     alloc: Global,
     document: Value,
@@ -114,7 +114,8 @@ pub fn with_markers<I: EntryId>(
     with_shown(alloc, document, id_name, &next_id(next))
 }
 
-/// The compact text of a document with a page's rolled-up names, and with its entries under this name.
+/// The compact text of a document with a page's grouped names, and with its entries under this
+/// name.
 pub fn page_text<E: Listed, N>(
     alloc: Global,
     document: Value,

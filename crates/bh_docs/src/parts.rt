@@ -13,7 +13,7 @@ use bh_types::id::UploadId;
 use serde_json::Value;
 use std::alloc::{AllocError, Global};
 
-/// A part, as ListParts shows it.
+/// A part in the answer to ListParts.
 #[derive(Drop)]
 pub struct PartEntry {
     pub number: u32,
@@ -35,15 +35,15 @@ pub struct PartsPage {
     pub bucket: String,
     pub key: String,
     pub upload: UploadId,
-    /// How many parts the page may have.
+    /// The maximum number of parts on the page.
     pub max: u32,
     pub parts: Vec<PartEntry>,
-    /// The number of the last part shown, where the page is truncated.
+    /// The number of the last part listed, if the page is truncated.
     pub next: Option<u32>,
 }
 
-/// The answer to ListParts (Amazon S3 API Reference): compact JSON with its members in byte order. An error says that
-/// memory ran out.
+/// The answer to ListParts (Amazon S3 API Reference): compact JSON with its members in byte order.
+/// Fails if memory runs out.
 pub fn parts_document(alloc: Global, page: &PartsPage) -> Result<String, AllocError>
     ensures { IfOk result (λ text. string_bytes text ≡ spec.parts_text (spec.parts_view page.now)) }
 {
@@ -64,7 +64,7 @@ fn parts_value(alloc: Global, page: &PartsPage) -> Result<Value, AllocError>
     with_entries(alloc, document, "Parts", page.parts.as_slice())
 }
 
-// Without its lists, and without where the next page begins.
+// The members except the lists and the position of the next page.
 fn plain_members(alloc: Global, page: &PartsPage) -> Result<Value, AllocError>
     ensures { IfOk result (λ value. view value ≡ spec.parts_plain (spec.parts_view page.now)) }
 {

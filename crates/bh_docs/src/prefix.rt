@@ -4,7 +4,7 @@ use crate::document::{Listed, Shown, object_of};
 use serde_json::Value;
 use std::alloc::{AllocError, Global};
 
-/// The keys of a listing that begin alike up to the delimiter, rolled up into one name.
+/// The keys of a listing that share a part up to the delimiter, grouped under one name.
 #[derive(Drop)]
 pub struct CommonPrefix {
     pub prefix: String,

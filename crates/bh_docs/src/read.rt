@@ -1,5 +1,6 @@
-//! Reading request documents. Each reader answers with what the document asks, a refusal, or want
-//! of memory. A body of more than `DOCUMENT_END` bytes is refused with `MalformedJson`, as one of another shape is.
+//! Reads request documents. Each function returns the document's arguments, or fails with a refusal
+//! or if memory runs out. A body of more than `DOCUMENT_END` bytes is refused with `MalformedJson`,
+//! like one of another shape.
 
 ghost use Rattle.std.specs.Prelude.{◌≡◌, map};
 ghost use Rattle.serde_json.specs.View.{view};
@@ -18,13 +19,13 @@ use bh_types::wanted::Named;
 use serde_json::Value;
 use std::alloc::{AllocError, Global};
 
-/// How many bytes a request document has at most: a completion of 10,000 parts has 0.9 million, and 1.2 million where each
-/// member has a line of its own.
+/// The maximum size of a request document in bytes. A completion of 10,000 parts has 0.9 million,
+/// and 1.2 million if each member is on a line of its own.
 pub const DOCUMENT_END: u64 = 2_097_152;
 
-/// The state that a bucket's versioning is to have, by `{"Status":"Enabled"}` or
-/// `{"Status":"Suspended"}`. Any other body is refused with `MalformedJson`.
-/// (Amazon S3 API Reference, PutBucketVersioning, as JSON.)
+/// The new state of a bucket's versioning, from `{"Status":"Enabled"}` or `{"Status":"Suspended"}`
+/// (Amazon S3 API Reference, PutBucketVersioning, as JSON). Fails with `MalformedJson` for any
+/// other body.
 pub fn read_versioning(alloc: Global, body: &[u8]) -> Result<BucketState, RequestError>
     ensures { Gives (λ state. state) result (spec.versioning_of body.now) }
 {
@@ -32,10 +33,10 @@ pub fn read_versioning(alloc: Global, body: &[u8]) -> Result<BucketState, Reques
     or_malformed(versioning_shape(&document))
 }
 
-/// The days after which a bucket's uploads are aborted, by
+/// The days after which a bucket's uploads are aborted, from
 /// `{"Rules":[{"AbortIncompleteMultipartUpload":{"DaysAfterInitiation":n},"Status":"Enabled"}]}`
-/// with n from 1 to 3,650. A body of another shape is refused with `MalformedJson`, another whole
-/// number n with `InvalidArgument`. (Amazon S3 API Reference, PutBucketLifecycleConfiguration, as JSON.)
+/// with n from 1 to 3,650 (Amazon S3 API Reference, PutBucketLifecycleConfiguration, as JSON).
+/// Fails with `MalformedJson` for another shape, and with `InvalidArgument` for another integer n.
 pub fn read_lifecycle(alloc: Global, body: &[u8]) -> Result<u16, RequestError>
     ensures { Gives (λ days. days) result (spec.lifecycle_of body.now) }
 {
@@ -45,9 +46,10 @@ pub fn read_lifecycle(alloc: Global, body: &[u8]) -> Result<u16, RequestError>
     Ok(days as u16)
 }
 
-/// The date until which a version is to be kept, by `{"Mode":"COMPLIANCE","RetainUntilDate":date}` with a date as
-/// `Moment::read` reads it. A body of another shape is refused with `MalformedJson`, and else one with another mode or
-/// date with `InvalidArgument`. (Amazon S3 API Reference, PutObjectRetention, as JSON.)
+/// The date until which a version is retained, from `{"Mode":"COMPLIANCE","RetainUntilDate":date}`
+/// with a date as `Moment::read` parses it (Amazon S3 API Reference, PutObjectRetention, as JSON).
+/// Fails with `MalformedJson` for another shape, and then with `InvalidArgument` for another mode
+/// or an invalid date.
 pub fn read_retention(alloc: Global, body: &[u8]) -> Result<Moment, RequestError>
     ensures { Gives (λ date. date) result (spec.retention_of body.now) }
 {
@@ -70,11 +72,10 @@ fn date_told(told: RetentionShape<'_>) -> Result<Moment, Refusal>
     }
 }
 
-/// The parts that complete an upload, as they are named, by
-/// `{"Parts":[{"ChecksumSHA256":text,"PartNumber":n},..]}` with 1 to 10,000 parts and n from 1 to
-/// 10,000, where a part's checksum may be missing and may be any text. A body of another shape is
-/// refused with `MalformedJson`, and else one with another whole number n with `InvalidArgument`.
-/// (Amazon S3 API Reference, CompleteMultipartUpload, as JSON.)
+/// The parts that complete an upload, from `{"Parts":[{"ChecksumSHA256":text,"PartNumber":n},..]}`
+/// (Amazon S3 API Reference, CompleteMultipartUpload, as JSON). There are 1 to 10,000 parts, and n
+/// is from 1 to 10,000. A checksum is optional, and may be any text. Fails with `MalformedJson` for
+/// another shape, and then with `InvalidArgument` for another integer n.
 pub fn read_complete(alloc: Global, body: &[u8]) -> Result<Vec<Named>, RequestError>
     ensures { Gives (λ parts. map spec.named_view parts.items) result (spec.complete_of body.now) }
 {

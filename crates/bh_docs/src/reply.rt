@@ -1,5 +1,5 @@
-//! The documents of replies, but for the pages of listings. Each is compact JSON (RFC 8259) with
-//! its members in byte order. An error says that memory ran out.
+//! The documents of replies, except for listings' pages. Each is compact JSON (RFC 8259) with its
+//! members in byte order. Each function fails if memory runs out.
 
 ghost use Rattle.std.specs.Prelude.{◌≡◌, ◌≢◌, ◌≤◌, ℕ, Some, None, map, IfOk};
 ghost use Rattle.std.specs.String.{string_bytes};
@@ -35,10 +35,10 @@ fn error_value<'a>(alloc: Global, code: &'a str, resource: &'a str) -> Result<Va
     )
 }
 
-/// A bucket, as ListBuckets shows it.
+/// A bucket in the answer to ListBuckets.
 #[derive(Drop)]
 pub struct BucketEntry {
-    /// When it was made.
+    /// When it was created.
     pub created: Moment,
     /// Its name, without a tenant.
     pub name: String,
@@ -75,26 +75,26 @@ fn buckets_value(alloc: Global, buckets: &[BucketEntry]) -> Result<Value, AllocE
     with_entries(alloc, document, "Buckets", buckets)
 }
 
-/// What a tenant stores. Sizes are in bytes.
+/// A tenant's usage. Sizes are in bytes.
 #[derive(Clone, Copy, PartialEq, Eq)]
 pub struct Usage {
     pub buckets: u64,
-    /// Of versions and of uploads' parts together, as the quota counts them.
+    /// The bytes of versions and of uploads' parts together, as the quota counts them.
     pub bytes: u64,
-    /// Delete markers.
+    /// The number of delete markers.
     pub markers: u64,
-    /// Keys whose newest entry is no delete marker.
+    /// Keys whose newest entry is not a delete marker.
     pub objects: u64,
     pub part_bytes: u64,
     pub quota: u64,
     pub uploads: u64,
     pub version_bytes: u64,
-    /// Delete markers left out.
+    /// Without delete markers.
     pub versions: u64,
 }
 
-/// The answer to a tenant who asks for the usage, which S3 has not: each count and size under its own
-/// name.
+/// The answer to a tenant's request for its usage, which S3 doesn't have: each count and size under
+/// its own name.
 pub fn usage_document(alloc: Global, usage: &Usage) -> Result<String, AllocError>
     ensures { IfOk result (λ text. string_bytes text ≡ spec.usage_text (spec.usage_view usage.now)) }
 {
@@ -147,7 +147,7 @@ fn status_value(alloc: Global, status: &str) -> Result<Value, AllocError>
     object_of(alloc, &[("Status", Shown::Text(status))])
 }
 
-/// The answer to GetBucketLifecycleConfiguration: the document that sets the rule of so many days.
+/// The answer to GetBucketLifecycleConfiguration: the document that sets a rule of `days` days.
 pub fn lifecycle_document(alloc: Global, days: u16) -> Result<String, AllocError>
     ensures text { IfOk result (λ text. string_bytes text ≡ spec.lifecycle_text days) }
     ensures reads_back { 1 ≤ days → days ≤ 3650
@@ -181,7 +181,8 @@ fn days_value(alloc: Global, days: u16) -> Result<Value, AllocError>
     )
 }
 
-/// The answer to GetObjectRetention: `{}` for a version without a date, and else the document that sets its date.
+/// The answer to GetObjectRetention: `{}` for a version without a date, otherwise the document that
+/// sets its date.
 pub fn retention_document(alloc: Global, date: Option<Moment>) -> Result<String, AllocError>
     ensures text { IfOk result (λ text. string_bytes text ≡ spec.retention_text date) }
     ensures reads_back { (until : ℕ) → date ≡ Some until

@@ -9,14 +9,14 @@ use bh_types::bucket_state::BucketState;
 use serde_json::{Map, Value};
 use std::alloc::{AllocError, Global};
 
-/// The number of members, in terms of the data that the definitions see.
+/// The number of members, in terms of the specification's data.
 fn member_count(members: &Map<String, Value>) -> usize
     ensures { result ≡ members_len (members_view members.now.entries) }
 {
     members.len()
 }
 
-/// The members of an object that has so many.
+/// The members of an object with `count` of them.
 fn members_of(count: usize, document: &Value) -> Option<&Map<String, Value>>
     ensures { option_map (λ m. members_view m.now.entries) result ≡ spec.members_of count (view document.now) }
 {
@@ -47,14 +47,14 @@ fn two_members<'a>(first: &str, second: &str, document: &'a Value) -> Option<(&'
     Some((a, b))
 }
 
-/// A whole number that fits 64 bits, with a sign or without.
+/// An integer that fits in 64 bits, with a sign or without.
 fn whole(document: &Value) -> Option<i128>
     ensures { result ≡ spec.whole (view document.now) }
 {
     document.as_number()?.as_i128()
 }
 
-/// The state that `{"Status":"Enabled"}` or `{"Status":"Suspended"}` names.
+/// The state in `{"Status":"Enabled"}` or `{"Status":"Suspended"}`.
 pub fn versioning_shape(document: &Value) -> Option<BucketState>
     ensures { result ≡ spec.versioning_shape (view document.now) }
 {
@@ -72,7 +72,7 @@ fn state_named(text: &str) -> Option<BucketState>
     }
 }
 
-/// The days of `{"Rules":[rule]}`, whatever whole number they are.
+/// The days of `{"Rules":[rule]}`, as any integer.
 pub fn lifecycle_shape(document: &Value) -> Option<i128>
     ensures { result ≡ spec.lifecycle_shape (view document.now) }
 {
@@ -108,7 +108,7 @@ fn if_enabled(status: &Value, days: i128) -> Option<i128>
     }
 }
 
-/// A version's retention as a document gives it.
+/// A version's retention in a document.
 #[derive(Clone, Copy)]
 pub struct RetentionShape<'a> {
     /// Any text.
@@ -117,7 +117,7 @@ pub struct RetentionShape<'a> {
     pub date: &'a str,
 }
 
-/// The mode and the date of `{"Mode":mode,"RetainUntilDate":date}`, whatever texts they are.
+/// The mode and the date of `{"Mode":mode,"RetainUntilDate":date}`, as any texts.
 pub fn retention_shape(document: &Value) -> Option<RetentionShape<'_>>
     ensures { option_map spec.retention_view result ≡ spec.retention_shape (view document.now) }
 {
@@ -127,10 +127,10 @@ pub fn retention_shape(document: &Value) -> Option<RetentionShape<'_>>
     Some(RetentionShape { mode, date })
 }
 
-/// A part as a document gives it.
+/// A part in a document.
 #[derive(Clone, Copy)]
 pub struct PartShape<'a> {
-    /// Any whole number.
+    /// Any integer.
     pub number: i128,
     /// The checksum, if one is given.
     pub sum: Option<&'a str>,
@@ -163,7 +163,7 @@ fn checked_part(part: &Value) -> Option<PartShape<'_>>
     })
 }
 
-/// The parts of `{"Parts":[part,..]}`, 1 to 10,000 of them, whatever whole numbers they have.
+/// The parts of `{"Parts":[part,..]}`, 1 to 10,000 of them, whatever integers they have.
 pub fn complete_shape<'a>(
     alloc: Global,
     document: &'a Value,
@@ -196,7 +196,7 @@ fn has_part_count(items: &[Value]) -> bool
     1 <= count && count <= 10_000
 }
 
-/// The number of items, in terms of the data that the definitions see.
+/// The number of items, in terms of the specification's data.
 fn item_count(items: &[Value]) -> usize
     ensures { result ≡ items_len (items_view items.now) }
 {

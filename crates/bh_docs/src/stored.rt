@@ -1,4 +1,4 @@
-//! What listings show of an object or a part that is stored.
+//! The members in listings of a stored object or part.
 
 ghost use Rattle.std.specs.Prelude.{◌≡◌, IfOk};
 ghost use Rattle.serde_json.specs.View.{view};
@@ -10,7 +10,7 @@ use bh_types::moment::Moment;
 use serde_json::Value;
 use std::alloc::{AllocError, Global};
 
-/// What is stored under a key or as a part.
+/// A stored object or part.
 #[derive(Drop)]
 pub struct Stored {
     pub checksum: String,
@@ -20,7 +20,7 @@ pub struct Stored {
 }
 
 impl Stored {
-    /// An object of it, with the member that names it.
+    /// The object with its members, and the one that names it.
     pub fn value(&self, alloc: Global, name: &str, shown: &Shown<'_>) -> Result<Value, AllocError>
         ensures { IfOk result (λ value. view value ≡ stored_data name.now (shown_data shown.now) self.now) }
     {

@@ -11,10 +11,10 @@ use bh_types::moment::Moment;
 use serde_json::Value;
 use std::alloc::{AllocError, Global};
 
-/// An upload, as ListMultipartUploads shows it.
+/// An upload in the answer to ListMultipartUploads.
 #[derive(Drop)]
 pub struct UploadEntry {
-    /// When it was begun.
+    /// When it began.
     pub initiated: Moment,
     pub key: String,
     pub id: UploadId,
@@ -38,8 +38,8 @@ impl Listed for UploadEntry {
 /// A page of ListMultipartUploads.
 pub type UploadsPage = Page<UploadEntry, Next<UploadId>>;
 
-/// The answer to ListMultipartUploads (Amazon S3 API Reference): compact JSON with its members in byte order. An error says
-/// that memory ran out.
+/// The answer to ListMultipartUploads (Amazon S3 API Reference): compact JSON with its members in
+/// byte order. Fails if memory runs out.
 pub fn uploads_document(alloc: Global, page: &UploadsPage) -> Result<String, AllocError>
     ensures { IfOk result (λ text. string_bytes text ≡ spec.uploads_text (spec.uploads_view page.now)) }
 {

@@ -13,7 +13,7 @@ use bh_types::moment::Moment;
 use serde_json::Value;
 use std::alloc::{AllocError, Global};
 
-/// What a version stores, as ListObjectVersions shows it.
+/// A version's stored object, in the answer to ListObjectVersions.
 #[derive(Drop)]
 pub struct StoredObject {
     pub checksum: String,
@@ -21,7 +21,7 @@ pub struct StoredObject {
     pub size: u64,
 }
 
-/// A version or a delete marker, as ListObjectVersions shows it.
+/// A version or a delete marker in the answer to ListObjectVersions.
 #[derive(Drop)]
 pub struct VersionEntry {
     pub key: String,
@@ -29,7 +29,7 @@ pub struct VersionEntry {
     pub modified: Moment,
     /// Whether it is the newest of its key.
     pub latest: bool,
-    /// What it stores; a delete marker stores nothing.
+    /// Its stored object; a delete marker has none.
     pub object: Option<StoredObject>,
 }
 
@@ -84,8 +84,8 @@ fn marker_value(alloc: Global, marker: &VersionEntry) -> Result<Value, AllocErro
 /// A page of ListObjectVersions.
 pub type VersionsPage = Page<VersionEntry, Next<VersionId>>;
 
-/// The answer to ListObjectVersions (Amazon S3 API Reference): compact JSON with its members in byte order. An error says that
-/// memory ran out.
+/// The answer to ListObjectVersions (Amazon S3 API Reference): compact JSON with its members in
+/// byte order. Fails if memory runs out.
 pub fn versions_document(alloc: Global, page: &VersionsPage) -> Result<String, AllocError>
     ensures { IfOk result (λ text. string_bytes text ≡ spec.versions_text (spec.versions_view page.now)) }
 {

@@ -1,4 +1,4 @@
--- What comes to a host, as contracts see it.
+-- Events of a host, as contracts see them.
 use Rattle.std.specs.Prelude.{ℕ, List}
 use Rattle.std.specs.String.{string_bytes}
 use Rattle.bh_event.specs.declared.event.Command.{Command}
@@ -6,7 +6,7 @@ use Rattle.bh_event.specs.declared.event.Command.TheVariants.{TenantAdd, Quota, 
 use Rattle.bh_event.specs.declared.event.Event.{Event}
 use Rattle.bh_event.specs.declared.event.Event.TheVariants as event
 
--- what an operator orders; names and secrets are bytes
+-- an operator's order; names and secrets are bytes
 pub data Order : Type 0 where
   AddTenant : (tenant : List ℕ) (quota : ℕ) → Order
   SetQuota : (tenant : List ℕ) (quota : ℕ) → Order
@@ -15,7 +15,7 @@ pub data Order : Type 0 where
   ShowUsage : (tenant : List ℕ) → Order
   ShowKeys : (tenant : List ℕ) → Order
 
--- the tenant that an order names
+-- the tenant of an order
 abbrev pub tenant_of : Order → List ℕ
 tenant_of (AddTenant tenant quota) = tenant
 tenant_of (SetQuota tenant quota) = tenant
@@ -24,8 +24,8 @@ tenant_of (RemoveKey tenant name) = tenant
 tenant_of (ShowUsage tenant) = tenant
 tenant_of (ShowKeys tenant) = tenant
 
--- the bytes of a request, an order, or what an operator asks about all tenants: a sweep that removes at most so many, a report,
--- or who they are
+-- the bytes of a request, an order, or an operator's request about all tenants: a sweep that
+-- removes at most `limit`, a report, or a list
 pub data Message : Type 0 where
   Requested : (bytes : List ℕ) → Message
   Ordered : (order : Order) → Message

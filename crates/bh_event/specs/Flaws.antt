@@ -1,4 +1,4 @@
--- Why a line of a script tells no event: the first flaw that it has, in the order of these definitions.
+-- Why a script's line is not an event: its first flaw, in the order of these definitions.
 use Rattle.std.specs.Prelude.{ℕ, Bool, List, codes, not, ◌&&◌, ◌||◌, Option, Some, None, is_some, if◌then◌else◌}
 use Rattle.std.specs.Str.{bytes_eq, is_utf8}
 use Rattle.serde_json.specs.Data.{Data}
@@ -9,21 +9,21 @@ use Rattle.bh_event.specs.declared.flaw.Flaw.{Flaw}
 use Rattle.bh_event.specs.declared.flaw.Flaw.TheVariants.{NotUtf8, NotJson, NotAnObject, NoReading, NoContent, OtherMembers, OddDigits}
 use Rattle.bh_event.specs.declared.flaw.Flaw.TheVariants.{UnknownCommand, WrongMembers}
 
--- two members, of which one is `at` and the other is no request: so its digits are not
+-- two members: one is `at`, and the other is not a request, so its digits are invalid
 abbrev pub flaw_of_request : Data → Flaw
 flaw_of_request d =
     if not (is_some (text_at (codes "http") d)) && not (is_some (text_at (codes "hex") d)) then NoContent
     else if has_members 2 d then OddDigits
     else OtherMembers
 
--- whether it names a command
+-- whether it is the name of a command
 abbrev pub is_command : List ℕ → Bool
 is_command op =
     bytes_eq op (codes "tenant-add") || bytes_eq op (codes "quota") || bytes_eq op (codes "key-add") || bytes_eq op (codes "key-remove")
     || bytes_eq op (codes "usage") || bytes_eq op (codes "keys")
     || bytes_eq op (codes "sweep") || bytes_eq op (codes "report") || bytes_eq op (codes "tenants")
 
--- of a known command the name is right, so its other members are not
+-- the command is known, so its other members are wrong
 abbrev pub flaw_of_command : List ℕ → Flaw
 flaw_of_command op = if is_command op then WrongMembers else UnknownCommand
 

@@ -1,4 +1,4 @@
--- The event that a line of a script tells: one JSON object, its members in any order, none missing and none besides.
+-- The event that a script's line encodes: one JSON object, with exactly these members in any order.
 use Rattle.std.specs.Prelude.{ℕ, ◌==◌, nat_le, Bool, false, unwrap_or, List, codes, Option, Some, None, option_map, option_and_then}
 use Rattle.std.specs.Prelude.{if◌then◌else◌}
 use Rattle.std.specs.Option.{option_or}
@@ -18,15 +18,15 @@ text_at key d = option_and_then as_str (get key d)
 abbrev pub number_at : List ℕ → Data → Option ℕ
 number_at key d = option_and_then as_u64 (option_and_then as_number (get key d))
 
--- an object of so many members
+-- an object with that many members
 abbrev pub has_members : ℕ → Data → Bool
 has_members count d = unwrap_or (option_map (λ ms. members_len ms == count) (as_object d)) false
 
--- the bytes that an even number of hexadecimal digits stand for
+-- the bytes that an even number of hexadecimal digits encode
 abbrev pub bytes_of_digits : List ℕ → Option (List ℕ)
 bytes_of_digits digits = result_ok (decode_of digits)
 
--- {"at":n,"http":text} is the text's bytes, {"at":n,"hex":digits} the bytes that its digits stand for
+-- {"at":n,"http":text} is the text's bytes, {"at":n,"hex":digits} the bytes that the digits encode
 abbrev pub request_in : Data → Option (List ℕ)
 request_in d =
     if has_members 2 d then option_or (text_at (codes "http") d) (option_and_then bytes_of_digits (text_at (codes "hex") d)) else None
@@ -69,7 +69,7 @@ usage_in d = if has_members 3 d then option_map ShowUsage (text_at (codes "tenan
 abbrev pub keys_in : Data → Option Order
 keys_in d = if has_members 3 d then option_map ShowKeys (text_at (codes "tenant") d) else None
 
--- the order that an object with this `op` tells
+-- the order in an object with this `op`
 abbrev pub order_named : Data → List ℕ → Option Order
 order_named d op =
     if bytes_eq op (codes "tenant-add") then tenant_add_in d
@@ -99,7 +99,7 @@ report_in d = if has_members 2 d then Some ReportOrdered else None
 abbrev pub tenants_in : Data → Option Message
 tenants_in d = if has_members 2 d then Some TenantsOrdered else None
 
--- what an object with this `op` asks about all tenants
+-- an order about all tenants, in an object with this `op`
 abbrev pub host_order_named : Data → List ℕ → Option Message
 host_order_named d op =
     if bytes_eq op (codes "sweep") then sweep_in d
@@ -120,10 +120,10 @@ arrival_at reading message = record { reading = reading; message = message }
 abbrev pub arrival_in : Data → Option Arrival
 arrival_in d = option_and_then (λ reading. option_map (arrival_at reading) (message_in d)) (number_at (codes "at") d)
 
--- the value whose JSON text bytes are
+-- the value of a JSON text
 abbrev pub value_in : List ℕ → Option Data
 value_in bytes = if is_utf8 bytes then read bytes else None
 
--- what a line tells, if it is the text of such an object
+-- the event of a line, if the line is the text of such an object
 abbrev pub told_by : List ℕ → Option Arrival
 told_by line = option_and_then arrival_in (value_in line)

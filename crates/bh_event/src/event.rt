@@ -1,43 +1,42 @@
 ghost use Rattle.std.specs.Prelude.{◌≡◌};
 ghost use Rattle.bh_event.specs.Events.{arrival, order_of, tenant_of};
 
-/// What an operator orders. Names, secrets and quotas are as they were given: whether they are in
-/// their ranges is the host's to say.
+/// An operator's command. Names, secrets and quotas are unchecked: the host checks their ranges.
 #[derive(Drop)]
 pub enum Command {
-    /// A tenant with a quota in bytes.
+    /// Adds a tenant with a quota in bytes.
     TenantAdd {
         tenant: String,
         quota: u64,
     },
-    /// Another quota of a tenant, in bytes.
+    /// Sets a tenant's quota, in bytes.
     Quota {
         tenant: String,
         quota: u64,
     },
-    /// An access key of a tenant.
+    /// Adds an access key to a tenant.
     KeyAdd {
         tenant: String,
         name: String,
         secret: String,
     },
-    /// An access key of a tenant goes.
+    /// Removes a tenant's access key.
     KeyRemove {
         tenant: String,
         name: String,
     },
-    /// What a tenant uses is told.
+    /// Asks how many bytes a tenant uses.
     Usage {
         tenant: String,
     },
-    /// The names of a tenant's access keys are told.
+    /// Asks for the names of a tenant's access keys.
     Keys {
         tenant: String,
     },
 }
 
 impl Command {
-    /// The tenant that it names.
+    /// The name of its tenant.
     pub fn tenant(&self) -> &str
         ensures { result.now ≡ tenant_of (order_of self.now) }
     {
@@ -52,18 +51,18 @@ impl Command {
     }
 }
 
-/// What comes to a host, with the clock's reading in seconds since 1970.
+/// An event of a host, with the clock's reading in seconds since 1970.
 #[derive(Drop)]
 pub enum Event {
-    /// The bytes of a request of HTTP/1.1 (RFC 9112).
+    /// The bytes of an HTTP/1.1 request (RFC 9112).
     Http { reading: u64, bytes: Vec<u8> },
     /// An operator's command on a tenant.
     Operator { reading: u64, command: Command },
-    /// An operator has at most so many stale uploads and blocks that nothing refers to removed, whosever they are.
+    /// Removes at most `limit` stale uploads and unreferenced blocks, of all tenants.
     Sweep { reading: u64, limit: u32 },
-    /// An operator asks how much all tenants together have stored.
+    /// An operator's request for the sizes of what all tenants have stored.
     Report { reading: u64 },
-    /// An operator asks for all tenants.
+    /// An operator's request for the list of all tenants.
     Tenants { reading: u64 },
 }
 

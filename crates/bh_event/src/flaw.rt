@@ -6,7 +6,7 @@ use crate::line::{has_members, number_at, text_at};
 use serde_json::Value;
 use std::alloc::{AllocError, Global};
 
-/// Why a line of a script tells no event.
+/// Why a script's line is not an event.
 #[derive(Clone, Copy)]
 pub enum Flaw {
     NotUtf8,
@@ -21,27 +21,28 @@ pub enum Flaw {
 }
 
 impl Flaw {
-    /// The reason in words, for whoever wrote the line.
+    /// The reason as a text, for the author of the line.
     pub fn text(self) -> &'static str {
         match self {
-            Flaw::NotUtf8 => "its bytes are not UTF-8",
+            Flaw::NotUtf8 => "it is not UTF-8",
             Flaw::NotJson => "it is not JSON",
-            Flaw::NotAnObject => "it is no JSON object",
-            Flaw::NoReading => "`at` is missing, or no whole number from 0 to 18446744073709551615",
-            Flaw::NoContent => "it has no text `http`, `hex` or `op`",
-            Flaw::OtherMembers => "it has other members beside `at` and the request",
+            Flaw::NotAnObject => "it is not a JSON object",
+            Flaw::NoReading =>
+                "`at` is missing, or is not an integer from 0 to 18446744073709551615",
+            Flaw::NoContent => "it has no string `http`, `hex` or `op`",
+            Flaw::OtherMembers => "it has members other than `at` and the request",
             Flaw::OddDigits => "`hex` is not an even number of hexadecimal digits",
             Flaw::UnknownCommand => {
-                "`op` is none of tenant-add, quota, key-add, key-remove, usage, keys, sweep, report, tenants"
+                "`op` must be one of tenant-add, quota, key-add, key-remove, usage, keys, sweep, report, tenants"
             }
             Flaw::WrongMembers => {
-                "its command's members are missing, of another type or range, or more than those that it takes"
+                "the command's members are missing, of the wrong type, out of range, or too many"
             }
         }
     }
 }
 
-/// Why a line tells no event: the first flaw that it has. It is asked of a line that `read_line` read as none.
+/// Why a line is not an event: its first flaw. Meant for lines for which `read_line` returns `None`.
 pub fn flaw_of(alloc: Global, line: &[u8]) -> Result<Flaw, AllocError>
     ensures { IfOk result (λ flaw. flaw ≡ spec.flaw_of line.now) }
 {

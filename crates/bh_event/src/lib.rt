@@ -1,4 +1,4 @@
-//! What comes to a host, and the lines of a script that tell it.
+//! Events of a host, and the lines of scripts that encode them.
 #![tactic(auto)]
 
 pub mod event;

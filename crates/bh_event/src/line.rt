@@ -10,8 +10,9 @@ use hex::FromHexError;
 use serde_json::Value;
 use std::alloc::{AllocError, Global};
 
-/// The event that a line of a script tells: a JSON object (RFC 8259) with `at`, the reading, and
-/// `http`, `hex` or an operator's `op` with its members. None where the line is no such object.
+/// Parses a script's line: a JSON object (RFC 8259) with `at`, the reading, and `http`, `hex` or an
+/// operator's `op` with its members. `None` if the line is not such an object. Fails if memory runs
+/// out.
 pub fn read_line(alloc: Global, line: &[u8]) -> Result<Option<Event>, AllocError>
     ensures { IfOk result (λ found. option_map arrival found ≡ spec.told_by line.now) }
 {
@@ -170,7 +171,7 @@ fn keys_in(alloc: Global, document: &Value) -> Result<Option<Command>, AllocErro
     Ok(Some(Command::Keys { tenant }))
 }
 
-/// What an operator asks about all tenants.
+/// An operator's order about all tenants.
 fn host_order_in(document: &Value, reading: u64) -> Option<Event>
     ensures { option_map arrival result ≡ option_map (spec.arrival_at reading) (spec.host_order_in (view document.now)) }
 {

@@ -4,22 +4,22 @@ use std::alloc::AllocError;
 use std::io::ErrorKind;
 use std::{fmt, io};
 
-/// Why a file isn't opened as a database. Its `Display` tells the operator.
+/// Why a file isn't opened as a database. Its `Display` is the message to the operator.
 #[derive(Drop)]
 pub enum OpenFault {
-    /// Memory was wanting.
+    /// Memory ran out.
     Memory,
     /// Another process has it open.
     Busy,
-    /// SQLite left a journal beside it, which only SQLite can play back.
+    /// SQLite left a rollback journal beside it, which only SQLite can play back.
     Journal,
-    /// What the path names is no regular file.
+    /// The path doesn't name a regular file.
     NoFile,
-    /// It begins as no SQLite database does.
+    /// It doesn't begin like an SQLite database.
     NoDatabase,
-    /// The system refuses to read, make or lock it.
+    /// The system refuses to read, create or lock it.
     System(io::Error),
-    /// It isn't read as a database: it is none, or was damaged.
+    /// It can't be read as a database, because it isn't one or is damaged.
     Database(Error),
 }
 
@@ -58,8 +58,8 @@ impl fmt::Display for OpenFault {
             OpenFault::Journal => f.write_str(
                 "it has a rollback journal: open it with sqlite3 first",
             ),
-            OpenFault::NoFile => f.write_str("it is no regular file"),
-            OpenFault::NoDatabase => f.write_str("it is no SQLite database"),
+            OpenFault::NoFile => f.write_str("not a regular file"),
+            OpenFault::NoDatabase => f.write_str("not an SQLite database"),
             OpenFault::System(error) => write!(f, "{error}"),
             OpenFault::Database(error) => write!(f, "{error}"),
         }

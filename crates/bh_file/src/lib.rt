@@ -1,4 +1,4 @@
-//! The files of a database, opened for a host.
+//! Opens the files of a host's database.
 #![tactic(auto)]
 
 mod fault;

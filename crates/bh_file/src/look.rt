@@ -1,4 +1,4 @@
-//! What is at a path, before a database is opened there.
+//! A path's state before a database is opened there.
 
 use crate::fault::OpenFault;
 use std::fs::OpenOptions;
@@ -6,10 +6,10 @@ use std::io::ErrorKind;
 use std::os::unix::fs::{FileExt, OpenOptionsExt};
 use std::{fs, io};
 
-/// The bytes that a SQLite database begins with (SQLite, "Database File Format", section 1.3).
+/// The first bytes of an SQLite database (SQLite, "Database File Format", section 1.3).
 const MAGIC: &[u8] = b"SQLite format 3\0";
 
-/// Whether a file begins with the header of a SQLite database.
+/// Whether a file begins with the header of an SQLite database.
 fn has_header(rt: &HostRuntime, path: &str) -> io::Result<bool> {
     let mut header = [0u8; 100];
     match fs::open(rt, path)?.read_exact_at(&mut header, 0) {
@@ -19,7 +19,8 @@ fn has_header(rt: &HostRuntime, path: &str) -> io::Result<bool> {
     }
 }
 
-/// Whether a log with bytes lies beside a file. After a crash it may have what the file lacks, its header too.
+/// Whether there is a log with bytes beside a file. After a crash it may have pages that the file
+/// lacks, even its header.
 fn has_log(rt: &HostRuntime, path: &str) -> Result<bool, OpenFault> {
     let real = fs::canonicalize(rt, path)?;
     let log = format!(in rt.alloc(); "{}-wal", real.as_str())?;
@@ -30,7 +31,7 @@ fn has_log(rt: &HostRuntime, path: &str) -> Result<bool, OpenFault> {
     }
 }
 
-/// Makes an empty file that only its owner reads and writes: it is to hold secrets. Its log gets the same mode.
+/// Creates an empty file with mode 0600, since it will have secrets. Its log gets the same mode.
 fn make(rt: &HostRuntime, path: &str) -> io::Result<()> {
     match OpenOptions::new()
         .write(true)
@@ -44,7 +45,8 @@ fn make(rt: &HostRuntime, path: &str) -> io::Result<()> {
     }
 }
 
-/// Makes the file if there is none. One that is no database is refused before anything is made beside it.
+/// Creates the file if there is none. If a file isn't a database, it is refused before anything is
+/// created beside it.
 pub(crate) fn look(rt: &HostRuntime, path: &str) -> Result<(), OpenFault> {
     let found = match fs::metadata(rt, path) {
         Ok(found) => found,

@@ -14,14 +14,14 @@ use sqlite_disk::{Disk, Files};
 use std::hash::{BuildHasher, RandomState};
 use std::io;
 
-/// So many pages that were read are kept in memory: 16 MiB.
+/// How many pages are cached: 16 MiB.
 const CACHE_PAGES: usize = 4096;
 
-/// So many pages come to the log before it is copied into the database file: 40 MiB. A page is copied once, however
-/// often it was written, so a long log spares most copies.
+/// After this many pages the log is copied into the database file: 40 MiB. A page is copied once,
+/// however often it was written, so a long log saves most copies.
 const CHECKPOINT_FRAMES: usize = 10_000;
 
-/// The connection to files whose first contents `S` stands for.
+/// The connection to files whose first contents are those of `S`.
 pub type FileConnection<S> = Connection<FileStore<FileFrom<S>>>;
 
 fn files_at<S: Start>(
@@ -38,7 +38,7 @@ fn files_at<S: Start>(
     }
 }
 
-/// The two files of a database, or new ones, as `open_file` takes them. They are locked, and not read yet.
+/// The two files of a database, or new ones, as for `open_file`. They are locked, and not read yet.
 pub fn open_files<S: Start>(
     rt: &HostRuntime,
     path: &str,
@@ -59,11 +59,12 @@ fn options(rt: &HostRuntime) -> io::Result<Options> {
     Ok(options)
 }
 
-/// Opens a database's file, or makes it. A new one keeps a sum of each page, by which damage is found.
+/// Opens a database's file, or creates it. A new one has a checksum for each page, which detects
+/// damage.
 ///
-/// A new file, and its log, can be read and written by its owner alone (mode 0600); a file that is there keeps its mode, which
-/// a new log gets too. What is no regular file, or begins as no database does and has no log, is told from its first 100 bytes,
-/// and nothing is made beside it.
+/// A new file, and its log, have mode 0600. An existing file keeps its mode, and a new log gets the
+/// same. If a file isn't regular, or has no log and doesn't begin as a database, its first 100
+/// bytes decide that. Then nothing is created beside it.
 pub fn open_file<S: Start>(
     rt: &HostRuntime,
     path: &str,
@@ -76,7 +77,7 @@ pub fn open_file<S: Start>(
     Ok(connection)
 }
 
-/// Opens the database of two files, which stay locked.
+/// Opens the database in two files, which stay locked.
 pub fn open_database<D: Disk + Drop>(
     rt: &HostRuntime,
     files: Files<D>,

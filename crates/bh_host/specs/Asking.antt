@@ -1,4 +1,4 @@
--- What a request asks for by its head, once its credentials are right.
+-- The operation in a request's head, if its credentials are right.
 use Rattle.std.specs.Prelude.{Option, Result}
 use Rattle.bh_types.specs.Outcomes.{◌>>=◌}
 use Rattle.bh_types.specs.Rejections.{plainly}
@@ -11,7 +11,7 @@ use Rattle.bh_model.specs.State.{State}
 use Rattle.bh_operation.specs.Operations.{operation}
 use Rattle.bh_operation.specs.declared.operation.Operation.{Operation}
 
--- the operation of a request of this access key, or its first refusal
+-- the operation of a request with this access key, or its first refusal
 abbrev pub asked_for : AccessKeyId → Taken → Option State → Result Operation Rejection
 asked_for key request s = do
   secret ← plainly (secret_given request)

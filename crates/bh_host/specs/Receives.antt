@@ -1,4 +1,4 @@
--- What a request does whose head was read and whose body comes in pieces.
+-- The effect of a request whose head was read and whose body is received in pieces.
 use Rattle.std.specs.Prelude.{◌≡◌, ◌≢◌, ◌⊎◌, ℕ, nat_le, length, List, if◌then◌else◌, Option, Some, None, Result, Ok, Err}
 use Rattle.std.specs.Io.KnownBytes.{IsAtEnd}
 use Rattle.bh_types.specs.Limits.{HostLimits}
@@ -26,7 +26,8 @@ use Rattle.bh_host.specs.declared.delivery.Served.TheVariants.{Kept, TakenBack}
 use Rattle.bh_host.specs.declared.delivery.Tried.{Tried}
 use Rattle.bh_host.specs.declared.delivery.Tried.TheVariants as tried
 
--- the reading of a request, by its head and the bytes of its body that came: with fewer than it announces it is incomplete
+-- a request, by its head and the received bytes of its body; it is incomplete if they are fewer
+-- than announced
 abbrev pub answered : Head → Octets → Result Taken Refusal
 answered head given = if nat_le head.body_size (length given) then Ok (with_body head given) else Err IncompleteBody
 
@@ -36,16 +37,16 @@ AppliedAs reading answer old new m reply =
     (stamp_of reading (latest_of old) ≡ Ok m) × (latest_of new ≡ m)
     × IsActDone (limits_in old) (RequestRead answer) m (with_latest m old) new reply
 
--- what its commit would have given
+-- the tables that its commit would have written
 abbrev pub WouldApplyAs : ℕ → Result Taken Refusal → Tables → Tables → Type 0
 WouldApplyAs reading answer old new = (m : ℕ) × (reply : List ℕ) × AppliedAs reading answer old new m reply
 
--- a request of a tenant is refused so, on tables without what is stale
+-- a tenant's request is refused so, on tables without its stale uploads
 abbrev pub IsRefusedAs : HostLimits → Octets → Taken → ℕ → Tables → List ℕ → Type 0
 IsRefusedAs limits t request m purged reply =
     (r : Rejection) × (requested limits m request (view purged t) ≡ Err r) × (reply ≡ text (RequestRead (Ok request)) (Err r))
 
--- nothing more is to come of a body: all of it came, or its bytes are at an end
+-- nothing is left of a body: all of it was received, or its bytes ended
 abbrev pub HasCome : Coming → Type 0
 HasCome body = (body.due ≡ 0) ⊎ IsAtEnd body.left
 
@@ -59,7 +60,8 @@ IfApplied (tried.TakenBack t text) P = Unit {0}
 
 -- ---- the stages
 
--- a request at the stamp m, before its transaction ends: answered as its turn, or refused; or wanting, or its body broke off
+-- a request at the stamp m, before its transaction ends: answered as its turn, refused, failed, or
+-- its body broke off
 abbrev pub ServedAs : Type 0 → HostLimits → Head → Octets → ℕ → Tables → Tables → Coming → Result Served Trouble → Type 0
 ServedAs clean limits head given m stamped new after (Ok (Kept composed)) =
     IsWhole after × (clean → IsActDone limits (RequestRead (Ok (with_body head given))) m stamped new (composed_in new composed))
@@ -74,7 +76,8 @@ pub record Serves (clean : Type 0) (limits : HostLimits) (head : Head) (m : ℕ)
   pub gives : Gives before after given
   pub served : ServedAs clean limits head given m stamped new after result
 
--- a stamp is written as the last one, and what is stale of a tenant is gone, where one is named; nothing else
+-- a stamp is written as the last one, and the stale uploads of a tenant are removed if it is named;
+-- nothing else
 abbrev pub Records : Option Octets → ℕ → Tables → Tables → Type 0
 Records None m old new = (new ≡ with_latest m old) × (latest_of new ≡ m)
 Records (Some t) m old new = Purges t m (with_latest m old) new × (latest_of new ≡ m)
@@ -91,7 +94,8 @@ module _ {H : Type 0} (IsIntact IsOpen : H → Type 0) (seen : H → Seen) (left
       (IsIntact new → IsOpen old × IsOpen new × AppliedAs reading answer (seen old).now (seen new).now m reply)
       × (IsIntact new → (x : Tables) → left new x → x ≡ (seen new).now)
 
-  -- a transaction that was begun for a request: committed; to be taken back, with the text of its refusal; or wanting
+  -- the transaction of a request: committed; to be rolled back, with the text of its refusal; or
+  -- failed
   abbrev pub TriedAs : ℕ → Head → Octets → Coming → H → H → Result Tried Trouble → Type 0
   TriedAs reading head given after old new (Ok (tried.Applied replied)) = IsWhole after
       × HasApplied reading (Ok (with_body head given)) old new (told_in (seen new).now replied).0 (told_in (seen new).now replied).1
@@ -113,7 +117,7 @@ module _ {H : Type 0} (IsIntact IsOpen : H → Type 0) (seen : H → Seen) (left
     pub gives : Gives before after given
     pub tried : TriedAs reading head given after old new result
 
-  -- a stamp is recorded, and a text answered; or nothing
+  -- a stamp is recorded and a text returned, or nothing happens
   abbrev pub AnewAs : ℕ → Option Octets → List ℕ → H → H → Option ℕ → List ℕ → Type 0
   AnewAs reading tenant text old new None reply =
       (IsIntact new → IsOpen new → IsOpen old × ((seen new).now ≡ (seen old).now))
@@ -127,8 +131,8 @@ module _ {H : Type 0} (IsIntact IsOpen : H → Type 0) (seen : H → Seen) (left
 
   -- ---- an event
 
-  -- with a stamp, the storage is open before and after, and nothing more is to come of the body; without one, what an open
-  -- storage shows is what it showed
+  -- with a stamp, the storage is open before and after, and the body has no bytes left; without
+  -- one, the tables of an open storage are unchanged
   abbrev pub ToldAs : ℕ → Result Taken Refusal → Coming → H → H → Option ℕ → List ℕ → Type 0
   ToldAs reading answer after old new None reply =
       (IsIntact new → IsOpen new → IsOpen old × ((seen new).now ≡ (seen old).now))
@@ -142,7 +146,7 @@ module _ {H : Type 0} (IsIntact IsOpen : H → Type 0) (seen : H → Seen) (left
       × (IsIntact new → IsOpen old × IsOpen new × AppliedAs reading answer (seen old).now (seen new).now m reply)
       × (IsIntact new → (x : Tables) → left new x → x ≡ (seen new).now)
 
-  -- what is told of a request that is there as a whole
+  -- the reply to a request that is present as a whole
   abbrev pub ToldOf : ℕ → Result Taken Refusal → H → H → Option ℕ × List ℕ → Type 0
   ToldOf reading answer old new (None, reply) =
       (IsIntact new → IsOpen new → IsOpen old × ((seen new).now ≡ (seen old).now))

@@ -1,4 +1,4 @@
--- The bytes that an act is answered with.
+-- The bytes of the reply to an act.
 use Rattle.std.specs.Prelude.{ℕ, Bool, true, false, List, [], ◌++◌, flat_map, length, codes, decimal, if◌then◌else◌, Option, Some, None}
 use Rattle.std.specs.Prelude.{Result, Ok, Err}
 use Rattle.std.specs.Str.{bytes_eq}
@@ -27,7 +27,7 @@ use Rattle.bh_types.specs.declared.range.RangePlan.{RangePlan}
 use Rattle.bh_types.specs.declared.range.RangePlan.TheVariants.{Whole, Part}
 use Rattle.bh_types.specs.declared.refusal.Refusal.{Refusal}
 use Rattle.bh_types.specs.declared.rejection.Detail.{Detail}
-use Rattle.bh_types.specs.declared.rejection.Detail.TheVariants.{CurrentMarker, NamedMarker, ObjectSize}
+use Rattle.bh_types.specs.declared.rejection.Detail.TheVariants.{CurrentMarker, NamedMarker, UndatedMarker, ObjectSize}
 use Rattle.bh_types.specs.declared.rejection.Rejection.{Rejection}
 use Rattle.bh_types.specs.declared.refusal.Refusal.TheVariants.{MethodNotAllowed, ClockOutOfRange, ServiceUnavailable, Unavailable}
 use Rattle.bh_storage.specs.declared.error.Trouble.{Trouble}
@@ -40,11 +40,11 @@ use Rattle.bh_host.specs.declared.reply.Caller.TheVariants.{Request, Operator}
 use Rattle.bh_host.specs.declared.reply.Reply.{Reply}
 use Rattle.bh_host.specs.declared.reply.Reply.TheVariants as reply
 
--- the path of a target as it was sent; bytes that are no UTF-8 are shown as U+FFFD
+-- the path of a target as it was sent; bytes that are not UTF-8 become U+FFFD
 abbrev pub shown_path : Octets → Octets
 shown_path target = utf8_lossy (path_of target)
 
--- the part of an object that is answered, where it is not the whole
+-- the range that is returned, if it isn't the whole object
 -- RFC 9110, sections 14.4 and 15.3.7
 abbrev pub part_told : ℕ → RangePlan → Option ContentRange
 part_told size Whole = None
@@ -54,7 +54,7 @@ abbrev pub status_for : RangePlan → ℕ
 status_for Whole = 200
 status_for (Part first last) = 206
 
--- the response to HeadObject, and what a get tells of the whole object
+-- the response to HeadObject, and the head fields of a get of the whole object
 abbrev pub head_response : Option VersionId → ℕ → Octets → Sent
 head_response id size checksum = record (bare 200) {
   content_type = Some OctetStream;
@@ -64,7 +64,7 @@ head_response id size checksum = record (bare 200) {
   version_id = id;
 }
 
--- the response to a request that was not refused; no operation tells the names of keys
+-- the response to a request that was not refused; no operation returns the names of keys
 abbrev pub response_to : Answer → Sent
 response_to Done = empty 200
 response_to (Removed id marker) = record (bare 204) { version_id = id; delete_marker = marker }
@@ -91,24 +91,25 @@ response_to (Used usage) = with_document 200 (usage_text usage)
 response_to (Keys names) = empty 200
 response_to (Completed bucket key id checksum) = record (with_document 200 (completed_text bucket checksum key)) { version_id = id }
 
--- the methods that may be used: of a delete marker that was named, or of the target where the method was at fault
+-- the methods of Allow: those of a named delete marker, or of the target if the method was wrong
 abbrev pub allow_told : Octets → Refusal → Detail → Option Allow
 allow_told target refusal NamedMarker = Some Marker
+allow_told target refusal UndatedMarker = Some Marker
 allow_told target MethodNotAllowed detail = allow_of target
 allow_told target refusal detail = None
 
--- whether a delete marker was met
+-- whether the detail is a delete marker that the response names: that of an operation on objects
 abbrev pub marker_told : Detail → Bool
 marker_told CurrentMarker = true
 marker_told NamedMarker = true
 marker_told detail = false
 
--- the size of an object of which no byte was asked for (RFC 9110, section 14.4)
+-- the size of an object, if the requested range has none of its bytes (RFC 9110, section 14.4)
 abbrev pub range_told : Detail → Option ContentRange
 range_told (ObjectSize size) = Some (Unsatisfied size)
 range_told detail = None
 
--- the document of a refusal names the target's path
+-- the document of a refusal has the target's path
 abbrev pub document_for : Octets → Refusal → Octets
 document_for target refusal = error_text (code_of refusal) (shown_path target)
 
@@ -124,19 +125,19 @@ abbrev pub response : Octets → Result Answer Rejection → Sent
 response target (Ok answer) = response_to answer
 response target (Err rejection) = refusal_to target rejection
 
--- HEAD is answered with the head of the response alone (RFC 9110, section 9.3.2)
+-- for HEAD the head of the response alone (RFC 9110, section 9.3.2)
 abbrev pub body_for : Octets → Octets → Octets
 body_for method body = if bytes_eq method (codes "HEAD") then [] else body
 
 abbrev pub sent_for : Octets → Sent → Sent
 sent_for method sent = record sent { body = body_for method sent.body }
 
--- the response to a request, or to bytes that are none
+-- the response to a request, or to bytes that are not one
 abbrev pub asked_text : Result Taken Refusal → Result Answer Rejection → Octets
 asked_text (Ok request) outcome = response_text (sent_for request.method (response request.target outcome))
 asked_text (Err refusal) outcome = response_text (response [] outcome)
 
--- the line that tells what an order did
+-- an operator's reply to an order
 abbrev pub line_of : Order → Octets
 line_of (AddTenant tenant quota) = codes "tenant " ++ tenant
 line_of (SetQuota tenant quota) = codes "quota " ++ (tenant ++ (codes " " ++ decimal quota))
@@ -145,15 +146,15 @@ line_of (RemoveKey tenant name) = codes "removed " ++ (tenant ++ (codes "$" ++ n
 line_of (ShowUsage tenant) = codes "usage " ++ tenant
 line_of (ShowKeys tenant) = codes "keys " ++ tenant
 
--- of a line whose words are parted by spaces: one more
+-- a word after a space
 abbrev pub next_word : Octets → Octets
 next_word word = codes " " ++ word
 
--- how many names there are, and then each of them
+-- the number of names, and the names
 abbrev pub names_end : List Octets → Octets
 names_end names = codes " " ++ (decimal (length names) ++ flat_map next_word names)
 
--- what the answer adds to it
+-- the answer's values in it
 abbrev pub line_end : Answer → Octets
 line_end (Used usage) = codes " bytes " ++ (decimal usage.bytes ++ (codes " quota " ++ decimal usage.quota))
 line_end (Keys names) = names_end names
@@ -163,12 +164,12 @@ abbrev pub line : Order → Result Answer Rejection → Octets
 line order (Ok answer) = line_of order ++ line_end answer
 line order (Err rejection) = refusal_text rejection.refusal
 
--- the bytes that an act's outcome is told in
+-- the bytes of the reply to an act
 unfoldable pub text : Act → Result Answer Rejection → Octets
 text (RequestRead answer) outcome = asked_text answer outcome
 text (Commanded order) outcome = line order outcome
 
--- the lines that tell what a sweep removed, and what is stored
+-- operators' replies to a sweep and to a report
 abbrev pub sweep_text : SweepReport → Octets
 sweep_text report =
     codes "sweep uploads "
@@ -182,7 +183,7 @@ report_text report =
     ++ (codes " stored "
     ++ (decimal report.stored ++ (codes " referred " ++ (decimal report.referred ++ (codes " clashes " ++ decimal report.clashes))))))
 
--- the line that tells all tenants: how many there are, and then each with what it uses
+-- an operator's reply with all tenants: their number, and then each with what it uses
 abbrev pub tenant_words : TenantTold → Octets
 tenant_words t = t.name ++ (codes " bytes " ++ (decimal t.used
     ++ (codes " quota " ++ (decimal t.quota ++ (codes " keys " ++ decimal t.keys)))))
@@ -190,7 +191,7 @@ tenant_words t = t.name ++ (codes " bytes " ++ (decimal t.used
 abbrev pub tenants_text : List TenantTold → Octets
 tenants_text tenants = codes "tenants " ++ (decimal (length tenants) ++ flat_map (λ t. next_word (tenant_words t)) tenants)
 
--- who asks: a request, or an operator
+-- who sent a message: a client or an operator
 abbrev pub caller_of : Message → Caller
 caller_of (Requested bytes) = Request
 caller_of (Ordered order) = Operator
@@ -198,7 +199,7 @@ caller_of (SweepOrdered limit) = Operator
 caller_of ReportOrdered = Operator
 caller_of TenantsOrdered = Operator
 
--- the fixed texts: of a reading above its limit, and where memory or the store was wanting
+-- the fixed replies: to a reading above its limit, and if memory or the store failed
 abbrev pub clock_text : Caller → Octets
 clock_text Request = response_text (bare_refusal ClockOutOfRange)
 clock_text Operator = refusal_text ClockOutOfRange
@@ -211,9 +212,11 @@ abbrev pub reply_bytes : Reply → Octets
 reply_bytes (reply.ClockOutOfRange caller) = clock_text caller
 reply_bytes (reply.Wanting caller trouble) = wanting_text caller
 reply_bytes (reply.Text bytes) = bytes.items
+reply_bytes (reply.Gathered bytes count) = bytes.items
 
--- what was wanting; the bytes don't tell it
+-- the failure behind a reply; the bytes don't reveal it
 abbrev pub reply_trouble : Reply → Option Trouble
 reply_trouble (reply.ClockOutOfRange caller) = None
 reply_trouble (reply.Wanting caller trouble) = Some trouble
 reply_trouble (reply.Text bytes) = None
+reply_trouble (reply.Gathered bytes count) = None

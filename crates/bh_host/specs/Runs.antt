@@ -1,4 +1,4 @@
--- A list of events, and what each tenant is told, as if it were alone.
+-- A list of events, and that each tenant is answered as if it were alone.
 use Rattle.std.specs.Prelude.{◌≡◌, ◌⊎◌, ◌++◌, ℕ, List, [], ◌∷◌, Option, Some, None, Ok}
 use Rattle.bh_types.specs.Limits.{HostLimits}
 use Rattle.bh_event.specs.Events.{Message, Requested, Ordered, SweepOrdered, ReportOrdered, TenantsOrdered, Arrival}
@@ -12,7 +12,7 @@ use Rattle.bh_view.specs.View.{view, latest_of, limits_in}
 use Rattle.bh_host.specs.Replies.{text}
 use Rattle.bh_host.specs.Turns.{Applied, IsToldApart, WouldApply, fixed}
 
--- a request or a command with a stamp: what it turned out to be, and the bytes that were answered
+-- a request or a command with a stamp: how it was understood, and the bytes of its reply
 abbrev pub Turn : Type 0
 Turn = runs.Turn Act (List ℕ)
 
@@ -20,7 +20,7 @@ Turn = runs.Turn Act (List ℕ)
 abbrev pub Told : Type 0
 Told = Option ℕ × List ℕ
 
--- ---- what a list of events does, one after another
+-- ---- the effect of a list of events, one after another
 
 abbrev pub Ran : List Arrival → List Told → Tables → Tables → Type 0
 Ran [] [] old new = new ≡ old
@@ -29,15 +29,16 @@ Ran (event ∷ events) [] old new = ⊥
 Ran (event ∷ events) ((stamp, reply) ∷ dones) old new =
     (mid : Tables) × Applied event old mid stamp reply × IsToldApart event stamp reply × Ran events dones mid new
 
--- what a crash may leave once events were applied, given what it might have left before them: after an event with a stamp,
--- the tables at the end; after one without, also what its commit would have given. What comes before the last stamp doesn't count
+-- what a crash may leave after events, given what it could leave before them. After an event with a
+-- stamp: the tables at the end. After one without: also what its commit would have written. What
+-- came before the last stamp doesn't count
 abbrev pub MayRemain : List Arrival → List Told → (Tables → Type 0) → Tables → Tables → Type 0
 MayRemain [] dones before end x = before x
 MayRemain (event ∷ events) [] before end x = before x
 MayRemain (event ∷ events) ((Some m, reply) ∷ dones) before end x = MayRemain events dones (λ y. y ≡ end) end x
 MayRemain (event ∷ events) ((None, reply) ∷ dones) before end x = MayRemain events dones (λ y. before y ⊎ WouldApply event end y) end x
 
--- a run leaves so much of a storage: an open one shows the tables at the end
+-- a run's effect on a storage: if it is open, its tables are those at the end
 pub record RanOn {H : Type 0} (IsOpen : H → Type 0) (seen : H → Seen) (left : H → Tables → Type 0) (events : List Arrival)
     (dones : List Told) (old new : H) : Type 0 where
   pub end : Tables
@@ -45,9 +46,10 @@ pub record RanOn {H : Type 0} (IsOpen : H → Type 0) (seen : H → Seen) (left 
   pub now : IsOpen new → (seen new).now ≡ end
   pub crash : (x : Tables) → left new x → MayRemain events dones (left old) end x
 
--- ---- whose events they were, and what each tenant is told
+-- ---- whose events they were, and what each tenant is answered
 
--- a request or a command is one turn; a sweep, a report and a list of tenants are nobody's, and none
+-- a request or a command is one turn; a sweep, a report and a list of tenants belong to no tenant,
+-- and are no turn
 abbrev pub IsOneTurn : HostLimits → Message → ℕ → List ℕ → List Turn → Type 0
 IsOneTurn limits message m reply turns =
     (act : Act) × Acted limits message act × (turns ≡ record { act = act; stamp = m; reply = reply } ∷ [])
@@ -59,13 +61,15 @@ AreTurnsOf limits (SweepOrdered limit) m reply turns = turns ≡ []
 AreTurnsOf limits ReportOrdered m reply turns = turns ≡ []
 AreTurnsOf limits TenantsOrdered m reply turns = turns ≡ []
 
--- an event with a stamp is its turns, and its stamp the last one from then on; one without got the fixed reply, and is none
+-- an event with a stamp is its turns, and its stamp is the last one from then on; an event without
+-- one got the fixed reply, and is no turn
 abbrev pub IsShown : HostLimits → Arrival → Told → List Turn → ℕ → ℕ → Type 0
 IsShown limits event (None, reply) turns last next = (reply ≡ fixed event) × (turns ≡ []) × (next ≡ last)
 IsShown limits event (Some m, reply) turns last next =
     (stamp_of event.reading last ≡ Ok m) × AreTurnsOf limits event.message m reply turns × (next ≡ m)
 
--- from one last stamp to another, the turns of all events are the first one's, and then the others'
+-- from one last stamp to another, the turns of all events are the first event's, followed by the
+-- others'
 abbrev pub Shows : HostLimits → ℕ → List Arrival → List Told → List Turn → ℕ → Type 0
 Shows limits to [] [] turns from = (turns ≡ []) × (to ≡ from)
 Shows limits to [] (done ∷ dones) turns from = ⊥
@@ -74,7 +78,7 @@ Shows limits to (event ∷ events) (done ∷ dones) turns from =
     (first : List Turn) × (others : List Turn) × (next : ℕ)
     × IsShown limits event done first from next × (turns ≡ first ++ others) × Shows limits to events dones others next
 
--- a tenant's own acts with their stamps, and what it was told
+-- a tenant's own acts with their stamps, and its replies
 abbrev pub own : Octets → List Turn → List (ℕ × Act)
 own = runs.own owner_of
 
@@ -92,7 +96,7 @@ solo limits = runs.solo (replied limits)
 abbrev pub solo_state : HostLimits → Option State → List (ℕ × Act) → Option State
 solo_state limits = runs.solo_state (replied limits)
 
--- each tenant is told what a machine alone tells it
+-- each tenant is answered as by a machine of its own
 abbrev pub IsAlone : HostLimits → List Turn → Tables → Tables → Type 0
 IsAlone limits turns old new = (t : Octets) (s : Option State) → Follows s (view old t) (latest_of old)
     → (replies_to t turns ≡ solo limits s (own t turns)) × Follows (solo_state limits s (own t turns)) (view new t) (latest_of new)
@@ -101,7 +105,7 @@ pub record HasRun (limits : HostLimits) (events : List Arrival) (dones : List To
   pub shown : Shows limits (latest_of new) events dones turns (latest_of old)
   pub alone : IsAlone limits turns old new
 
--- the turns of a run on a storage: an open one shows the tables at the end
+-- the turns of a run on a storage: if it is open, its tables are those at the end
 pub record HasRunOn {H : Type 0} (IsOpen : H → Type 0) (seen : H → Seen) (events : List Arrival) (dones : List Told) (old new : H) :
     Type 0 where
   pub end : Tables
@@ -109,7 +113,7 @@ pub record HasRunOn {H : Type 0} (IsOpen : H → Type 0) (seen : H → Seen) (ev
   pub has_run : HasRun (limits_in (seen old).now) events dones turns (seen old).now end
   pub now : IsOpen new → (seen new).now ≡ end
 
--- every tenant is alone in what was run
+-- each tenant is alone in the run
 abbrev pub EachIsAlone : Type 0
 EachIsAlone = (events : List Arrival) (dones : List Told) (old new : Tables)
     → Ran events dones old new → (turns : List Turn) × HasRun (limits_in old) events dones turns old new
@@ -126,7 +130,7 @@ abbrev pub HasOneTelling : Type 0
 HasOneTelling = (limits : HostLimits) (to : ℕ) (events : List Arrival) (dones : List Told) (turns turns2 : List Turn) (from : ℕ)
     → Shows limits to events dones turns from → Shows limits to events dones turns2 from → turns ≡ turns2
 
--- a run and then a run is a run of all
+-- two runs, one after the other, are one run of all events
 abbrev pub RunsJoin : Type 0
 RunsJoin = (events more : List Arrival) (dones others : List Told) (old mid new : Tables)
     → Ran events dones old mid → Ran more others mid new → Ran (events ++ more) (dones ++ others) old new

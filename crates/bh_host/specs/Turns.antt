@@ -1,4 +1,4 @@
--- What one event does to the tables, and what it is answered.
+-- An event's effect on the tables, and its reply.
 use Rattle.std.specs.Prelude.{◌≡◌, ◌≢◌, ℕ, List, nat_lt, IfErr, Option, Some, None, Result, Ok, Err, if◌then◌else◌}
 use Rattle.bh_types.specs.Limits.{HostLimits}
 use Rattle.bh_types.specs.Rejections.{plain}
@@ -21,15 +21,15 @@ use Rattle.bh_host.specs.Replies.{text, sweep_text, report_text, tenants_text, c
 
 -- ---- an act at the stamp m, on a host with these limits. `stamped` is the tables before it with m as the last stamp
 
--- the owner is told, and then has, what the machine's step gives; all others see what they saw
+-- the owner gets the reply and the state of the machine's step; all others see no change
 pub record Owned (limits : HostLimits) (t : Octets) (m : ℕ) (act : Act) (stamped new : Tables) (reply : List ℕ) : Type 0 where
   pub told : reply ≡ text act (step limits m act (view stamped t)).0
   pub own : view new t ≡ (step limits m act (view stamped t)).1
   pub others : OthersSame t stamped new
-  -- a refusal leaves all tables but for the owner's stale uploads
+  -- a refusal changes no table, except that the owner's stale uploads are removed
   pub refused : IfErr (step limits m act (view stamped t)).0 (λ _. new ≡ rows_purged t m stamped)
 
--- nobody is answered as a tenant that was not added is, and all tables stay
+-- a request of no tenant is answered like one of a tenant that doesn't exist, and changes no table
 pub record IsNobody (limits : HostLimits) (m : ℕ) (act : Act) (stamped new : Tables) (reply : List ℕ) : Type 0 where
   pub told : reply ≡ text act (step limits m act None).0
   pub same : new ≡ stamped
@@ -38,15 +38,15 @@ abbrev pub IsActDoneFor : HostLimits → Option Octets → ℕ → Act → Table
 IsActDoneFor limits (Some t) m act stamped new reply = Owned limits t m act stamped new reply
 IsActDoneFor limits None m act stamped new reply = IsNobody limits m act stamped new reply
 
--- an act is judged by whose it is; what all tenants share is kept
+-- an act is judged by whose it is; what all tenants share is unchanged
 pub record IsActDone (limits : HostLimits) (act : Act) (m : ℕ) (stamped new : Tables) (reply : List ℕ) : Type 0 where
   pub judged : IsActDoneFor limits (owner_of act) m act stamped new reply
   pub latest : latest_of new ≡ latest_of stamped
   pub same_limits : limits_in new ≡ limits_in stamped
   pub shared : KeepsShared stamped new
 
--- a sweep at the stamp m takes what is due first, whosever it is, and tells how much that was; each tenant's state, once
--- purged, is as before
+-- a sweep at the stamp m removes what is due first, whichever tenant has it, and returns how much
+-- that was; each tenant's state, once purged, is as before
 pub record IsSweepDone (limit m : ℕ) (stamped new : Tables) (reply : List ℕ) : Type 0 where
   pub told : reply ≡ sweep_text (sweep_counts m limit stamped)
   pub is : new ≡ swept m limit stamped
@@ -54,12 +54,12 @@ pub record IsSweepDone (limit m : ℕ) (stamped new : Tables) (reply : List ℕ)
   pub latest : latest_of new ≡ latest_of stamped
   pub same_limits : limits_in new ≡ limits_in stamped
 
--- a report tells what is stored, and all tables stay
+-- a report returns what is stored, and changes no table
 pub record IsReportDone (stamped new : Tables) (reply : List ℕ) : Type 0 where
   pub told : reply ≡ report_text (store_counts stamped)
   pub same : new ≡ stamped
 
--- a list of tenants tells each of them, and all tables stay
+-- a list of tenants names each of them, and changes no table
 pub record IsListDone (stamped new : Tables) (reply : List ℕ) : Type 0 where
   pub told : reply ≡ tenants_text (tenants_told stamped)
   pub same : new ≡ stamped
@@ -74,19 +74,19 @@ IsServed limits (SweepOrdered limit) m stamped new reply = IsSweepDone limit m s
 IsServed limits ReportOrdered m stamped new reply = IsReportDone stamped new reply
 IsServed limits TenantsOrdered m stamped new reply = IsListDone stamped new reply
 
--- the bytes that an outcome is told in; trouble isn't told
+-- the bytes of an outcome; failures aren't described
 abbrev pub Tells : {X : Type 0} → (X → Answer) → Act → Result X (StepError Rejection) → List ℕ → Type 0
 Tells shown act (Ok answer) bytes = bytes ≡ text act (Ok (shown answer))
 Tells shown act (Err (Refused r)) bytes = bytes ≡ text act (Err r)
 Tells shown act (Err (Failed trouble)) bytes = ⊥
 
--- the line that tells what came of an order
+-- the reply to an order
 abbrev pub TellsOrder : {X : Type 0} → (X → Answer) → Order → Result X (StepError Refusal) → List ℕ → Type 0
 TellsOrder shown order (Ok answer) bytes = bytes ≡ text (Commanded order) (Ok (shown answer))
 TellsOrder shown order (Err (Refused r)) bytes = bytes ≡ text (Commanded order) (Err (plain r))
 TellsOrder shown order (Err (Failed trouble)) bytes = ⊥
 
--- an event that is no request
+-- an event that is not a request
 abbrev pub IsOrder : Message → Type 0
 IsOrder (Requested bytes) = ⊥
 IsOrder (Ordered order) = Unit {0}
@@ -100,7 +100,7 @@ IsOrder TenantsOrdered = Unit {0}
 abbrev pub request_at : ℕ → List ℕ → Arrival
 request_at reading bytes = record { reading = reading; message = Requested bytes }
 
--- the fixed reply to an event that is left out
+-- the fixed reply to an event that isn't applied
 abbrev pub fixed : Arrival → List ℕ
 fixed event = if nat_lt last_reading event.reading then clock_text (caller_of event.message) else wanting_text (caller_of event.message)
 
@@ -109,18 +109,20 @@ abbrev pub IsToldApart : Arrival → Option ℕ → List ℕ → Type 0
 IsToldApart event None reply = reply ≡ fixed event
 IsToldApart event (Some m) reply = (reply ≢ clock_text (caller_of event.message)) × (reply ≢ wanting_text (caller_of event.message))
 
--- what an event does: without a stamp nothing, and with one a turn at the greater of the reading and the last stamp
+-- an event's effect: without a stamp none, and with one a turn at the greater of the reading and
+-- the last stamp
 abbrev pub Applied : Arrival → Tables → Tables → Option ℕ → List ℕ → Type 0
 Applied event old new None reply = new ≡ old
 Applied event old new (Some m) reply =
     (stamp_of event.reading (latest_of old) ≡ Ok m) × (latest_of new ≡ m)
     × IsServed (limits_in old) event.message m (with_latest m old) new reply
 
--- what an event does to a storage: with a stamp, it is open before and after; without one, what an open one shows is what it showed
+-- an event's effect on a storage: with a stamp, it is open before and after; without one, the
+-- tables of an open one are unchanged
 abbrev pub AppliedTo : {H : Type 0} → (H → Type 0) → (H → Seen) → Arrival → H → H → Option ℕ → List ℕ → Type 0
 AppliedTo IsOpen seen event old new None reply = IsOpen new → IsOpen old × ((seen new).now ≡ (seen old).now)
 AppliedTo IsOpen seen event old new (Some m) reply = IsOpen old × IsOpen new × Applied event (seen old).now (seen new).now (Some m) reply
 
--- what the event's commit would have given
+-- the tables that the event's commit would have written
 abbrev pub WouldApply : Arrival → Tables → Tables → Type 0
 WouldApply event old new = (m : ℕ) × (reply : List ℕ) × Applied event old new (Some m) reply

@@ -49,7 +49,7 @@ pub fn response_to(alloc: Global, answer: Answer) -> Result<Response, AllocError
         Answer::PartStored(checksum) => Ok(part_stored(alloc, checksum)),
         Answer::Completed(upload) => completed(alloc, &upload),
         Answer::Used(usage) => used(alloc, &usage),
-        // No operation answers so.
+        // No operation has this answer.
         Answer::Keys(_) => Ok(Response::empty(alloc, StatusCode::OK)),
     }
 }
@@ -81,7 +81,7 @@ fn copied(alloc: Global, version: &CopiedVersion) -> Result<Response, AllocError
     Ok(response)
 }
 
-/// The head of an object, which no byte follows.
+/// The response head of an object, without its bytes.
 fn headed(alloc: Global, head: ObjectHead) -> Response
     ensures { response_view result ≡ spec.response_to (head_answer head) }
 {
@@ -94,7 +94,8 @@ fn headed(alloc: Global, head: ObjectHead) -> Response
     response
 }
 
-/// The head of an object's bytes, or of the part of them that was asked for (RFC 9110, section 15.3.7): so many.
+/// The response head of a download: of a whole object, or of the range that was requested (RFC
+/// 9110, section 15.3.7). `count` is its Content-Length.
 pub fn found(alloc: Global, head: ObjectHead, range: RangePlan, count: u64) -> Response
     ensures is { (bytes : Octets) → count ≡ length bytes
         → record (response_view result) { body = bytes }
@@ -118,7 +119,7 @@ fn status_for(plan: RangePlan) -> StatusCode
     }
 }
 
-/// The part of an object of this many bytes, if not the whole is answered.
+/// The range of an object of this size, unless the whole is returned.
 fn part_told(size: u64, plan: RangePlan) -> Option<ContentRange>
     ensures { result ≡ spec.part_told size plan }
 {
@@ -149,7 +150,7 @@ fn lifecycle(alloc: Global, days: u16) -> Result<Response, AllocError>
     Ok(Response::with_document(alloc, StatusCode::OK, document.into_bytes()))
 }
 
-/// A version's retention, which is told by an empty document where it has no date.
+/// A version's retention. If it has no date, the document is empty.
 fn retention(alloc: Global, date: Option<Moment>) -> Result<Response, AllocError>
     ensures { IfOk result (λ response. response_view response ≡ spec.response_to (Retention date)) }
 {

@@ -1,10 +1,12 @@
-//! What a request is answered, at once or in pieces.
+//! The response to a request, delivered at once or in pieces.
 
-ghost use Rattle.std.specs.Prelude.{◌≡◌, ◌<◌, ◌++◌, Some, Ok, IfOk, OnOk, true, false};
+ghost use Rattle.std.specs.Prelude.{◌≡◌, ◌<◌, ◌≤◌, ◌++◌, Some, Ok, IfOk, OnOk, true, false};
 ghost use Rattle.bh_storage.specs.Calls.{Clean, Within, IsWorking};
 ghost use Rattle.bh_storage.specs.Plans.{to_come};
 ghost use Rattle.bh_tables.specs.Typed.{Tables};
 ghost use Rattle.bh_host.specs.Answers.{composed_in, told_in, in_one_write, IsComplete, IsGreat, IsToldWhole};
+ghost use Rattle.bh_host.specs.Answers.{IsOnlyGreatPlanned, IsToldAsGreat, IsPlanMeasured, IsToldMeasured};
+ghost use Rattle.bh_host.specs.Answers.{Counts, IsSmall, IsToldSmall, IsToldNoted};
 ghost use Rattle.bh_host.specs.declared.delivery.Delivery.TheVariants.{AtOnce, InPieces};
 
 use crate::event::Told;
@@ -16,23 +18,26 @@ use bh_types::moment::Moment;
 use bh_types::names::TenantName;
 use std::alloc::Global;
 
-/// How an object's bytes are answered.
+/// How an object's bytes are delivered.
 #[derive(Clone, Copy, PartialEq, Eq)]
 pub enum Delivery {
-    /// With what comes before them, all at once: they are read before the transaction ends.
+    /// All at once, with the response head: they are read before the transaction ends.
     AtOnce,
-    /// As they are read, once the transaction is committed; a few with what comes before them.
+    /// In pieces, read after the transaction was committed. The first few bytes are sent with the
+    /// response head.
     InPieces,
 }
 
-/// How many bytes of an object go out with what comes before them, in one write.
+/// Up to this many bytes of an object are sent in one write with the response head.
 const IN_ONE_WRITE: u64 = 65_536;
 
 impl Delivery {
-    /// Whether so many bytes are read before the transaction ends.
+    /// Whether an object of `count` bytes is read before the transaction ends.
     fn is_at_once(self, count: u64) -> bool
         ensures whole { self ≡ AtOnce → result ≡ true }
         ensures later { self ≡ InPieces → in_one_write < count → result ≡ false }
+        ensures great { result ≡ false → in_one_write < count }
+        ensures small { self ≡ InPieces → result ≡ true → count ≤ in_one_write }
     {
         match self {
             Delivery::AtOnce => true,
@@ -45,43 +50,45 @@ impl Delivery {
 #[derive(Drop)]
 pub enum Composed {
     Whole(Vec<u8>),
-    /// What comes before an object's bytes, and these are still to be read.
+    /// The response head, and then this many bytes of the object.
+    Gathered(Vec<u8>, u64),
+    /// The response head, and a plan of the object's bytes, which are still to be read.
     Planned(Vec<u8>, Plan),
 }
 
-/// What a request was answered, before its transaction ends.
+/// The result of a request, before its transaction ends.
 #[derive(Drop)]
 pub enum Served {
     Kept(Composed),
-    /// A refusal of a tenant's request, after which the tables are to be taken back.
+    /// A refused tenant request whose changes have to be rolled back.
     TakenBack(TenantName, Vec<u8>),
 }
 
-/// A reply of which an object's bytes are still to be read.
+/// A reply whose object bytes are still to be read.
 #[derive(Drop)]
 pub struct PlannedReply {
     pub stamp: Moment,
-    /// What comes before these bytes.
+    /// The response head.
     pub head: Vec<u8>,
     pub plan: Plan,
 }
 
-/// What a request was answered.
+/// The reply to a request.
 #[derive(Drop)]
 pub enum Replied {
     Told(Told),
     Planned(PlannedReply),
 }
 
-/// What a transaction for a request came to.
+/// The result of a request's transaction.
 #[derive(Drop)]
 pub enum Tried {
     Applied(Replied),
-    /// A refusal: only the stamp and the going of the tenant's stale uploads are to be recorded.
+    /// A refusal: only the stamp and the removal of the tenant's stale uploads are recorded.
     TakenBack(TenantName, Vec<u8>),
 }
 
-/// Reads all that is to come of an object, and appends it to what comes before.
+/// Reads all remaining bytes of an object, and appends them to the response head.
 fn gather<H: Storage>(
     alloc: Global,
     host: &mut H,
@@ -106,7 +113,7 @@ fn gather<H: Storage>(
     }
 }
 
-/// An answer as it is to be delivered.
+/// An answer, in the form in which it is delivered.
 pub fn delivered<H: Storage>(
     alloc: Global,
     host: &mut H,
@@ -121,12 +128,19 @@ pub fn delivered<H: Storage>(
         → composed_in (H.seen host.old).now given ≡ composed_in (H.seen host.old).now composed) }
     ensures whole { IfOk result (λ given. delivery ≡ AtOnce → IsComplete given) }
     ensures later { delivery ≡ InPieces → IsGreat composed → (result ≡ Ok composed) × (host.new ≡ host.old) }
+    ensures great { IfOk result IsOnlyGreatPlanned }
+    ensures measured { (tables : Tables) → IsPlanMeasured tables composed → IfOk result (IsPlanMeasured tables) }
+    ensures counted { IfOk result (Counts composed) }
+    ensures small { delivery ≡ InPieces → IsSmall composed → IfOk result IsSmall }
 {
     match composed {
         Composed::Whole(bytes) => Ok(Composed::Whole(bytes)),
+        Composed::Gathered(bytes, count) => Ok(Composed::Gathered(bytes, count)),
         Composed::Planned(head, plan) => {
-            if delivery.is_at_once(plan.left) {
-                Ok(Composed::Whole(gather(alloc, host, head, plan)?))
+            let count = plan.left;
+            if delivery.is_at_once(count) {
+                let bytes = gather(alloc, host, head, plan)?;
+                Ok(Composed::Gathered(bytes, count))
             } else {
                 Ok(Composed::Planned(head, plan))
             }
@@ -134,16 +148,24 @@ pub fn delivered<H: Storage>(
     }
 }
 
-/// An answer at its stamp.
+/// An answer and its stamp.
 pub fn replied_at(stamp: Moment, composed: Composed) -> Replied
     ensures told { (tables : Tables) → told_in tables result ≡ (Some stamp, composed_in tables composed) }
     ensures whole { IsComplete composed → IsToldWhole result }
+    ensures great { IsOnlyGreatPlanned composed → IsToldAsGreat result }
+    ensures small { IsSmall composed → IsToldSmall result }
+    ensures noted { IsToldNoted result }
+    ensures measured { (tables : Tables) → IsPlanMeasured tables composed → IsToldMeasured tables result }
 {
-    match composed {
-        Composed::Whole(bytes) => Replied::Told(Told {
-            stamp: Some(stamp),
-            reply: Reply::Text(bytes),
-        }),
-        Composed::Planned(head, plan) => Replied::Planned(PlannedReply { stamp, head, plan }),
-    }
+    let reply = match composed {
+        Composed::Whole(bytes) => Reply::Text(bytes),
+        Composed::Gathered(bytes, count) => Reply::Gathered(bytes, count),
+        Composed::Planned(head, plan) => {
+            return Replied::Planned(PlannedReply { stamp, head, plan });
+        }
+    };
+    Replied::Told(Told {
+        stamp: Some(stamp),
+        reply,
+    })
 }

@@ -1,4 +1,4 @@
-ghost use Rattle.std.specs.Prelude.{◌≡◌, ◌⊎◌, ◌<◌, ◌≤◌, ℕ, Ok, Err, Some, None, IfOk, IfSome, IfNone, OnOk, OnErr};
+ghost use Rattle.std.specs.Prelude.{◌≡◌, ◌⊎◌, ◌<◌, ◌≤◌, ℕ, Ok, Err, Some, None, is_some, IfOk, IfSome, IfNone, OnOk, OnErr};
 ghost use Rattle.bh_event.specs.Events.{arrival, order_of};
 ghost use Rattle.bh_machine.specs.Machine.{Commanded, owner_of as owner_of_act};
 ghost use Rattle.bh_model.specs.Runs.{last_reading};
@@ -7,9 +7,9 @@ ghost use Rattle.bh_tables.specs.Typed.{Tables};
 ghost use Rattle.bh_view.specs.View.{latest_of};
 ghost use Rattle.bh_http.specs.Reading.{completed};
 ghost use Rattle.bh_http.specs.Views.{announced_view};
-ghost use Rattle.bh_host.specs.Answers.{told};
+ghost use Rattle.bh_host.specs.Answers.{told, is_wanting, IsNoted};
 ghost use Rattle.bh_host.specs.Receives.{ToldOf};
-ghost use Rattle.bh_host.specs.Replies.{clock_text, reply_bytes};
+ghost use Rattle.bh_host.specs.Replies.{clock_text, reply_bytes, reply_trouble};
 ghost use Rattle.bh_host.specs.Replies as reply;
 ghost use Rattle.bh_host.specs.Resting.{StaysAtRest};
 ghost use Rattle.bh_host.specs.Turns.{IsServed, IsActDone, IsSweepDone, IsReportDone, IsListDone, IsOrder, IsToldApart, WouldApply};
@@ -31,21 +31,22 @@ use bh_types::names::TenantName;
 use bh_types::refusal::Refusal;
 use std::alloc::{AllocError, Global};
 
-/// What an event was answered, and its stamp: the moment at which it counts, or none where it changed nothing.
+/// The reply to an event and its stamp: the moment at which the event counts, or `None` if nothing
+/// changed.
 #[derive(Drop)]
 pub struct Told {
     pub stamp: Option<Moment>,
     pub reply: Reply,
 }
 
-/// The tenant that a command names, if it is a tenant's name.
+/// The tenant in a command, if it is a valid name.
 fn owner_of_command(alloc: Global, command: &Command) -> Result<Option<TenantName>, AllocError>
     ensures { IfOk result (λ owner. owner ≡ owner_of_act (Commanded (order_of command.now))) }
 {
     TenantName::read(alloc, command.tenant())
 }
 
-/// An operator's command on a tenant, which need not have been added.
+/// An operator's command on a tenant, which may not exist.
 fn serve_named_command<H: Storage>(
     alloc: Global,
     host: &mut H,
@@ -88,7 +89,7 @@ fn serve_command<H: Storage>(
     }
 }
 
-/// A sweep, which removes at most so many of what is due.
+/// A sweep, which removes at most `limit` stale uploads and unreferenced blocks.
 fn serve_sweep<H: Storage>(
     alloc: Global,
     host: &mut H,
@@ -132,7 +133,8 @@ fn serve_tenants<H: Storage>(alloc: Global, host: &mut H) -> Result<Vec<u8>, Tro
     Ok(tenants_line(alloc, &tenants)?.into_bytes())
 }
 
-/// What an event that is no request is answered, at its stamp. A request is trouble: `apply` sends none here.
+/// The reply to an event that is not a request, and its stamp. A request is a failure here: `apply`
+/// passes none.
 fn serve<H: Storage>(
     alloc: Global,
     host: &mut H,
@@ -156,7 +158,8 @@ fn serve<H: Storage>(
     }
 }
 
-/// A transaction with one event: its stamp and its reply. After trouble it may be open still.
+/// One event in a transaction: its stamp and its reply. If this fails, the transaction may still be
+/// open.
 fn try_apply<H: Storage>(
     alloc: Global,
     host: &mut H,
@@ -183,7 +186,7 @@ fn try_apply<H: Storage>(
     Ok((stamp, bytes))
 }
 
-/// Who asks by an event.
+/// Who sent an event.
 fn caller_of(event: &Event) -> Caller
     ensures { result ≡ reply.caller_of (arrival event.now).message }
 {
@@ -196,7 +199,7 @@ fn caller_of(event: &Event) -> Caller
     }
 }
 
-/// Applies an event that is no request in one transaction.
+/// Applies an event that is not a request in one transaction.
 fn apply_order<H: Storage>(alloc: Global, host: &mut H, event: &Event) -> Told
     requires order { IsOrder (arrival event.now).message }
     requires in_range { (arrival event.now).reading ≤ last_reading }
@@ -209,6 +212,7 @@ fn apply_order<H: Storage>(alloc: Global, host: &mut H, event: &Event) -> Told
         → (x : Tables) → H.left host.new x → x ≡ (H.seen host.new).now) }
     ensures crash { IfNone result.stamp (H.IsIntact host.new → (x : Tables) → H.left host.new x
         → H.left host.old x ⊎ (H.IsOpen host.old × WouldApply (arrival event.now) (H.seen host.old).now x)) }
+    ensures noted { IsNoted result }
 {
     match try_apply(alloc, host, event) {
         Ok((stamp, bytes)) => Told {
@@ -225,7 +229,7 @@ fn apply_order<H: Storage>(alloc: Global, host: &mut H, event: &Event) -> Told
     }
 }
 
-/// Applies a request whose head was read, and of whose body these bytes are there.
+/// Applies a request whose head was read; `body` is all of its body.
 fn apply_headed<H: Storage>(
     alloc: Global,
     routes: &Routes,
@@ -239,6 +243,7 @@ fn apply_headed<H: Storage>(
     ensures stays { StaysAtRest H.IsIntact H.IsOpen H.IsSoundStore H.seen H.left host.old host.new }
     ensures told { ToldOf H.IsIntact H.IsOpen H.seen H.left reading (completed (announced_view head.now) rest.now)
         host.old host.new (told result) }
+    ensures noted { IsNoted result }
 {
     if head.body_size > rest.len() as u64 {
         return refuse_unread(alloc, routes, host, reading, Refusal::IncompleteBody);
@@ -247,14 +252,14 @@ fn apply_headed<H: Storage>(
     let delivery = Delivery::AtOnce;
     match receive(alloc, routes, host, reading, head, &mut body, delivery) {
         Some(Replied::Told(told)) => told,
-        // Nothing is left to be read.
+        // The body was already read.
         Some(Replied::Planned(_)) => wanting(Trouble::Store),
-        // No reader of it can fail.
+        // The reader of a body in memory can't fail.
         None => wanting(Trouble::Body),
     }
 }
 
-/// Applies a request, as its bytes are read by the host's limits.
+/// Applies a request, which is parsed with the host's limits.
 fn apply_request<H: Storage>(
     alloc: Global,
     routes: &Routes,
@@ -272,6 +277,7 @@ fn apply_request<H: Storage>(
         → (x : Tables) → H.left host.new x → x ≡ (H.seen host.new).now) }
     ensures crash { IfNone result.stamp (H.IsIntact host.new → (x : Tables) → H.left host.new x
         → H.left host.old x ⊎ (H.IsOpen host.old × WouldApply (request_at reading bytes.now) (H.seen host.old).now x)) }
+    ensures noted { IsNoted result }
 {
     match split_head(bytes, &host.limits()) {
         Ok((head, rest)) => apply_headed(alloc, routes, host, reading, &head, rest),
@@ -279,20 +285,20 @@ fn apply_request<H: Storage>(
     }
 }
 
-/// Applies one event in one transaction, and says what is answered. Requests are read by the host's limits, and their
-/// paths by these routes.
+/// Applies one event in one transaction and returns its reply. Requests are parsed with the host's
+/// limits and routed by `routes`.
 ///
-/// A reading above 250,000,000,000 seconds is answered ClockOutOfRange, which takes no memory and leaves the host as
-/// it was. Where memory or the store is wanting, the answer is ServiceUnavailable to a request and Unavailable to an
-/// operator. In these cases there is no stamp, and all tables are as they were. Otherwise the event counts at its
-/// stamp, the greater of its reading and the last stamp, and its tenant is answered as its private machine answers.
+/// A reading above 250,000,000,000 seconds is answered ClockOutOfRange, which takes no memory. If
+/// memory or the store fails, a request is answered ServiceUnavailable and an operator Unavailable.
+/// In these cases there is no stamp, and no table changes. Otherwise the event counts at its stamp,
+/// the greater of its reading and the last stamp. Its tenant is answered as by a private machine.
 ///
-/// A sweep, a report and a list of tenants belong to nobody: a sweep removes what is stale or unreferenced, of all
-/// tenants, up to its limit, a report counts what is stored, and the list tells them by name. Each tenant's answers stay
-/// those of its own machine.
+/// Sweeps, reports and lists of tenants belong to no tenant. A sweep removes stale uploads and
+/// unreferenced blocks of all tenants, up to its limit. A report counts what is stored, and the
+/// list names the tenants. Each tenant's answers stay those of its own machine.
 ///
-/// All that is said of replies and of a crash holds also where the store reports faults; what is said of the tables
-/// holds while no fault has shut it.
+/// The clauses on replies and on crashes hold even if the store fails. The clauses on tables hold
+/// until a fault shuts the store.
 pub fn apply<H: Storage>(alloc: Global, routes: &Routes, host: &mut H, event: &Event) -> Told
     requires { Clean H.IsIntact H.IsOpen host.old → IsAtRest H.IsSoundStore (H.seen host.old) }
     ensures stays { StaysAtRest H.IsIntact H.IsOpen H.IsSoundStore H.seen H.left host.old host.new }
@@ -306,6 +312,7 @@ pub fn apply<H: Storage>(alloc: Global, routes: &Routes, host: &mut H, event: &E
     ensures clock { last_reading < (arrival event.now).reading
         → (result.stamp ≡ None) × (reply_bytes result.reply ≡ clock_text (reply.caller_of (arrival event.now).message))
         × (host.new ≡ host.old) }
+    ensures noted { is_some (reply_trouble result.reply) ≡ is_wanting (arrival event.now).reading result.stamp }
 {
     if event.reading() > LAST_READING {
         return Told {

@@ -1,4 +1,4 @@
-//! Many events.
+//! Lists of events.
 
 ghost use Rattle.std.specs.Prelude.{◌≡◌, length, map, IfOk, OnErr};
 ghost use Rattle.bh_event.specs.Events.{arrival};
@@ -13,14 +13,15 @@ use bh_operation::routes::Routes;
 use bh_storage::storage::Storage;
 use std::alloc::{AllocError, Global};
 
-/// Applies events in turn, and gives what each was answered. To each tenant the answers are those of a machine
-/// that it has to itself. Its vector is taken first: where memory is wanting for it, nothing is applied.
+/// Applies events in turn, and returns their replies. Each tenant is answered as by a machine of
+/// its own. The result's vector is allocated first: if that fails, no event is applied.
 ///
-/// A sweep, a report and a list of tenants belong to nobody: a sweep removes what is stale or unreferenced, of all
-/// tenants, and the others change nothing, so that each tenant's answers stay those of its own machine.
+/// Sweeps, reports and lists of tenants belong to no tenant. A sweep removes stale uploads and
+/// unreferenced blocks of all tenants; the others change nothing. So each tenant's answers stay
+/// those of its own machine.
 ///
-/// A fault of the store takes nothing from what is said of the events before it, and what a crash may leave then, unless it
-/// might have been left before the run, is sound.
+/// If the store fails, the clauses on earlier events still hold. What a crash may leave then is
+/// sound, or was possible before the run.
 pub fn run<H: Storage>(
     alloc: Global,
     routes: &Routes,

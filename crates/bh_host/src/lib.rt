@@ -1,4 +1,5 @@
-//! Events on a host: each is applied in one transaction, and a tenant's are answered as its private machine answers them.
+//! Events on a host. Each is applied in one transaction, and each tenant is answered as by its
+//! private machine.
 #![tactic(auto)]
 
 mod answers;

@@ -1,4 +1,4 @@
-//! The lines that tell an operator a list: its words are parted by spaces, and the first number says how many there are.
+//! Replies to operators that are lists: words separated by spaces, the number of entries first.
 ghost use Rattle.std.specs.Prelude.{◌≡◌, ◌++◌, map, IfOk, OnOk};
 ghost use Rattle.std.specs.String.{string_bytes};
 ghost use Rattle.bh_storage.specs.Reports.{tenant_view};
@@ -14,7 +14,7 @@ fn push_word(line: &mut String, word: &str) -> Result<(), AllocError>
     line.push_str(word)
 }
 
-/// How many names there are, and each of them.
+/// The number of names, and the names.
 pub fn names_end(alloc: Global, names: &[String]) -> Result<String, AllocError>
     ensures { IfOk result (λ text. string_bytes text ≡ spec.names_end (map string_bytes names.now)) }
 {
@@ -38,7 +38,7 @@ fn tenant_words(alloc: Global, tenant: &TenantReport) -> Result<String, AllocErr
     format!(in alloc; "{name} bytes {used} quota {quota} keys {keys}")
 }
 
-/// The line that tells all tenants.
+/// The reply with all tenants, their bytes, quotas and numbers of keys.
 pub fn tenants_line(alloc: Global, tenants: &[TenantReport]) -> Result<String, AllocError>
     ensures { IfOk result (λ text. string_bytes text ≡ spec.tenants_text (map tenant_view tenants.now)) }
 {

@@ -1,4 +1,4 @@
-//! A request whose head was read, and whose body comes in pieces.
+//! A request whose head was read, and whose body is received in pieces.
 
 ghost use Rattle.std.specs.Prelude.{◌≡◌, ◌⊎◌, ◌≤◌, ℕ, None, Some, Ok, Err, IfOk, IfSome, OnOk, OnErr, option_map};
 ghost use Rattle.std.specs.Option.{option_copied};
@@ -14,10 +14,14 @@ ghost use Rattle.bh_view.specs.View.{latest_of};
 ghost use Rattle.bh_storage.specs.Answers.{found_answer, offer_view};
 ghost use Rattle.bh_storage.specs.Plans.{IfFound, IsMeasured};
 ghost use Rattle.bh_host.specs.Answers.{composed_in, told, told_in, IsServedWhole, IsTriedWhole, IsToldWhole};
+ghost use Rattle.bh_host.specs.Answers.{IsServedAsGreat, IsTriedAsGreat, IsToldAsGreat};
+ghost use Rattle.bh_host.specs.Answers.{IsPlanMeasured, IsServedMeasured, IsTriedMeasured, IsToldMeasured};
+ghost use Rattle.bh_host.specs.Answers.{IsSmall, IsSmallReply, IsServedSmall, IsTriedSmall, IsToldSmall};
+ghost use Rattle.bh_host.specs.Answers.{IsNoted, IsTriedNoted, IsToldNoted};
 ghost use Rattle.bh_host.specs.Receives.{Serves, Tries, AnewAs, Receives, IsStamp, Records, IfKept, IfApplied};
 ghost use Rattle.bh_host.specs.Replies.{text, wanting_text};
 ghost use Rattle.bh_host.specs.Resting.{StaysAtRest};
-ghost use Rattle.bh_host.specs.declared.delivery.Delivery.TheVariants.{AtOnce};
+ghost use Rattle.bh_host.specs.declared.delivery.Delivery.TheVariants.{AtOnce, InPieces};
 ghost use Rattle.bh_host.specs.declared.reply.Caller.TheVariants.{Request};
 
 use crate::delivery::{Composed, Delivery, Replied, Served, Tried, delivered, replied_at};
@@ -40,11 +44,13 @@ use bh_types::refusal::Refusal;
 use bh_types::rejection::Rejection;
 use std::alloc::{AllocError, Global};
 
-/// The answer to a request of this head, whatever its body, where an object was found. A request for the head alone gets no
-/// byte of it.
+/// The response to a request that found an object, whatever the request's body. A HEAD request gets
+/// none of the object's bytes.
 fn found(alloc: Global, head: &Head, version: FoundVersion) -> Result<Composed, AllocError>
-    ensures { (body : Octets) (tables : Tables) → IsMeasured tables version → IfOk result (λ composed. composed_in tables composed
+    ensures told { (body : Octets) (tables : Tables) → IsMeasured tables version → IfOk result (λ composed. composed_in tables composed
         ≡ text (RequestRead (Ok (with_body head.now body))) (Ok (found_answer tables version))) }
+    ensures measured { (tables : Tables) → IsMeasured tables version → IfOk result (IsPlanMeasured tables) }
+    ensures small { IfOk result IsSmall }
 {
     let count = version.plan.left;
     let bytes = found_text(alloc, version.head, version.range, count)?;
@@ -55,10 +61,13 @@ fn found(alloc: Global, head: &Head, version: FoundVersion) -> Result<Composed, 
     }
 }
 
-/// The answer to a request of this head, whatever its body. Of an object no byte is read yet.
+/// The response to a request, whatever its body. No byte of an object has been read yet.
 fn offered(alloc: Global, head: &Head, offer: Offer) -> Result<Composed, AllocError>
-    ensures { (body : Octets) (tables : Tables) → IfFound offer (IsMeasured tables) → IfOk result (λ composed. composed_in tables composed
+    ensures told { (body : Octets) (tables : Tables) → IfFound offer (IsMeasured tables)
+        → IfOk result (λ composed. composed_in tables composed
         ≡ text (RequestRead (Ok (with_body head.now body))) (Ok (offer_view tables offer))) }
+    ensures measured { (tables : Tables) → IfFound offer (IsMeasured tables) → IfOk result (IsPlanMeasured tables) }
+    ensures small { IfOk result IsSmall }
 {
     match offer {
         Offer::Whole(answer) => Ok(Composed::Whole(answer_text(alloc, head, answer)?)),
@@ -66,7 +75,7 @@ fn offered(alloc: Global, head: &Head, offer: Offer) -> Result<Composed, AllocEr
     }
 }
 
-/// A request of the tenant of this access key.
+/// A request with this access key, by its tenant.
 fn serve_tenant<H: Storage, B: Body>(
     alloc: Global,
     routes: &Routes,
@@ -89,6 +98,9 @@ fn serve_tenant<H: Storage, B: Body>(
         (B.coming body.new)
         (H.seen host.old).now (H.seen host.new).now result }
     ensures whole { IfOk result (λ served. delivery ≡ AtOnce → IsServedWhole served) }
+    ensures great { IfOk result IsServedAsGreat }
+    ensures small { IfOk result (λ served. delivery ≡ InPieces → IsServedSmall served) }
+    ensures measured { IfOk result (λ served. Clean H.IsIntact H.IsOpen host.new → IsServedMeasured (H.seen host.new).now served) }
 {
     host.purge(alloc, &key.tenant, at)?;
     match requested(alloc, routes, host, &key, at, head, body) {
@@ -108,7 +120,7 @@ fn serve_tenant<H: Storage, B: Body>(
     }
 }
 
-/// A request at its stamp. Who belongs to nobody is refused once the body came.
+/// A request at its stamp. A request of no tenant is refused once its body was received.
 fn serve<H: Storage, B: Body>(
     alloc: Global,
     routes: &Routes,
@@ -129,6 +141,9 @@ fn serve<H: Storage, B: Body>(
         (B.coming body.new)
         (H.seen host.old).now (H.seen host.new).now result }
     ensures whole { IfOk result (λ served. delivery ≡ AtOnce → IsServedWhole served) }
+    ensures great { IfOk result IsServedAsGreat }
+    ensures small { IfOk result (λ served. delivery ≡ InPieces → IsServedSmall served) }
+    ensures measured { IfOk result (λ served. Clean H.IsIntact H.IsOpen host.new → IsServedMeasured (H.seen host.new).now served) }
 {
     match access_key_of(alloc, head)? {
         Some(key) => serve_tenant(alloc, routes, host, key, at, head, body, delivery),
@@ -141,7 +156,7 @@ fn serve<H: Storage, B: Body>(
     }
 }
 
-/// A transaction with a request. Unless it is applied, it may be open still.
+/// A transaction with a request. Unless the request is applied, it may still be open.
 fn try_receive<H: Storage, B: Body>(
     alloc: Global,
     routes: &Routes,
@@ -162,6 +177,10 @@ fn try_receive<H: Storage, B: Body>(
     ensures tries { Tries H.IsIntact H.IsOpen H.seen H.left reading head.now (B.coming body.old) (B.coming body.new)
         host.old host.new result }
     ensures whole { IfOk result (λ tried. delivery ≡ AtOnce → IsTriedWhole tried) }
+    ensures great { IfOk result IsTriedAsGreat }
+    ensures small { IfOk result (λ tried. delivery ≡ InPieces → IsTriedSmall tried) }
+    ensures noted { IfOk result IsTriedNoted }
+    ensures measured { IfOk result (λ tried. Clean H.IsIntact H.IsOpen host.new → IsTriedMeasured (H.seen host.new).now tried) }
     ensures leaves { H.IsIntact host.new → LeavesSound H.IsSoundStore H.left host.old host.new }
 {
     host.begin()?;
@@ -175,7 +194,8 @@ fn try_receive<H: Storage, B: Body>(
     }
 }
 
-/// A transaction with the stamp of a reading, and without a tenant's stale uploads, where one is named.
+/// A transaction that writes the stamp of a reading. If a tenant is named, it removes its stale
+/// uploads too.
 fn record_stamp<H: Storage>(
     alloc: Global,
     host: &mut H,
@@ -208,7 +228,7 @@ fn record_stamp<H: Storage>(
     Ok(stamp)
 }
 
-/// Records a stamp, and answers a text; a transaction was taken back before.
+/// Records a stamp and returns a text, after an earlier transaction was rolled back.
 fn answer_anew<H: Storage>(
     alloc: Global,
     host: &mut H,
@@ -221,6 +241,8 @@ fn answer_anew<H: Storage>(
     ensures stays { StaysAtRest H.IsIntact H.IsOpen H.IsSoundStore H.seen H.left host.old host.new }
     ensures anew { AnewAs H.IsIntact H.IsOpen H.seen H.left reading (option_copied tenant.entry) text.items
         host.old host.new (told result).0 (told result).1 }
+    ensures small { IsSmallReply result.reply }
+    ensures noted { IsNoted result }
 {
     match record_stamp(alloc, host, reading, tenant) {
         Ok(stamp) => Told {
@@ -234,9 +256,11 @@ fn answer_anew<H: Storage>(
     }
 }
 
-/// What is answered where memory or the store is wanting. It takes no memory.
+/// The reply if memory or the store failed. It allocates nothing.
 pub fn wanting(trouble: Trouble) -> Told
-    ensures { told result ≡ (None, wanting_text Request) }
+    ensures told { told result ≡ (None, wanting_text Request) }
+    ensures small { IsSmallReply result.reply }
+    ensures noted { IsNoted result }
 {
     Told {
         stamp: None,
@@ -244,7 +268,7 @@ pub fn wanting(trouble: Trouble) -> Told
     }
 }
 
-/// Refuses bytes that are no request, as they are read; they belong to nobody.
+/// Refuses bytes that can't be parsed as a request. They belong to no tenant.
 pub fn refuse_unread<H: Storage>(
     alloc: Global,
     routes: &Routes,
@@ -257,6 +281,8 @@ pub fn refuse_unread<H: Storage>(
     ensures stays { StaysAtRest H.IsIntact H.IsOpen H.IsSoundStore H.seen H.left host.old host.new }
     ensures anew { AnewAs H.IsIntact H.IsOpen H.seen H.left reading None (text (RequestRead (Err refusal)) (Err (plain refusal)))
         host.old host.new (told result).0 (told result).1 }
+    ensures small { IsSmallReply result.reply }
+    ensures noted { IsNoted result }
 {
     match unread_text(alloc, routes, refusal) {
         Ok(text) => answer_anew(alloc, host, reading, None, text),
@@ -264,13 +290,14 @@ pub fn refuse_unread<H: Storage>(
     }
 }
 
-/// Applies a request whose head was read, at a reading of the clock, in one transaction; its body comes as it is wanted.
-/// `None` where its reader failed, and then nothing has changed.
+/// Applies a request whose head was read, in one transaction. Its body is read as it is needed.
+/// `None` if the body's reader failed: then nothing has changed.
 ///
-/// Where too few bytes come, and where it shows after bytes were stored that they have another checksum than is given, the
-/// transaction is taken back, and the stamp (with the going of what is stale) is recorded in a second one.
+/// The transaction is rolled back if the body is too short, or if its checksum turns out wrong
+/// after bytes were stored. A second transaction then records the stamp and removes the tenant's
+/// stale uploads.
 ///
-/// Of an object that is to be delivered in pieces nothing is read yet, and the store is open then.
+/// If an object is to be delivered in pieces, nothing of it is read yet, and the store is open.
 pub fn receive<H: Storage, B: Body>(
     alloc: Global,
     routes: &Routes,
@@ -288,6 +315,10 @@ pub fn receive<H: Storage, B: Body>(
     ensures receives { Receives H.IsIntact H.IsOpen H.seen H.left reading head.now (B.coming body.old) (B.coming body.new)
         host.old host.new (option_map (told_in (H.seen host.new).now) result) }
     ensures whole { delivery ≡ AtOnce → IfSome result IsToldWhole }
+    ensures great { IfSome result IsToldAsGreat }
+    ensures small { delivery ≡ InPieces → IfSome result IsToldSmall }
+    ensures noted { IfSome result IsToldNoted }
+    ensures measured { IfSome result (λ replied. Clean H.IsIntact H.IsOpen host.new → IsToldMeasured (H.seen host.new).now replied) }
 {
     match try_receive(alloc, routes, host, reading, head, body, delivery) {
         Ok(Tried::Applied(replied)) => Some(replied),

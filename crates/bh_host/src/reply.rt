@@ -33,19 +33,22 @@ use bh_types::refusal::Refusal;
 use bh_types::rejection::{Detail, Rejection};
 use std::alloc::{AllocError, Global};
 
-/// What an event is answered. The fixed texts take no memory.
+/// The reply to an event. The fixed texts allocate nothing.
 #[derive(Drop)]
 pub enum Reply {
-    /// The clock's reading is past its limit.
+    /// The clock's reading is above its limit.
     ClockOutOfRange(Caller),
-    /// Memory or the store was wanting; to a request this is ServiceUnavailable, to an operator Unavailable. The bytes
-    /// don't tell which trouble it was.
+    /// Memory or the store failed: ServiceUnavailable to a request, Unavailable to an operator. The
+    /// bytes don't reveal which failure it was.
     Wanting(Caller, Trouble),
     /// The text of an answer or of a refusal.
     Text(Vec<u8>),
+    /// The head of a response, and then this many bytes of an object. They were all read before the
+    /// transaction ended.
+    Gathered(Vec<u8>, u64),
 }
 
-/// Who asks: this decides the form of a fixed text.
+/// Who sent an event, which decides the form of a fixed text.
 #[derive(Clone, Copy, PartialEq, Eq)]
 pub enum Caller {
     Request,
@@ -53,24 +56,25 @@ pub enum Caller {
 }
 
 impl Reply {
-    /// The bytes to send: a response of HTTP/1.1 (RFC 9112) to a request, a line without its end to an operator.
+    /// The bytes to send: an HTTP/1.1 response (RFC 9112) to a request, or a line without its line
+    /// feed to an operator.
     pub fn bytes(&self) -> &[u8]
         ensures { result.now ≡ spec.reply_bytes self.now }
     {
         match self {
             Reply::ClockOutOfRange(caller) => clock_bytes(*caller),
             Reply::Wanting(caller, _) => wanting_bytes(*caller),
-            Reply::Text(bytes) => bytes,
+            Reply::Text(bytes) | Reply::Gathered(bytes, _) => bytes,
         }
     }
 
-    /// What was wanting, where memory or the store was.
+    /// The failure, if memory or the store failed.
     pub fn trouble(&self) -> Option<Trouble>
         ensures { result ≡ spec.reply_trouble self.now }
     {
         match self {
             Reply::Wanting(_, trouble) => Some(*trouble),
-            Reply::ClockOutOfRange(_) | Reply::Text(_) => None,
+            Reply::ClockOutOfRange(_) | Reply::Text(_) | Reply::Gathered(..) => None,
         }
     }
 }
@@ -93,7 +97,7 @@ fn wanting_bytes(caller: Caller) -> &'static [u8]
     }
 }
 
-/// The response that refuses a request of this head, whatever its body.
+/// The response that refuses a request with this head, whatever its body.
 #[tactic(auto, unfolding(crate::specs::Replies::text))]
 pub fn refused_request_text(
     alloc: Global,
@@ -108,7 +112,7 @@ pub fn refused_request_text(
     sent_text(alloc, head.method, response)
 }
 
-/// The response that answers a request of this head, whatever its body.
+/// The response that answers a request with this head, whatever its body.
 #[tactic(auto, unfolding(crate::specs::Replies::text))]
 pub fn answer_text(alloc: Global, head: &Head, answer: Answer) -> Result<Vec<u8>, AllocError>
     ensures { (body : List ℕ) → IfOk result (λ bytes. bytes.items
@@ -118,7 +122,7 @@ pub fn answer_text(alloc: Global, head: &Head, answer: Answer) -> Result<Vec<u8>
     sent_text(alloc, head.method, response)
 }
 
-/// What comes before the bytes of an object, or of the part of them that was asked for: so many are to follow.
+/// The response head before an object's bytes, or before a range of them. `count` bytes follow.
 pub fn found_text(
     alloc: Global,
     head: ObjectHead,
@@ -140,14 +144,14 @@ fn sent_text(alloc: Global, method: &[u8], response: Response) -> Result<Vec<u8>
     response_bytes(alloc, &sent)
 }
 
-/// Whether a method asks for the head of a response alone.
+/// Whether a method's response is a head alone.
 pub fn is_head(method: &[u8]) -> bool
     ensures { result ≡ bytes_eq method.now (codes "HEAD") }
 {
     matches!(method, b"HEAD")
 }
 
-/// The response to this method: HEAD is answered with the head alone (RFC 9110, section 9.3.2).
+/// The response to this method: for HEAD its head alone (RFC 9110, section 9.3.2).
 fn sent_for(alloc: Global, method: &[u8], response: Response) -> Response
     ensures { response_view result ≡ spec.sent_for method.now (response_view response) }
 {
@@ -176,7 +180,7 @@ fn refusal_to(
     Ok(response)
 }
 
-/// The response to what was refused, with its document. Where the refusal has none, none is composed.
+/// The response to a refused request, with its document if the refusal has one.
 fn response_with_document(
     alloc: Global,
     target: &[u8],
@@ -192,25 +196,25 @@ fn response_with_document(
     Ok(Response::refused(alloc, refusal, document.into_bytes()))
 }
 
-/// The methods to tell of with a refusal of this target.
+/// The methods of the Allow header field in a refusal of this target (RFC 9110, section 10.2.1).
 fn allow_told(routes: &Routes, target: &[u8], rejection: Rejection) -> Option<Allow>
     ensures { result ≡ spec.allow_told target.now rejection.refusal rejection.detail }
 {
     match (rejection.refusal, rejection.detail) {
-        (_, Detail::NamedMarker) => Some(Allow::Marker),
+        (_, Detail::NamedMarker | Detail::UndatedMarker) => Some(Allow::Marker),
         (Refusal::MethodNotAllowed, _) => allow_of(routes, target),
         _ => None,
     }
 }
 
-/// Whether a delete marker was met.
+/// Whether the detail is a delete marker that the response names: that of an operation on objects.
 fn marker_told(detail: Detail) -> bool
     ensures { result ≡ spec.marker_told detail }
 {
     matches!(detail, Detail::CurrentMarker | Detail::NamedMarker)
 }
 
-/// The size of an object of which no byte was asked for.
+/// The object's size, if the requested range has none of its bytes.
 fn range_told(detail: Detail) -> Option<ContentRange>
     ensures { result ≡ spec.range_told detail }
 {
@@ -220,7 +224,7 @@ fn range_told(detail: Detail) -> Option<ContentRange>
     }
 }
 
-/// The response that refuses bytes that are no request.
+/// The response that refuses bytes that are not a request.
 #[tactic(auto, unfolding(crate::specs::Replies::text))]
 pub fn unread_text(alloc: Global, routes: &Routes, refusal: Refusal) -> Result<Vec<u8>, AllocError>
     ensures { IfOk result (λ bytes. bytes.items ≡ spec.text (RequestRead (Err refusal)) (Err (plain refusal))) }
@@ -229,7 +233,7 @@ pub fn unread_text(alloc: Global, routes: &Routes, refusal: Refusal) -> Result<V
     response_bytes(alloc, &response)
 }
 
-/// The line that tells an operator what a command did, or its refusal.
+/// An operator's reply: what the command did, or its refusal.
 #[tactic(auto, unfolding(crate::specs::Replies::text))]
 pub fn order_text(
     alloc: Global,
@@ -245,7 +249,7 @@ pub fn order_text(
     }
 }
 
-/// What a command did, and what its answer adds.
+/// What a command did, and the values of its answer.
 fn accepted_line(alloc: Global, command: &Command, answer: &Answer) -> Result<String, AllocError>
     ensures { IfOk result (λ text. string_bytes text ≡ spec.line (order_of command.now) (Ok (answer_view answer.now))) }
 {
@@ -293,7 +297,7 @@ pub fn refusal_line(alloc: Global, refusal: Refusal) -> Result<String, AllocErro
     format!(in alloc; "{number} {code}")
 }
 
-/// The line that tells an operator what a sweep removed, and whether anything that was due is left.
+/// An operator's reply to a sweep: what was removed, and whether more is due.
 pub fn sweep_line(alloc: Global, report: SweepReport) -> Result<String, AllocError>
     ensures { IfOk result (λ text. string_bytes text ≡ spec.sweep_text report) }
 {
@@ -307,7 +311,7 @@ pub fn sweep_line(alloc: Global, report: SweepReport) -> Result<String, AllocErr
     format!(in alloc; "sweep uploads {uploads} blocks {blocks} {end}")
 }
 
-/// The line that tells an operator how much is stored.
+/// An operator's reply to a report: the numbers and sizes of the stored blocks.
 pub fn report_line(alloc: Global, report: StoreReport) -> Result<String, AllocError>
     ensures { IfOk result (λ text. string_bytes text ≡ spec.report_text report) }
 {

@@ -26,7 +26,7 @@ use bh_types::refusal::Refusal;
 use bh_types::rejection::Rejection;
 use std::alloc::Global;
 
-/// Why a request that belongs to nobody is refused.
+/// Why a request of no tenant is refused.
 pub fn stranger_refusal(head: &Head) -> Refusal
     ensures { (limits : HostLimits) (at : ℕ) (body : Octets) → machine.requested limits at (with_body head.now body) None
         ≡ Err (plain result) }
@@ -37,7 +37,7 @@ pub fn stranger_refusal(head: &Head) -> Refusal
     }
 }
 
-/// What a request of a tenant asks for by its head, if its secret is right.
+/// The operation in the head of a tenant's request, if its secret is right.
 fn operation_asked<H: Storage>(
     alloc: Global,
     routes: &Routes,
@@ -59,7 +59,7 @@ fn operation_asked<H: Storage>(
     Ok(operation_of(alloc, routes, head, &key.tenant)?)
 }
 
-/// Takes all that is to come of a body, which is forgotten.
+/// Reads the rest of a body, and discards it.
 fn take_whole<B: Body>(body: &mut B) -> Result<(), Trouble>
     requires going { (B.coming body.old).broken ≡ None }
     ensures some { (given : Octets) × Gives (B.coming body.old) (B.coming body.new) given }
@@ -70,8 +70,8 @@ fn take_whole<B: Body>(body: &mut B) -> Result<(), Trouble>
     Ok(())
 }
 
-/// A request of a tenant whose stale uploads are gone. Where its head decides a refusal, its body is taken first: fewer
-/// bytes than it announces are a refusal before any other.
+/// A tenant's request, after its stale uploads were removed. If its head alone decides a refusal,
+/// its body is read first: a body that is too short is refused before anything else.
 pub fn requested<H: Storage, B: Body>(
     alloc: Global,
     routes: &Routes,

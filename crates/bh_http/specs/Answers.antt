@@ -55,7 +55,7 @@ with_document status document = record (bare status) {
   body = document;
 }
 
--- whether a refusal is answered with a document
+-- whether a refusal has a document
 abbrev pub has_document : Refusal → Bool
 has_document BadRequest = false
 has_document NotImplemented = false
@@ -66,7 +66,7 @@ has_document ClockOutOfRange = false
 has_document ServiceUnavailable = false
 has_document refusal = true
 
--- the response to what was refused, without a document and with it
+-- the response to a refused request, without a document and with it
 abbrev pub bare_refusal : Refusal → Sent
 bare_refusal refusal = record (empty (status_of refusal)) { refusal = Some refusal }
 
@@ -74,7 +74,7 @@ abbrev pub refusal_with : Refusal → List ℕ → Sent
 refusal_with refusal document =
     record (with_document (status_of refusal) document) { refusal = Some refusal }
 
--- the response to what was refused, given the document that tells it
+-- the response to a refused request, given the refusal's document
 abbrev pub refused : Refusal → List ℕ → Sent
 refused refusal document =
     if has_document refusal then refusal_with refusal document else bare_refusal refusal

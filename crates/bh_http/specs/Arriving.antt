@@ -1,4 +1,4 @@
--- What the bytes so far say of the request that they begin.
+-- What the bytes received so far decide about the request that they begin.
 use Rattle.std.specs.Prelude.{◌≡◌, ℕ, ◌+◌, ◌≤◌, ◌⊎◌, Bool, ◌||◌, not, ◌==◌, List, [], ◌∷◌, ◌++◌, length, drop, Result, Ok, Err}
 use Rattle.std.specs.List.{ends_with}
 use Rattle.httparse.specs.Grammar.{RequestHead, print_request}
@@ -14,11 +14,11 @@ use Rattle.bh_http.specs.declared.arriving.Arriving.{Arriving}
 use Rattle.bh_http.specs.declared.arriving.Arriving.TheVariants.{NotYet, Found, Refused}
 use Rattle.bh_http.specs.declared.head.FoundHead.{FoundHead}
 
--- whatever bytes follow, no front is a head
+-- whatever bytes follow, they don't begin with a head yet
 abbrev pub NeverHasHead : List ℕ → Type 0
 NeverHasHead bytes = (more : List ℕ) → HasNoHead (bytes ++ more)
 
--- the bytes begin with a head that announces a body of so many bytes
+-- the bytes begin with a head that announces a body of that many bytes
 abbrev pub Announces : HostLimits → List ℕ → ℕ → Type 0
 Announces limits bytes size = (head : RequestHead) × (rest : List ℕ) × HasHead bytes head rest × (framing limits (parts_of head) ≡ Ok size)
 
@@ -27,11 +27,11 @@ abbrev pub IsRefusedByHead : HostLimits → List ℕ → Type 0
 IsRefusedByHead limits bytes =
     (head : RequestHead) × (rest : List ℕ) × (refusal : Refusal) × HasHead bytes head rest × (framing limits (parts_of head) ≡ Err refusal)
 
--- whatever bytes follow, they are no request that is accepted
+-- whatever bytes follow, they are not a request that is accepted
 abbrev pub NeverAccepted : HostLimits → List ℕ → Type 0
 NeverAccepted limits bytes = NeverHasHead bytes ⊎ IsRefusedByHead limits bytes
 
--- what the framing of a head that was found makes of it
+-- the result of framing a head that was found
 abbrev pub announcing : RequestSpans → Result ℕ Refusal → Arriving
 announcing spans (Ok size) = Found (record { spans = spans; body_size = size })
 announcing spans (Err refusal) = Refused refusal
@@ -41,7 +41,7 @@ Says limits bytes NotYet = HasNoHead bytes
 Says limits bytes (Found head) = Announces limits bytes head.body_size
 Says limits bytes (Refused refusal) = NeverAccepted limits bytes
 
--- the parts of a head that is accepted are where these spans say
+-- the parts of an accepted head are at these spans
 pub record IsFound (limits : HostLimits) (bytes : List ℕ) (headers : List HeaderSpan) (head : FoundHead) : Type 0 where
   pub within : IsRequestWithin bytes headers head.spans
   pub reads : ReadsHead limits bytes (Ok (announced_at bytes headers head, drop head.spans.len bytes))
@@ -56,7 +56,7 @@ FindsIn limits bytes headers NotYet = Unit {0}
 FindsIn limits bytes headers (Found head) = Finds limits bytes headers (Ok head)
 FindsIn limits bytes headers (Refused refusal) = Finds limits bytes headers (Err refusal)
 
--- a byte that ends no line: neither CR nor LF
+-- a byte within a line: neither CR nor LF
 abbrev pub is_text : ℕ → Bool
 is_text b = not (b == 13 || b == 10)
 
@@ -64,13 +64,13 @@ is_text b = not (b == 13 || b == 10)
 abbrev pub ends_blank : List ℕ → Bool
 ends_blank bytes = ends_with (λ a b. a == b) bytes (10 ∷ 10 ∷ []) || ends_with (λ a b. a == b) bytes (10 ∷ 13 ∷ 10 ∷ [])
 
--- so many of these bytes are the head and the body of a request that is accepted
+-- that many of these bytes are the head and the body of an accepted request
 abbrev pub HasExtent : HostLimits → List ℕ → ℕ → Type 0
 HasExtent limits bytes n =
     (head : RequestHead) × (rest : List ℕ) × (size : ℕ) × HasHead bytes head rest × (framing limits (parts_of head) ≡ Ok size)
     × (size ≤ length rest)
     × (n ≡ length (print_request head) + size)
 
--- whatever bytes follow, all are read as these alone are
+-- whatever bytes follow, the result is that for these bytes alone
 abbrev pub IsDecided : HostLimits → List ℕ → Type 0
 IsDecided limits bytes = (more : List ℕ) (answer : Result Taken Refusal) → Reads limits bytes answer → Reads limits (bytes ++ more) answer

@@ -14,7 +14,7 @@ is_named name field = str_eq_ignore_ascii_case field.0 name
 abbrev pub values_of : List ℕ → List (List ℕ × List ℕ) → List (List ℕ)
 values_of name fields = map (λ f. f.1) (filter (is_named name) fields)
 
--- how often a field stands, and its value where it stands once
+-- how often a field occurs, and its value if it occurs once
 pub data Occurrence : Type 0 where
   Missing : Occurrence
   Once : List ℕ → Occurrence
@@ -29,7 +29,7 @@ occurrence (value ∷ next ∷ others) = Repeated
 abbrev pub field_named : List ℕ → List (List ℕ × List ℕ) → Occurrence
 field_named name fields = occurrence (values_of name fields)
 
--- what contracts see of the code's answer
+-- a field as contracts see it
 abbrev pub given_view : Given → Occurrence
 given_view code.Missing = Missing
 given_view (code.Once value) = Once value.now

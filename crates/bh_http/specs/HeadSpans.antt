@@ -16,7 +16,7 @@ parts_at bytes headers spans = record {
   fields = map (header_bytes bytes) (take spans.headers headers);
 }
 
--- what contracts see of a head
+-- a head as contracts see it
 abbrev pub head_view : HeadParts → Parts
 head_view head = record {
   method = head.method.now;

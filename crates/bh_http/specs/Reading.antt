@@ -1,5 +1,5 @@
--- What the bytes of a request are: a head of httparse's grammar (RFC 9112), and then the body that
--- its Content-Length frames.
+-- Parsing a request: a head of httparse's grammar (RFC 9112), and then the body by its
+-- Content-Length.
 use Rattle.std.specs.Prelude.{◌≡◌, ℕ, ◌≤◌, Bool, true, false, ◌&&◌, ◌||◌, not, ◌==◌, nat_le, ◌⊎◌, List, length, take, map, codes}
 use Rattle.std.specs.Prelude.{if◌then◌else◌, Result, Ok, Err}
 use Rattle.std.specs.Str.{bytes_eq}
@@ -43,11 +43,11 @@ is_once Missing = false
 is_once (Once value) = true
 is_once Repeated = false
 
--- RFC 9110, section 15.5.12: 411 where a length is wanted
+-- RFC 9110, section 15.5.12: 411 if a length is required
 abbrev pub needs_length : List ℕ → Bool
 needs_length method = bytes_eq method (codes "PUT") || bytes_eq method (codes "POST")
 
--- the length that a value of Content-Length announces
+-- the length in a value of Content-Length
 -- RFC 9110, section 8.6
 abbrev pub length_in : ℕ → List ℕ → Result ℕ Refusal
 length_in max_body value =
@@ -55,13 +55,13 @@ length_in max_body value =
     else if nat_le (digits_value 10 value) max_body then Ok (digits_value 10 value)
     else Err EntityTooLarge
 
--- the length that Content-Length announces for a method
+-- the length by Content-Length, for a method
 abbrev pub announced : ℕ → List ℕ → Occurrence → Result ℕ Refusal
 announced max_body method Missing = if needs_length method then Err MissingContentLength else Ok 0
 announced max_body method (Once value) = length_in max_body value
 announced max_body method Repeated = Err BadRequest
 
--- the length of the body that follows a head, or the first refusal
+-- the length of the body after a head, or the first refusal
 -- RFC 9112, sections 3.2 (Host) and 6
 abbrev pub framing : HostLimits → Parts → Result ℕ Refusal
 framing limits head =
@@ -70,7 +70,7 @@ framing limits head =
     then Err NotImplemented
     else announced limits.max_body head.method (field_named (codes "content-length") head.fields)
 
--- the request of a head and of the bytes after it, of which the body is the first so many
+-- the request with a head and, as its body, the first bytes after it
 -- RFC 9112, section 8: fewer bytes than announced
 abbrev pub taken : Parts → List ℕ → Result ℕ Refusal → Result Taken Refusal
 taken head rest (Err refusal) = Err refusal
@@ -87,7 +87,7 @@ taken head rest (Ok size) =
 abbrev pub outcome : HostLimits → Parts → List ℕ → Result Taken Refusal
 outcome limits head rest = taken head rest (framing limits head)
 
--- what the bytes are: no head, or a head with its outcome
+-- the result for some bytes: no head, or a head with its outcome
 abbrev pub Reads : HostLimits → List ℕ → Result Taken Refusal → Type 0
 Reads limits bytes answer =
     (HasNoHead bytes × (answer ≡ Err BadRequest))
@@ -107,7 +107,8 @@ announcing head rest (Ok size) = Ok (
   rest,
 )
 
--- what the head at the front of the bytes is: none, or one that is accepted, with the bytes after it, or the first refusal
+-- the result for the head at the front of the bytes: no head; or an accepted one, with the bytes
+-- after it; or the first refusal
 abbrev pub ReadsHead : HostLimits → List ℕ → Result (Announced × List ℕ) Refusal → Type 0
 ReadsHead limits bytes answer =
     (HasNoHead bytes × (answer ≡ Err BadRequest))
@@ -126,7 +127,7 @@ completed head rest =
     })
     else Err IncompleteBody
 
--- bytes have one reading
+-- parsing is deterministic
 abbrev pub OneReading : Type 0
 OneReading = (limits : HostLimits) (bytes : List ℕ) (a b : Result Taken Refusal)
     → Reads limits bytes a → Reads limits bytes b → a ≡ b

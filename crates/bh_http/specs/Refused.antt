@@ -1,4 +1,4 @@
--- How the reading of a request may be refused.
+-- The refusals of parsing a request.
 use Rattle.std.specs.Prelude.{ℕ, Bool, true, false, List, Result}
 use Rattle.bh_types.specs.Limits.{HostLimits}
 use Rattle.bh_types.specs.Refusing.{RefusedOnly}

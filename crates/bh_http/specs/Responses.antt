@@ -12,7 +12,7 @@ use Rattle.bh_http.specs.declared.values.Allow.{Allow}
 use Rattle.bh_http.specs.declared.values.ContentRange.{ContentRange}
 use Rattle.bh_http.specs.declared.values.ContentType.{ContentType}
 
--- a response: its status code, what its fields say, where they apply, and its body
+-- a response: its status code, its optional fields, and its body
 pub record Sent : Type 0 where
   pub status : ℕ
   pub content_type : Option ContentType
@@ -37,7 +37,7 @@ abbrev pub field_line : List ℕ × Option (List ℕ) → List ℕ
 field_line (name, None) = []
 field_line (name, Some value) = name ++ codes ": " ++ value ++ crlf
 
--- a value that stands where a test holds
+-- a value that is present if a test holds
 abbrev pub when : Bool → List ℕ → Option (List ℕ)
 when test value = if test then Some value else None
 

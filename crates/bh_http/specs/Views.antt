@@ -21,21 +21,21 @@ pub record Parts : Type 0 where
   pub minor : ℕ
   pub fields : List (List ℕ × List ℕ)
 
--- a request that was taken in
+-- a request that was accepted
 pub record Taken : Type 0 where
   pub method : List ℕ
   pub target : List ℕ
   pub fields : List (List ℕ × List ℕ)
   pub body : List ℕ
 
--- a head that was taken in, and how many bytes the body has that it announces
+-- a head that was accepted, and the size of the body that it announces
 pub record Announced : Type 0 where
   pub method : List ℕ
   pub target : List ℕ
   pub fields : List (List ℕ × List ℕ)
   pub size : ℕ
 
--- what contracts see of a head
+-- a head as contracts see it
 abbrev pub announced_view : Head → Announced
 announced_view head = record {
   method = head.method.now;
@@ -53,11 +53,11 @@ with_body head body = record {
   body = body;
 }
 
--- what contracts see of a request
+-- a request as contracts see it
 abbrev pub view : Request → Taken
 view request = with_body request.head request.body.now
 
--- what contracts see of a reading
+-- a result of parsing as contracts see it
 abbrev pub viewed : Result Request Refusal → Result Taken Refusal
 viewed (Ok request) = Ok (view request)
 viewed (Err refusal) = Err refusal

@@ -13,18 +13,19 @@ use bh_types::refusal::Refusal;
 use httparse::Status;
 use httparse::spans::{HeaderSpan, RequestSpans, parse_request};
 
-/// What the bytes so far say of the request that they begin.
+/// What the bytes received so far decide about the request that they begin.
 #[derive(Clone, Copy)]
 pub enum Arriving {
-    /// No front is a head, and more bytes may make one.
+    /// They don't begin with a head yet, but more bytes may complete one.
     NotYet,
-    /// They begin with a head, after which the body comes that it announces.
+    /// They begin with a head; the body that it announces follows.
     Found(FoundHead),
-    /// Whatever bytes follow, they are refused as these are, with this.
+    /// They are refused with this, whatever bytes follow.
     Refused(Refusal),
 }
 
-/// Looks for the head at the front of the bytes so far. Where its fields are is left in `headers`. It takes no memory.
+/// Looks for a head at the front of the bytes received so far, and writes the places of its fields
+/// to `headers`. It allocates nothing.
 pub fn search(limits: &Limits, bytes: &[u8], headers: &mut [HeaderSpan; MAX_FIELDS]) -> Arriving
     ensures says { Says limits.now bytes.now result }
     ensures finds { FindsIn limits.now bytes.now headers.new result }
@@ -39,7 +40,7 @@ pub fn search(limits: &Limits, bytes: &[u8], headers: &mut [HeaderSpan; MAX_FIEL
     }
 }
 
-/// What a head that was found announces.
+/// The body that a head announces.
 fn announced(
     limits: &Limits,
     bytes: &[u8],
@@ -61,7 +62,7 @@ fn announced_by(spans: RequestSpans, framing: Result<u64, Refusal>) -> Arriving
     }
 }
 
-/// Whether the last line is empty: a head ends so.
+/// Whether the last line is empty, which ends a head.
 pub fn ends_blank(bytes: &[u8]) -> bool
     ensures { result ≡ blank_at_end bytes.now }
 {

@@ -1,35 +1,36 @@
-//! The body of a request, which comes in pieces.
+//! The body of a request, received in pieces.
 
 ghost use Rattle.std.specs.Prelude.{◌≡◌, ◌<◌, ◌≤◌, ◌++◌, [], List, ℕ, length, take, Some, None, IfOk, IfErr, OnErr, OnOk};
 ghost use Rattle.bh_http.specs.Bodies.{Coming, Gives, BreaksOff, MayBreak, IsWhole};
 
 use std::alloc::{AllocError, Global};
 
-/// How many bytes of a body are asked for at once.
+/// The maximum bytes of one read of a body.
 pub const PIECE: usize = 16384;
 
-/// Why a body does not come whole.
+/// Why a body is incomplete.
 #[derive(Clone, Copy, PartialEq, Eq)]
 pub enum Break {
-    /// Its reader failed.
+    /// The reader failed.
     Failed,
-    /// Its bytes ended before it did.
+    /// The reader's bytes ended before the body did.
     Ended,
 }
 
-/// The body of a request, which comes in pieces.
+/// The body of a request, received in pieces.
 pub trait Body {
     ghost coming: { Self → Coming };
 
-    /// How many bytes are to come.
+    /// How many bytes are still to be received.
     fn due(&self) -> u64
         ensures { result ≡ (coming self.now).due };
 
-    /// Why no more come, if that is so.
+    /// Why no more bytes come, if it broke.
     fn broken(&self) -> Option<Break>
         ensures { result ≡ (coming self.now).broken };
 
-    /// Some of the next bytes, at the front of the room, at least one.
+    /// Writes some of the next bytes to the front of the buffer, at least one, and returns their
+    /// number.
     fn next(&mut self, room: &mut [u8]) -> Result<usize, Break>
         requires going { (coming self.old).broken ≡ None }
         requires due { 0 < (coming self.old).due }
@@ -43,7 +44,7 @@ pub trait Body {
         ensures cause { IfErr result (λ cause. (coming self.new).broken ≡ Some cause) };
 }
 
-/// A body that is there as a whole.
+/// A body that is complete in memory.
 #[derive(Drop)]
 pub struct WholeBody<'a> {
     bytes: &'a [u8],
@@ -79,11 +80,11 @@ impl Body for WholeBody<'_> {
     }
 }
 
-/// Why a body was not taken whole.
+/// Why a body was not read whole.
 #[derive(Clone, Copy, PartialEq, Eq)]
 pub enum CollectError {
     Broken(Break),
-    /// A growth of memory was refused.
+    /// Memory ran out.
     OutOfMemory,
 }
 
@@ -109,7 +110,7 @@ impl From<AllocError> for CollectError {
     }
 }
 
-/// Takes what is to come of a body. After an error, some of it came.
+/// Reads the rest of a body. After an error, a part of it was read.
 pub fn collect<B: Body>(alloc: Global, body: &mut B) -> Result<Vec<u8>, CollectError>
     requires going { (B.coming body.old).broken ≡ None }
     ensures gives { IfOk result (λ bytes. Gives (B.coming body.old) (B.coming body.new) bytes.items) }
@@ -133,14 +134,14 @@ fn append(bytes: &mut Vec<u8>, more: &[u8]) -> Result<(), AllocError>
     Ok(())
 }
 
-/// Takes what is to come of a body, and forgets it. After an error, some of it came.
+/// Reads the rest of a body and discards it. After an error, a part of it was read.
 pub fn drain<B: Body>(body: &mut B) -> Result<(), Break>
     requires going { (B.coming body.old).broken ≡ None }
     ensures some { (given : List ℕ) × Gives (B.coming body.old) (B.coming body.new) given }
     ensures whole { OnOk result (IsWhole (B.coming body.new)) }
     ensures broken { OnErr result (BreaksOff (B.coming body.new)) }
 {
-    // Few requests that are drained bring a body, and the room for one is filled with zeros.
+    // Few requests that are drained have a body, and the buffer for one is filled with zeros.
     if body.due() == 0 {
         return Ok(());
     }

@@ -8,8 +8,8 @@ use bh_types::access_key::AccessKeyId;
 use bh_types::refusal::Refusal;
 use std::alloc::{AllocError, Global};
 
-/// The secret that a request carries by its head, whatever its body, as it was sent: the value of `x-secret-key`. AccessDenied where
-/// it or `x-access-key` does not stand exactly once.
+/// The secret in a request's head, unchanged: the value of `x-secret-key`. Fails with AccessDenied
+/// unless it and `x-access-key` occur exactly once each.
 pub fn secret_of<'a>(head: &Head<'a>) -> Result<&'a [u8], Refusal>
     ensures ok { (body : List ℕ) → IfOk result (λ secret. spec.secret_given (with_body head.now body) ≡ Ok secret.now) }
     ensures err { (body : List ℕ) → IfErr result (λ refusal. spec.secret_given (with_body head.now body) ≡ Err refusal) }
@@ -24,9 +24,9 @@ pub fn secret_of<'a>(head: &Head<'a>) -> Result<&'a [u8], Refusal>
     }
 }
 
-/// The access key that a request names by its head, whatever its body: by its single `x-access-key`; its tenant is whose request it
-/// is, whatever the secret. `None` where the field does not stand exactly once, or the text before its
-/// first `$` is no tenant's name. An error says that memory ran out.
+/// The access key in a request's head, from its only `x-access-key`. Its tenant owns the request,
+/// whatever the secret. `None` if the field doesn't occur exactly once, or if the text before its
+/// first `$` is not a tenant's name. Fails if memory runs out.
 pub fn access_key_of(alloc: Global, head: &Head) -> Result<Option<AccessKeyId>, AllocError>
     ensures { (body : List ℕ) → IfOk result (λ key. key ≡ spec.key_given (with_body head.now body)) }
 {

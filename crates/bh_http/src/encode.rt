@@ -14,11 +14,12 @@ use http::StatusCode;
 use std::alloc::{AllocError, Global};
 use std::fmt::Display;
 
-/// Room for the head of a response, in bytes, so that one allocation holds the whole response.
+/// The buffer's space for the head of a response, in bytes, so that one allocation has room for the
+/// whole response.
 const HEAD_ROOM: usize = 512;
 
 /// The bytes of a response: status line, header fields, an empty line, the body (RFC 9112, section
-/// 2.1). An error says that memory ran out.
+/// 2.1). Fails if memory runs out.
 pub fn response_bytes(alloc: Global, response: &Response) -> Result<Vec<u8>, AllocError>
     ensures { IfOk result (λ bytes. bytes.items ≡ spec.response_text (response_view response.now)) }
 {
@@ -114,7 +115,7 @@ fn push_refusal(out: &mut String, refusal: Option<Refusal>) -> Result<(), AllocE
     }
 }
 
-/// Adds the line of a field where a test holds.
+/// Adds the line of a field if a test holds.
 fn push_when(out: &mut String, name: &str, value: &str, test: bool) -> Result<(), AllocError>
     ensures { OnOk result (Adds out.old out.new
         (spec.field_line (name.now, spec.when test value.now))) }

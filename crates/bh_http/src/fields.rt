@@ -4,14 +4,14 @@ ghost use Rattle.bh_http.specs.Views.{pair_of, pairs_of};
 
 use crate::request::Field;
 
-/// How often a header field stands in a request, and its value where it stands once.
+/// How often a request has a header field, and its value if it occurs once.
 #[derive(Clone, Copy)]
 pub enum Given<'a> {
-    /// It does not stand.
+    /// The field is missing.
     Missing,
-    /// It stands once, with this value.
+    /// The field occurs once, with this value.
     Once(&'a [u8]),
-    /// It stands twice or more.
+    /// The field occurs twice or more.
     Repeated,
 }
 

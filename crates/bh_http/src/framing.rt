@@ -9,7 +9,7 @@ use bh_types::digits::{is_number, number_of};
 use bh_types::limits::Limits;
 use bh_types::refusal::Refusal;
 
-/// The length of the body that follows a head, or the first refusal.
+/// The length of the body after a head, or the first refusal.
 pub fn framing(limits: &Limits, head: &HeadParts) -> Result<u64, Refusal>
     ensures { result ≡ spec.framing limits.now (head_view head.now) }
 {
@@ -45,7 +45,7 @@ fn is_missing(given: Given) -> bool
     }
 }
 
-/// The length that Content-Length announces for a method.
+/// The length by Content-Length, for a method.
 fn announced(max_body: u64, method: &[u8], content_length: Given) -> Result<u64, Refusal>
     ensures { result ≡ spec.announced max_body method.now (given_view content_length.entry) }
 {
@@ -63,7 +63,7 @@ fn needs_length(method: &[u8]) -> bool
     matches!(method, b"PUT" | b"POST")
 }
 
-/// The length that a value of Content-Length announces.
+/// The length in a value of Content-Length.
 fn length_in(max_body: u64, value: &[u8]) -> Result<u64, Refusal>
     ensures { result ≡ spec.length_in max_body value.now }
 {

@@ -10,7 +10,7 @@ use arrayvec::ArrayVec;
 use httparse::Status;
 use httparse::spans::{HeaderSpan, RequestSpans, parse_request};
 
-/// The longest head, in bytes.
+/// The maximum size of a head, in bytes.
 pub const MAX_HEAD: usize = 16384;
 
 /// The parts of a request head, with the last digit of its version HTTP/1.0 or HTTP/1.1.
@@ -22,7 +22,8 @@ pub struct HeadParts<'a> {
     pub fields: Fields<'a>,
 }
 
-/// A head that was found: where its parts are in the bytes, and the size in bytes of the body that it announces.
+/// A head that was found: the places of its parts in the bytes, and the body's size in bytes by
+/// Content-Length.
 #[derive(Clone, Copy)]
 pub struct FoundHead {
     pub spans: RequestSpans,
@@ -30,7 +31,7 @@ pub struct FoundHead {
 }
 
 impl FoundHead {
-    /// The head in the bytes in which it was found.
+    /// The head, in the bytes in which it was found.
     pub fn of<'a>(&self, bytes: &'a [u8], headers: &[HeaderSpan; MAX_FIELDS]) -> Head<'a>
         requires { IsRequestWithin bytes.now headers.now self.now.spans }
         ensures { announced_view result ≡ announced_at bytes.now headers.now self.now }
@@ -45,7 +46,7 @@ impl FoundHead {
     }
 }
 
-/// Where the parts of the head at the front are, if there is one within the limits.
+/// The places of the parts of the head at the front, if there is one within the limits.
 pub fn find_head(bytes: &[u8], headers: &mut [HeaderSpan; MAX_FIELDS]) -> Option<RequestSpans>
     ensures within { IfSome result (λ spans. IsRequestWithin bytes.now headers.new spans) }
     ensures found { IfSome result (λ spans.

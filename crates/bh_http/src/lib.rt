@@ -1,5 +1,5 @@
-//! HTTP/1.1 as the host speaks it: a request's bytes to the request or its refusal, whose request
-//! it is, and a response to its bytes.
+//! The host's HTTP/1.1: parses the bytes of requests or refuses them, finds whose they are, and
+//! encodes responses.
 #![tactic(auto)]
 
 pub mod arriving;

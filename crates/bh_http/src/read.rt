@@ -11,14 +11,15 @@ use bh_types::limits::Limits;
 use bh_types::refusal::Refusal;
 use httparse::spans::{EMPTY_HEADER_SPAN, HeaderSpan, RequestSpans};
 
-/// Reads the head at the front of the bytes, and gives the bytes after it. It takes no memory: both lie in the bytes.
+/// Parses the head at the front of the bytes, and returns it with the bytes after it. Both borrow
+/// the bytes; it allocates nothing.
 ///
-/// The head is a request head of RFC 9112 as `httparse` reads it by default, of at most 16,384
-/// bytes, empty lines before it included, and 64 fields; with HTTP/1.1 exactly one Host stands in
-/// it. Otherwise the bytes are refused as BadRequest. The next refusals come in this order:
-/// NotImplemented for a Transfer-Encoding, BadRequest for a Content-Length that stands twice or is
-/// not digits alone, MissingContentLength for a PUT or POST without it, and EntityTooLarge for more
-/// bytes than `max_body`.
+/// A head is a request head of RFC 9112, as `httparse` parses it by default. It has at most 64
+/// fields and 16,384 bytes, including empty lines before it. With HTTP/1.1 it has exactly one Host.
+/// Other bytes are refused with BadRequest. Then a Transfer-Encoding is refused with
+/// NotImplemented, and a Content-Length that is repeated or isn't digits with BadRequest. Then a
+/// PUT or POST without Content-Length is refused with MissingContentLength, and one above
+/// `max_body` with EntityTooLarge.
 pub fn split_head<'a>(bytes: &'a [u8], limits: &Limits) -> Result<(Head<'a>, &'a [u8]), Refusal>
     ensures ok { IfOk result (λ found. ReadsHead limits.now bytes.now (Ok (announced_view found.0, found.1.now))) }
     ensures err { IfErr result (λ refusal. ReadsHead limits.now bytes.now (Err refusal)) }
@@ -56,19 +57,11 @@ fn split_at<'a>(
     Ok((head, &bytes[spans.len..]))
 }
 
-/// Reads the head at the front of the bytes, as `split_head`.
-pub fn read_head<'a>(bytes: &'a [u8], limits: &Limits) -> Result<Head<'a>, Refusal>
-    ensures ok { IfOk result (λ head. (rest : List ℕ) × ReadsHead limits.now bytes.now (Ok (announced_view head, rest))) }
-    ensures err { IfErr result (λ refusal. ReadsHead limits.now bytes.now (Err refusal)) }
-{
-    let (head, _) = split_head(bytes, limits)?;
-    Ok(head)
-}
-
-/// Reads the request at the front of the bytes; what follows its body is ignored. It takes no memory: the request
-/// lies in the bytes.
+/// Parses the request at the front of the bytes; what follows its body is ignored. The request
+/// borrows the bytes; it allocates nothing.
 ///
-/// The first refusals are those of its head (`split_head`); then IncompleteBody for fewer bytes than were announced.
+/// The first refusals are those of its head (`split_head`); the last is IncompleteBody, if the body
+/// is shorter than announced.
 pub fn read_request<'a>(bytes: &'a [u8], limits: &Limits) -> Result<Request<'a>, Refusal>
     ensures { Reads limits.now bytes.now (viewed result) }
 {
@@ -78,8 +71,9 @@ pub fn read_request<'a>(bytes: &'a [u8], limits: &Limits) -> Result<Request<'a>,
     }
 }
 
-/// The request of a head and of the bytes after it: IncompleteBody for fewer bytes than were announced.
-pub fn with_body<'a>(head: Head<'a>, rest: &'a [u8]) -> Result<Request<'a>, Refusal>
+/// The request of a head and of the bytes after it. Fails with IncompleteBody if the body is
+/// shorter than announced.
+fn with_body<'a>(head: Head<'a>, rest: &'a [u8]) -> Result<Request<'a>, Refusal>
     ensures { viewed result ≡ completed (announced_view head.entry) rest.now }
 {
     if head.body_size > rest.len() as u64 {
@@ -89,7 +83,7 @@ pub fn with_body<'a>(head: Head<'a>, rest: &'a [u8]) -> Result<Request<'a>, Refu
     Ok(Request { head, body })
 }
 
-/// Bytes have one reading.
+/// Parsing is deterministic.
 pub fn one_reading()
     ensures { OneReading }
 {}

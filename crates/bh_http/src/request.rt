@@ -1,6 +1,6 @@
 use arrayvec::ArrayVec;
 
-/// The most header fields of a request.
+/// The maximum number of header fields in a request.
 pub const MAX_FIELDS: usize = 64;
 
 /// A header field (RFC 9110, section 5): its name as it was written, and its value without the
@@ -12,7 +12,7 @@ pub struct Field<'a> {
 }
 
 impl Default for Field<'_> {
-    /// What an unused place of a request's fields holds.
+    /// The value of an unused place in a request's fields.
     fn default() -> Self {
         Field {
             name: b"",
@@ -24,9 +24,9 @@ impl Default for Field<'_> {
 /// The header fields of a request, in their order.
 pub type Fields<'a> = ArrayVec<Field<'a>, MAX_FIELDS>;
 
-/// The head of a request: the method and the target of its request line (RFC 9112, section 3), its
-/// header fields in their order, and how many bytes the body has that Content-Length announces. It
-/// lies in the bytes that it was read from.
+/// A request's head: the method and the target of its request line (RFC 9112, section 3), its
+/// header fields in order, and the body's size in bytes by Content-Length. It borrows the bytes
+/// that it was read from.
 #[derive(Drop)]
 pub struct Head<'a> {
     pub method: &'a [u8],
@@ -35,8 +35,8 @@ pub struct Head<'a> {
     pub body_size: u64,
 }
 
-/// A request: its head, and the body that Content-Length framed. All of it lies in the bytes that the
-/// request was read from.
+/// A request: its head, and the body framed by Content-Length. It borrows the bytes from which it
+/// was parsed.
 #[derive(Drop)]
 pub struct Request<'a> {
     pub head: Head<'a>,

@@ -9,34 +9,34 @@ use bh_types::refusal::Refusal;
 use http::StatusCode;
 use std::alloc::Global;
 
-/// A response: its status code, what its header fields say where they stand, and its body. Each
-/// response also says `connection: close`.
+/// A response: its status code, the values of its optional header fields, and its body. Each
+/// response also has `connection: close`.
 #[derive(Drop)]
 pub struct Response {
     pub status: StatusCode,
     pub content_type: Option<ContentType>,
-    /// The bytes of the body, or for HEAD of the body that GET would have. It stands except with
-    /// 204.
+    /// The size of the body in bytes; for HEAD, of the body that GET would have. It is present
+    /// except with 204.
     pub content_length: Option<u64>,
     pub content_range: Option<ContentRange>,
-    /// Whether `accept-ranges: bytes` stands.
+    /// Whether the response has `accept-ranges: bytes`.
     pub accepts_ranges: bool,
     pub allow: Option<Allow>,
     /// `x-amz-checksum-sha256`: the text of a checksum.
     pub checksum: Option<String>,
     /// `x-amz-version-id`.
     pub version_id: Option<VersionId>,
-    /// Whether `x-amz-delete-marker: true` stands.
+    /// Whether the response has `x-amz-delete-marker: true`.
     pub delete_marker: bool,
-    /// `x-amz-abort-date`: when the upload that was begun will be stale.
+    /// `x-amz-abort-date`: when the upload becomes stale.
     pub abort_date: Option<Moment>,
-    /// `x-refusal`: why the request was refused.
+    /// `x-refusal`: the refusal's code.
     pub refusal: Option<Refusal>,
     pub body: Vec<u8>,
 }
 
 impl Response {
-    /// A response of a status alone, without a length, as 204 has it. Takes no memory.
+    /// A response with a status alone, without a length, as 204 has it. It allocates nothing.
     pub fn bare(alloc: Global, status: StatusCode) -> Response
         ensures { spec.response_view result ≡ spec.bare status }
     {
@@ -56,7 +56,7 @@ impl Response {
         }
     }
 
-    /// A response with a body of no bytes. Takes no memory.
+    /// A response with an empty body. It allocates nothing.
     pub fn empty(alloc: Global, status: StatusCode) -> Response
         ensures { spec.response_view result ≡ spec.empty status }
     {
@@ -65,7 +65,7 @@ impl Response {
         response
     }
 
-    /// A response with a JSON document as its body. Takes no memory.
+    /// A response with a JSON document as its body. It allocates nothing.
     pub fn with_document(alloc: Global, status: StatusCode, document: Vec<u8>) -> Response
         ensures { spec.response_view result ≡ spec.with_document status document.items }
     {
@@ -76,8 +76,8 @@ impl Response {
         response
     }
 
-    /// The response to what was refused: with the document as its body, or with no bytes where the
-    /// refusal has no document. Takes no memory.
+    /// The response to a refused request, with the refusal's document as its body, or an empty body
+    /// if it has none. It allocates nothing.
     pub fn refused(alloc: Global, refusal: Refusal, document: Vec<u8>) -> Response
         ensures { spec.response_view result ≡ spec.refused refusal document.items }
     {
@@ -89,7 +89,7 @@ impl Response {
         response
     }
 
-    /// The response without a document to what was refused. Takes no memory.
+    /// The response to a refused request, without a document. It allocates nothing.
     pub fn bare_refusal(alloc: Global, refusal: Refusal) -> Response
         ensures { spec.response_view result ≡ spec.bare_refusal refusal }
     {
@@ -99,8 +99,8 @@ impl Response {
     }
 }
 
-/// Whether a refusal is answered with a document: each but BadRequest, NotImplemented,
-/// MissingContentLength, EntityTooLarge, IncompleteBody, ClockOutOfRange and ServiceUnavailable.
+/// Whether a refusal has a document: all but BadRequest, NotImplemented, MissingContentLength,
+/// EntityTooLarge, IncompleteBody, ClockOutOfRange and ServiceUnavailable.
 pub fn has_document(refusal: Refusal) -> bool
     ensures { result ≡ spec.has_document refusal }
 {

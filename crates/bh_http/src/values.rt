@@ -3,7 +3,7 @@ ghost use Rattle.bh_http.specs.Values.{content_type_text, allow_text};
 
 use std::fmt;
 
-/// What a response's body is (RFC 9110, section 8.3).
+/// The type of a response's body (RFC 9110, section 8.3).
 #[derive(Clone, Copy, PartialEq, Eq)]
 pub enum ContentType {
     /// A JSON document: `application/json`.
@@ -35,13 +35,14 @@ impl fmt::Display for ContentType {
     }
 }
 
-/// Which bytes of an object are sent, or that the asked ones can't be (RFC 9110, section 14.4).
+/// The range of an object that is sent, or that the requested range can't be (RFC 9110, section
+/// 14.4).
 #[derive(Clone, Copy, PartialEq, Eq)]
 pub enum ContentRange {
     /// The bytes from `first` to `last`, both included and counted from 0, of an object of `size`
     /// bytes.
     Part { first: u64, last: u64, size: u64 },
-    /// None of the asked bytes are among the object's `size` bytes.
+    /// The requested range has none of the object's `size` bytes.
     Unsatisfied { size: u64 },
 }
 
@@ -59,7 +60,7 @@ impl fmt::Display for ContentRange {
     }
 }
 
-/// The methods that a target takes (RFC 9110, section 10.2.1), by what the target is.
+/// The methods that a target supports (RFC 9110, section 10.2.1), by the kind of the target.
 #[derive(Clone, Copy, PartialEq, Eq)]
 pub enum Allow {
     /// The target `/`.

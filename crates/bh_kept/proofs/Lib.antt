@@ -2,3 +2,4 @@ mod Held
 mod Again
 mod Keeping
 mod Shown
+pub mod Over

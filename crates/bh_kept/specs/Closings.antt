@@ -1,4 +1,4 @@
--- What files hold whose connection was closed, and what is opened on them again.
+-- The contents of files whose connection was closed, and a connection that is opened on them again.
 use Rattle.std.specs.Prelude.{◌≡◌, IsTrue}
 use Rattle.sqlite_disk.specs.declared.Disk.{Ghosts}
 use Rattle.sqlite_disk.specs.declared.Files.{Files}
@@ -9,13 +9,13 @@ use Rattle.sqlite.specs.Held.{Held}
 use Rattle.sqlite.specs.State.{HasCleanDisk, IsLive, Opens}
 
 module _ {D : Type 0} {g : Ghosts D} where
-  -- no fault had shut the connection, and the two files hold what it had committed
+  -- no fault had shut the connection, and the two files have what it had committed
   pub record IsHeldIn (c : Held (FileStore D g)) (files : Files D) : Type 0 where
     pub was_clean : HasCleanDisk (file_state c)
     pub was_open : IsTrue (file_state c).is_open
     pub held : ∥ HoldsDatabase (image_of g files) (file_state c).committed.trees ∥₁
 
-  -- it shows what was committed, and a crash leaves nothing else than before
+  -- it has what was committed, and a crash leaves nothing else than before
   pub record IsOpenAgain (old new : Held (FileStore D g)) : Type 0 where
     pub was_clean : HasCleanDisk (file_state old)
     pub was_open : IsTrue (file_state old).is_open

@@ -13,12 +13,12 @@ use Rattle.bh_schema.specs.Storage as storage
 use Rattle.bh_dispatch.specs.Seeing as recalling
 use Rattle.bh_dispatch.specs.declared.recalling.RecallingStorage.{RecallingStorage}
 
--- a file holds a host's database with these tables, as it reads and as a crash leaves it
+-- a file has a host's database with these tables, now and after a crash
 abbrev pub Shows : {E : Type 0} → disk.Ghosts E → E → Tables → Type 0
 Shows e copy x = (db : Database) × IsFileOf e db copy × (x ≡ tables_shown db)
 
 module _ {D G : Type 0} {g : disk.Ghosts D} where
-  -- of one that was lost nothing is known
+  -- nothing is known of a lost host
   abbrev pub IsIntact : Option (RecallingStorage (FileStore D g) G) → Type 0
   IsIntact (Some it) = storage.IsIntact over_files it.storage.host
   IsIntact None = ⊥

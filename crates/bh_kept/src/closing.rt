@@ -1,4 +1,4 @@
-//! A connection whose files are closed, to be read and opened again.
+//! Closes a connection's files, so that they can be copied and reopened.
 
 ghost use Rattle.std.specs.Prelude.{◌≡◌, false, IfErr, IfOk, IfSome, IsTrue};
 ghost use Rattle.sqlite.specs.Closing.{IsCopied};
@@ -11,16 +11,19 @@ use sqlite_disk::Disk;
 use sqlite_trees::error::StoreError;
 use sqlite_trees::store::Store;
 
-/// Why the log of a connection isn't copied into its database file, and the two files, closed, unless the fault has shut them.
+/// Why a connection's log can't be copied into its database file; and the two closed files, unless
+/// the fault has shut them.
 #[derive(Drop)]
 pub struct Unclosed<D: Disk + Drop> {
     pub error: StoreError,
     pub files: Option<Files<D>>,
 }
 
-/// Closes the files of a connection, whose log is copied into the database file first. What wasn't committed is in neither.
+/// Closes the files of a connection, and copies the log into the database file first. Neither has
+/// uncommitted changes.
 ///
-/// Where the log isn't copied, as on a full disk, the files hold what was committed together, unless a fault has shut them.
+/// If the log isn't copied, as on a full disk, the files together have what was committed, unless a
+/// fault has shut them.
 pub fn close<D: Disk + Drop>(connection: Connection<FileStore<D>>) -> Result<Files<D>, Unclosed<D>>
     ensures usable { IfOk result (λ files. IsTrue (D.Disk.is_usable files.log) × IsTrue (D.Disk.is_usable files.db)) }
     ensures copied { IfOk result (λ files. AreClean D.Disk files.log files.db → IsCopied connection files) }
@@ -37,7 +40,7 @@ pub fn close<D: Disk + Drop>(connection: Connection<FileStore<D>>) -> Result<Fil
     }
 }
 
-/// The files of a store whose log wasn't copied.
+/// The files of a store whose log can't be copied.
 fn files_left<D: Disk + Drop>(store: FileStore<D>, error: StoreError) -> Unclosed<D>
     ensures { IfSome result.files (λ files. ((files.log, files.db) ≡ store_files store) × (seems_broken store ≡ false)) }
 {

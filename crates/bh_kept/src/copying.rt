@@ -1,4 +1,4 @@
-//! The files of a connection, closed, copied and opened again.
+//! Closes a connection's files, copies them, and reopens them.
 
 ghost use Rattle.std.specs.Prelude.{◌≡◌, IfSome, IsTrue};
 ghost use Rattle.sqlite.specs.Files.{file_state};
@@ -15,29 +15,30 @@ use sqlite::{Alter, Connection, FileFrom, FileStore, Files, Wary};
 use sqlite_disk::Disk;
 use std::fmt;
 
-/// A file that was made as a copy. Its bytes are those that were written to it: whatever it held before is cut off first.
+/// A file that was made as a copy. Its bytes are those that were written to it: earlier contents
+/// are truncated first.
 pub type CopyFile = FileFrom<Wary>;
 
-/// The files of a connection, closed, and the copy of the database file, if one was made.
+/// A connection's closed files, and the copy of the database file, if one was made.
 #[derive(Drop)]
 struct ClosedHost<D: Disk + Drop> {
     files: Files<D>,
     copy: Option<CopyFile>,
 }
 
-/// A copy of a database file, if one was made, and the connection, opened again if it could be.
+/// A copy of a database file, if one was made, and the connection, if it could be reopened.
 #[derive(Drop)]
 pub struct CopiedHost<D: Disk + Drop> {
     pub copy: Option<CopyFile>,
     pub connection: Option<Connection<FileStore<D>>>,
 }
 
-/// Says on standard error what became of a backup. What standard error doesn't take is lost.
+/// Prints a backup's outcome on standard error. If that can't be written, it is lost.
 fn tell(errors: &impl Eprint, to: &str, what: &str, why: &impl fmt::Display) {
     let _ = eprintln!(errors; "bucketd: {what} {to}: {why}");
 }
 
-/// Copies a database file that is closed to a new one, if nothing hinders it.
+/// Copies a closed database file to a new one, if possible.
 fn copy_of<D: Disk + Drop>(rt: &HostRuntime, files: &mut Files<D>, to: &str) -> Option<CopyFile>
     requires { IsTrue (D.Disk.is_usable files.old.db) }
     ensures copied { IfSome result (λ copy. IsClean D.Disk files.new.db
@@ -48,14 +49,14 @@ fn copy_of<D: Disk + Drop>(rt: &HostRuntime, files: &mut Files<D>, to: &str) -> 
     match save_files(rt, files, to, Wary) {
         Ok(copy) => Some(copy),
         Err(fault) => {
-            tell(rt, to, "no backup in", &fault);
+            tell(rt, to, "unable to create", &fault);
             None
         }
     }
 }
 
-/// Closes the files of a connection and copies the database file. Without a copy where the log isn't copied into that; none
-/// where a fault has shut them.
+/// Closes the files of a connection and copies the database file. There is no copy if the log can't
+/// be copied into the file, and no result if a fault has shut the files.
 fn closed_and_copied<D: Disk + Drop>(
     rt: &HostRuntime,
     connection: Connection<FileStore<D>>,
@@ -76,7 +77,7 @@ fn closed_and_copied<D: Disk + Drop>(
             tell(
                 rt,
                 to,
-                "the host's log isn't copied into its file, so there is no backup in",
+                "unable to copy the host's log into its file, and so to create",
                 &error,
             );
             Some(ClosedHost {
@@ -87,9 +88,10 @@ fn closed_and_copied<D: Disk + Drop>(
     }
 }
 
-/// Copies the database file of a connection to a new one, and opens the connection again.
+/// Copies a connection's database file to a new one, and reopens the connection.
 ///
-/// Where that fails, or a fault has shut the files, there is no connection: standard error tells why.
+/// If reopening fails, or a fault has shut the files, there is no connection, and the cause is on
+/// standard error.
 pub fn copy_and_open<D: Disk + Drop>(
     rt: &HostRuntime,
     connection: Connection<FileStore<D>>,
@@ -115,7 +117,7 @@ pub fn copy_and_open<D: Disk + Drop>(
             tell(
                 rt,
                 to,
-                "the host isn't opened again after the backup in",
+                "unable to reopen the host after the backup to",
                 &fault,
             );
             CopiedHost {
@@ -126,7 +128,7 @@ pub fn copy_and_open<D: Disk + Drop>(
     }
 }
 
-/// While no fault has shut a connection, its databases list their schemas.
+/// Until a fault shuts a connection, its databases have their schemas.
 fn look<S: Alter>(connection: &Connection<S>)
     ensures { IsLive (state S.Store connection.now) }
 {

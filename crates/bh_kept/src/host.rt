@@ -1,4 +1,4 @@
-//! A host in files, as long as it can be opened.
+//! A host in files, for as long as it can be opened.
 
 ghost use Rattle.std.specs.Prelude.{◌≡◌, Some, option_map};
 ghost use Rattle.bh_memo.specs.Facts.{nothing};
@@ -9,13 +9,13 @@ use bh_types::limits::Limits;
 use sqlite::{Connection, FileStore};
 use sqlite_disk::Disk;
 
-/// A host in files. A backup closes them, and a host that can't be opened again then is lost.
+/// A host in files. A backup closes them; if the host can't be reopened then, it is lost.
 #[derive(Drop)]
 pub struct KeptHost<'a, D: Disk + Drop, G: Digester + Drop> {
     pub(crate) rt: &'a HostRuntime,
     /// The host, until it is lost.
     pub storage: Option<RecallingStorage<FileStore<D>, G>>,
-    /// What it was made with.
+    /// The limits that it was created with.
     pub limits: Limits,
 }
 
@@ -30,7 +30,7 @@ impl<'a, D: Disk + Drop, G: Digester + Drop> KeptHost<'a, D, G> {
         }
     }
 
-    /// The database, which is what is left of the host, unless that was lost.
+    /// The host's database, unless the host was lost.
     pub fn into_connection(self) -> Option<Connection<FileStore<D>>>
         ensures { result ≡ option_map (λ it. it.storage.host.connection) self.entry.storage }
     {

@@ -1,9 +1,11 @@
-//! A host in files that can be copied between two events: its files are closed, copied and opened again.
+//! A host in files that can be backed up between two events: its files are closed, copied and
+//! reopened.
 #![tactic(auto)]
 
 mod closing;
 mod copying;
 mod host;
+pub mod laws;
 mod storage;
 
 pub use closing::{Unclosed, close};

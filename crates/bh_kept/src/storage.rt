@@ -24,7 +24,7 @@ use sqlite::{FileFrom, FileStore, Wary};
 use sqlite_disk::Disk;
 use std::alloc::Global;
 
-/// Each call is the host's; of one that was lost it says that the store was wanting.
+/// Each call is the host's. After the host was lost, each call fails as if the store had failed.
 impl<'a, D: Disk + Drop, G: Digester + Drop> Storage for KeptHost<'a, D, G> {
     ghost use Rattle.bh_kept.specs.Kept as kept;
     ghost use Rattle.bh_view.specs.Bodies.{IsSoundHost};

@@ -1,4 +1,4 @@
--- What was taken from a reader that tells its bytes, or that does not.
+-- The bytes read from a reader, whether it records its bytes or not.
 use Rattle.std.specs.Prelude.{◌≡◌, ◌≤◌, ◌+◌, ◌⊎◌, ℕ, Bool, true, false, Ok, Err, List, [], ◌∷◌, length, Option, Some, None, Result}
 use Rattle.std.specs.Io.KnownBytes.{Consumes, Keeps, IsAtEnd}
 use Rattle.bh_types.specs.Limits.{HostLimits}
@@ -11,28 +11,30 @@ use Rattle.bh_http.specs.declared.head.FoundHead.{FoundHead}
 use Rattle.bh_link.specs.declared.request.TakeError.{TakeError}
 use Rattle.bh_link.specs.declared.request.TakeError.TheVariants.{ReadFailed, OutOfMemory}
 
--- the next byte was taken, or the end is reached
+-- the next byte was read, or the end is reached
 abbrev pub GivesByte : Option (List ℕ) → Option (List ℕ) → Option ℕ → Type 0
 GivesByte old new (Some byte) = Consumes old new (byte ∷ [])
 GivesByte old new None = Keeps old new × IsAtEnd new
 
--- all the bytes that a reader would give, if it tells them; otherwise those that were taken from it
+-- all the bytes that a reader would return, if it records them; otherwise those that were read from
+-- it
 abbrev pub all_of : Option (List ℕ) → List ℕ → List ℕ
 all_of None taken = taken
 all_of (Some all) taken = all
 
--- a head takes at most 16,384 bytes, and no more than the body that it announces comes after it
+-- a head has at most 16,384 bytes, and no more bytes follow than the body that it announces
 abbrev pub IsShort : HostLimits → List ℕ → Type 0
 IsShort limits taken = (length taken ≤ 16384) ⊎ ((size : ℕ) × Announces limits taken size × (length taken ≤ 16384 + size))
 
--- a request was taken: what was taken is read as all bytes are, and of a request that is accepted it is head and body
+-- a request was read. The read bytes are parsed as all bytes would be; if the request is accepted,
+-- they are its head and body
 pub record Took (limits : HostLimits) (old new : Option (List ℕ)) (taken : List ℕ) : Type 0 where
   pub consumed : Consumes old new taken
   pub short : IsShort limits taken
   pub decided : (answer : Result Taken Refusal) → Reads limits taken answer → Reads limits (all_of old taken) answer
   pub whole : (n : ℕ) → HasExtent limits (all_of old taken) n → length taken ≡ n
 
--- no byte was taken after head and body of a request that is accepted
+-- no byte after an accepted request's head and body was read
 pub record TookAtMost (limits : HostLimits) (old new : Option (List ℕ)) (taken : List ℕ) : Type 0 where
   pub consumed : Consumes old new taken
   pub short : IsShort limits taken
@@ -42,7 +44,8 @@ pub record TookAtMost (limits : HostLimits) (old new : Option (List ℕ)) (taken
 abbrev pub IsHead : HostLimits → List ℕ → ℕ → Type 0
 IsHead limits bytes size = (head : RequestHead) × HasHead bytes head [] × (framing limits (parts_of head) ≡ Ok size)
 
--- what the bytes up to the end of a head came to: never a request that is accepted; all that there is, and no head; or a head
+-- the result for the bytes up to the end of a head: never an accepted request, whatever follows; all
+-- bytes, without a head; or a head
 abbrev pub CameTo : HostLimits → Option (List ℕ) → List ℕ → ℕ → Type 0
 CameTo limits new bytes body =
     (NeverAccepted limits bytes × (body ≡ 0)) ⊎ ((IsAtEnd new × (HasNoHead bytes × (body ≡ 0))) ⊎ IsHead limits bytes body)
@@ -52,7 +55,7 @@ pub record Opens (limits : HostLimits) (old new : Option (List ℕ)) (bytes : Li
   pub short : length bytes ≤ 16384
   pub came_to : CameTo limits new bytes body
 
--- how many bytes of a body are to come after a head
+-- the size of the body after a head
 abbrev pub announced_size : Result FoundHead Refusal → ℕ
 announced_size (Ok head) = head.body_size
 announced_size (Err refusal) = 0

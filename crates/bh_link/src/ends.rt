@@ -1,4 +1,4 @@
-//! What a link reads from and writes to.
+//! The ends that a link reads from and writes to.
 
 ghost use Rattle.std.specs.Prelude.{◌≡◌, ◌<◌, ◌∷◌, ℕ, List, [], length, Option, None};
 ghost use Rattle.std.specs.Io.{ReadsAtMost, WritesAtMost};
@@ -8,15 +8,16 @@ ghost use Rattle.bh_http.specs.Transfers.{Transfer, transfer_of, Logs};
 use std::io;
 use std::io::{Read, Write};
 
-/// Gives bytes, one after another. It may tell those that are to come, and what each call gave.
+/// A source of bytes. It may record the bytes that are still to come, and the results of its calls.
 pub trait Source {
-    /// The bytes that it will give from here on, if it tells them.
+    /// The bytes that it will return from here on, if it records them.
     ghost remaining: { Self → Option (List ℕ) } = { λ _. None };
 
-    /// What its calls gave, oldest first, if it tells them.
+    /// The results of its calls, oldest first, if it records them.
     ghost transfers: { Self → Option (List Transfer) } = { λ _. None };
 
-    /// Gives some of the next bytes, at the front of the room; 0 at the end.
+    /// Writes some of the next bytes to the front of the buffer, and returns their number; 0 at the
+    /// end.
     fn give(&mut self, room: &mut [u8]) -> io::Result<usize>
         requires { 0 < length room.old }
         ensures within { ReadsAtMost result room.new }
@@ -24,15 +25,15 @@ pub trait Source {
         ensures transfer { Logs (transfers self.old) (transfers self.new) (transfer_of result room.new ∷ []) };
 }
 
-/// Takes bytes, one after another. It may tell those that it holds, and what each call took.
+/// A sink of bytes. It may record the bytes that it has, and the results of its calls.
 pub trait Sink {
-    /// The bytes that it holds, if it tells them.
+    /// The bytes that it has, if it records them.
     ghost contents: { Self → Option (List ℕ) } = { λ _. None };
 
-    /// What its calls took, oldest first, if it tells them.
+    /// The results of its calls, oldest first, if it records them.
     ghost transfers: { Self → Option (List Transfer) } = { λ _. None };
 
-    /// Takes some of these bytes, the first ones; 0 where it takes no more.
+    /// Writes the first of these bytes and returns their number; 0 if it takes no more.
     fn take(&mut self, bytes: &[u8]) -> io::Result<usize>
         requires { 0 < length bytes.now }
         ensures within { WritesAtMost result bytes.now }
@@ -40,7 +41,7 @@ pub trait Sink {
         ensures transfer { Logs (transfers self.old) (transfers self.new) (transfer_of result bytes.now ∷ []) };
 }
 
-/// A reader or a writer, as a source or a sink that doesn't tell what its calls moved.
+/// A reader or a writer, as a source or a sink that doesn't record its calls.
 #[derive(Clone, Copy, Drop)]
 pub struct Untold<T>(pub T);
 

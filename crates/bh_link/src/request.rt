@@ -13,12 +13,12 @@ use bh_types::refusal::Refusal;
 use httparse::spans::HeaderSpan;
 use std::alloc::{AllocError, Global};
 
-/// Why no head was taken.
+/// Why no head was read.
 #[derive(Clone, Copy, PartialEq, Eq)]
 pub enum TakeError {
     /// The source failed.
     ReadFailed,
-    /// A growth of memory was refused.
+    /// Memory ran out.
     OutOfMemory,
 }
 
@@ -38,7 +38,7 @@ impl From<AllocError> for TakeError {
     }
 }
 
-/// The bytes up to the end of a head, and the head in them, or what they are refused with.
+/// The bytes up to the end of a head, and the head in them, or their refusal.
 #[derive(Drop)]
 pub struct Opening {
     pub bytes: Vec<u8>,
@@ -48,8 +48,9 @@ pub struct Opening {
 /// Most heads have fewer bytes.
 const USUAL_HEAD: usize = 512;
 
-/// Takes the bytes up to the end of a request's head, a byte at a time, and leaves in `headers` where its fields are. Where they
-/// are no head, or one that is refused, it takes as many as show so, at most 16,384, or all.
+/// Reads the bytes up to the end of a request's head, one at a time, and writes the places of its
+/// fields to `headers`. If they are not a head, or one that is refused, it stops as soon as they
+/// show that, after at most 16,384 bytes, or at the end.
 pub fn take_head<R: Source>(
     alloc: Global,
     limits: &Limits,
@@ -106,14 +107,14 @@ fn push(bytes: &mut Vec<u8>, byte: u8) -> Result<(), AllocError>
     Ok(())
 }
 
-/// Whether a byte so far is in a line that is not empty.
+/// Whether the current line has a byte already.
 fn has_started(started: bool, byte: u8) -> bool
     ensures { result ≡ (started || is_text_byte byte) }
 {
     started || !(byte == b'\r' || byte == b'\n')
 }
 
-/// Whether a head may end here.
+/// Whether a head may end at this byte.
 fn may_end(started: bool, bytes: &[u8]) -> bool
     ensures { result ≡ (started && is_blank_at_end bytes.now) }
 {

@@ -1,4 +1,4 @@
--- The rows of a bucket's versions in the order of a listing, and what is read of each.
+-- The rows of a bucket's versions in the order of a listing, and their values.
 use Rattle.std.specs.Prelude.{ℕ, pos, Bool, ◌&&◌, ◌<◌, List, [], ◌∷◌, filter, take}
 use Rattle.std.specs.List.{AllByRecursion}
 use Rattle.std.specs.Ordering.{ordering_then, int_cmp}
@@ -31,7 +31,7 @@ abbrev pub listed_rows : Octets → Octets → Octets → Octets → ℕ → Lis
 listed_rows tenant bucket from upto count versions =
     take count (sort_by version_order (filter (is_listed tenant bucket from upto) versions))
 
--- what a listing of objects is told of a row: its key, and the object, if it is no delete marker
+-- a row in a listing of objects: its key, and the object, if it is not a delete marker
 abbrev pub row_shown : VersionRow → Shown
 row_shown v = (v.okey, item_of v.marker (record { key = v.okey; moment = v.stamp; size = v.size; checksum = v.checksum }))
 

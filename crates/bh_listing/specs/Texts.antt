@@ -1,4 +1,4 @@
--- What texts show of a host's tables, and what is read of each row.
+-- The results of queries on a host's tables, and the values of their rows.
 use Rattle.std.specs.Prelude.{ℕ, List, ◌∷◌, [], Option, Some, None, Result, IfOk, IfErr}
 use Rattle.std.specs.declared.alloc.Global.{Global}
 use Rattle.std.specs.declared.vec.Vec.{Vec}
@@ -13,13 +13,13 @@ use Rattle.bh_tables.specs.Typed.{Tables, number}
 use Rattle.bh_listing.specs.declared.rows.Keyed.{Keyed}
 use Rattle.bh_listing.specs.declared.rows.Later.{Later}
 
--- what a text shows of a row of a table, what is seen of what is read of it, and what it is told as
+-- a table's row as a query returns it, the spec value of what is read, and its form in a page
 pub record Columns (L R T : Type 0) : Type 0 where
   pub shown : R → Row
   pub see : L → T
   pub told : R → T
 
--- ---- the parameters of a text
+-- ---- the parameters of a query
 
 abbrev pub keyed_params : Keyed → Row
 keyed_params at = Text at.tenant.now ∷ Text at.bucket.now ∷ Blob at.from.now ∷ Blob at.upto.now ∷ number at.count ∷ []
@@ -27,7 +27,7 @@ keyed_params at = Text at.tenant.now ∷ Text at.bucket.now ∷ Blob at.from.now
 abbrev pub later_params : Later → Row
 later_params at = Text at.tenant.now ∷ Text at.bucket.now ∷ Blob at.key.now ∷ number at.after ∷ number at.count ∷ []
 
--- what a connection tells of a text with parameters
+-- a connection's result for a query with parameters
 pub record Queried {S : Type 0} (g : Ghosts S) (old new : Held S) (text : Octets) (params : Row) (result : Result (Vec Row Global) Error) :
     Type 0 where
   pub ok : HasCleanDisk (state g new) → IfOk result (λ v. Shown text params (state g old) (state g new) v.items)
@@ -37,9 +37,9 @@ pub record Queried {S : Type 0} (g : Ghosts S) (old new : Held S) (text : Octets
 -- ---- the rows of a listing
 
 pub record Shows : Type 0 where
-  -- of a tenant's bucket, from a key on and before a text, at most as many
+  -- of a tenant's bucket, from a key on and before a text, with a limit
   pub keyed : Octets → Octets → Octets → Octets → ℕ → Tables → List Row
-  -- of a key in a tenant's bucket, past a number, at most as many
+  -- of a key in a tenant's bucket, past a number, with a limit
   pub later : Octets → Octets → Octets → ℕ → ℕ → Tables → List Row
 
 -- the first rows from a place on: those from a key on, or of a key past a number

@@ -1,4 +1,4 @@
--- What contracts see of a page that is asked for.
+-- A requested page, as contracts see it.
 use Rattle.bh_model.specs.Pages as model
 use Rattle.bh_pages.specs.declared.gathering.PageAsked.{PageAsked}
 

@@ -1,4 +1,4 @@
--- The rows of a bucket's uploads in the order of a listing, and what is read of each.
+-- The rows of a bucket's uploads in the order of a listing, and their values.
 use Rattle.std.specs.Prelude.{ℕ, pos, Bool, ◌&&◌, int_lt, ◌<◌, List, [], ◌∷◌, map, filter, take, Option, Some, None}
 use Rattle.std.specs.List.{AllByRecursion}
 use Rattle.sqlite.specs.declared.types.Value.TheVariants.{Blob}
@@ -38,7 +38,7 @@ abbrev pub place_rows : Octets → Octets → Octets → Option ℕ → Octets �
 place_rows tenant bucket key None upto count uploads = listed_rows tenant bucket key upto count uploads
 place_rows tenant bucket key (Some n) upto count uploads = later_rows tenant bucket key n count uploads
 
--- what a listing tells of a row
+-- a row in a listing of uploads
 abbrev pub row_item : UploadRow → UploadItem
 row_item u = record { key = u.okey; id = record { number = u.upload }; begun = u.begun }
 

@@ -1,4 +1,4 @@
--- The rows of a listing of versions, and what contracts see of the page that is asked for.
+-- The rows of a listing of versions, and the requested page as contracts see it.
 use Rattle.std.specs.Prelude.{ℕ, pos, Bool, false, ◌&&◌, int_lt, List, [], ◌∷◌, map, filter, take, Option, Some, None, option_map}
 use Rattle.std.specs.Prelude.{if◌then◌else◌}
 use Rattle.sqlite.specs.declared.types.Value.TheVariants.{Text, Blob}
@@ -38,7 +38,7 @@ abbrev pub place_rows : Octets → Octets → Octets → Option ℕ → Octets �
 place_rows tenant bucket key None upto count versions = listed_rows tenant bucket key upto count versions
 place_rows tenant bucket key (Some seq) upto count versions = older_rows tenant bucket key seq count versions
 
--- what a listing of versions is told of a row
+-- a row in a listing of versions
 abbrev pub row_numbered : VersionRow → Numbered
 row_numbered v = (
   v.seq,
@@ -65,19 +65,19 @@ abbrev pub own_rows : Octets → Octets → List VersionRow → List Numbered
 own_rows tenant bucket versions =
     map row_numbered (sort_by version_order (filter (λ v. bytes_eq v.tenant tenant && bytes_eq v.bucket bucket) versions))
 
--- the marker that a page comes after
+-- the marker after which a page begins
 abbrev pub place_view : PageAsked → Wanted → Option VersionPlace
 place_view asked version = option_map (λ key. record { key = key; version = version }) (token_of asked)
 
--- what a listing of versions may show of these rows
+-- the entries that a listing of versions may have of these rows
 abbrev pub versions_of_rows : PageAsked → Wanted → List Numbered → List (Listed VersionItem)
 versions_of_rows asked version rows =
     entries_after asked.prefix.now asked.delimiter.now (λ (v : VersionItem). v.key) (passes_version (token_of asked))
     (versions_after (place_view asked version) (items_next None rows))
 
--- ---- where a page begins
+-- ---- the position at which a page begins
 
--- at a place, after rows of a key, if those before the place show one
+-- at a place, after rows of a key, if those before the place are listed
 pub record Beginning : Type 0 where
   pub place : Place
   pub key : Option Octets
@@ -85,7 +85,7 @@ pub record Beginning : Type 0 where
 abbrev pub seen_start : Start → Beginning
 seen_start s = record { place = seen_place s.place; key = option_map (λ k. k.items) s.key }
 
--- after all that the marker's key has, if there is a marker
+-- after all versions of the marker's key, if there is a marker
 abbrev pub past_marker : PageAsked → Beginning
 past_marker asked = record { place = at_key (start_of asked.prefix.now (token_of asked)); key = None }
 
@@ -93,14 +93,14 @@ past_marker asked = record { place = at_key (start_of asked.prefix.now (token_of
 abbrev pub past_entry : Octets → ℕ → Beginning
 past_entry key seq = record { place = after_entry key seq; key = Some key }
 
--- the marker's key and an id, where the page comes after one version of a key under the prefix
+-- the marker's key and an id, if the page comes after one version of a key under the prefix
 abbrev pub marked : Octets → Option Octets → Wanted → Option (Octets × VersionId)
 marked prefix None version = None
 marked prefix (Some key) Current = None
 marked prefix (Some key) (Named id) = if begins prefix key then Some (key, id) else None
 marked prefix (Some key) Unknown = None
 
--- what a page that begins there may show of a bucket's rows
+-- the entries that a page from there may have of a bucket's rows
 abbrev pub listed_from : PageAsked → Beginning → List Numbered → List (Listed VersionItem)
 listed_from asked start rows =
     versions_to_come asked.prefix.now asked.delimiter.now (token_of asked) (nothing_after start.key)

@@ -1,4 +1,4 @@
-//! What is read of the rows that a text shows.
+//! How the rows of a query are read.
 
 ghost use Rattle.std.specs.Prelude.{◌≡◌, List, map, IfOk};
 ghost use Rattle.bh_tables.specs.Typed.{VersionRow};
@@ -13,17 +13,17 @@ use bh_pages::versions::VersionLine;
 use sqlite::{Error, Row};
 use std::alloc::Global;
 
-/// What is read of a row of a table.
+/// A value that is read from a row of a table.
 pub trait FromRow: Sized {
     /// The rows of the table.
     ghost Of: { Type 0 };
 
-    /// What is seen of what is read.
+    /// The spec value of what is read.
     ghost Seen: { Type 0 };
 
     ghost columns: { Columns Self Of Seen };
 
-    /// An error says that memory ran out, or that a column is of another type.
+    /// Fails if memory runs out, or if a column has another type.
     fn from_row(row: &Row) -> Result<Self, Error>
         ensures { IfOk result (λ line. (r : Of) → row.now ≡ columns.shown r → columns.see line ≡ columns.told r) };
 }
@@ -66,7 +66,7 @@ impl FromRow for VersionLine {
     }
 }
 
-/// What is read of each of some rows. An error says that memory ran out, or that a column is of another type.
+/// The values of some rows. Fails if memory runs out, or if a column has another type.
 pub fn read_rows<L: FromRow + Drop>(alloc: Global, rows: &[Row]) -> Result<Vec<L>, Error>
     ensures { IfOk result (λ lines. (rs : List L.Of) → rows.now ≡ map (L.columns).shown rs
         → map (L.columns).see lines.items ≡ map (L.columns).told rs) }

@@ -1,4 +1,4 @@
-//! What the listings of objects, of versions and of uploads read of a bucket's rows.
+//! The values of a bucket's rows for the listings of objects, versions and uploads.
 
 ghost use Rattle.std.specs.Prelude.{◌≡◌, ◌<◌, ◌^◌, map, IfOk, IfErr};
 ghost use Rattle.bh_model.specs.Pages.{UploadItem};
@@ -20,7 +20,8 @@ use bh_storage::error::Trouble;
 use sqlite::{Alter, Connection, Error, Row};
 use std::alloc::Global;
 
-/// The first versions and delete markers of a bucket with such keys, in the order of a listing.
+/// The first versions and delete markers of a bucket with keys in a range, in the order of a
+/// listing.
 fn object_rows<S: Alter>(connection: &mut Connection<S>, at: &Keyed<'_>) -> Result<Vec<Row>, Error>
     requires inside { InTransaction S.Store connection.old }
     requires small { at.now.count < 2 ^ 63 }
@@ -35,7 +36,7 @@ fn object_rows<S: Alter>(connection: &mut Connection<S>, at: &Keyed<'_>) -> Resu
     at.query(connection, sql)
 }
 
-/// What a listing of objects reads of them.
+/// The values of rows for a listing of objects.
 pub fn object_lines<S: Alter>(
     connection: &mut Connection<S>,
     alloc: Global,

@@ -28,7 +28,7 @@ use bh_types::refusal::Refusal;
 use sqlite::{Alter, Connection};
 use std::alloc::Global;
 
-/// What a page of a bucket's objects takes, and one entry more, if there is one.
+/// The entries of a page of a bucket's objects, and one more if there is one.
 fn gather_objects<S: Alter>(
     connection: &mut Connection<S>,
     alloc: Global,
@@ -58,11 +58,11 @@ fn gather_objects<S: Alter>(
             return Ok(reading.into_entries());
         }
     }
-    // So many rows there are not.
+    // There are fewer rows than that.
     Err(Trouble::Store)
 }
 
-/// S3's ListObjectsV2, a page of a bucket's objects: NoSuchBucket.
+/// S3's ListObjectsV2: a page of a bucket's objects. Refusal: NoSuchBucket.
 pub fn list_objects<S: Alter>(
     connection: &mut Connection<S>,
     alloc: Global,

@@ -21,12 +21,12 @@ pub struct Keyed<'a> {
     pub bucket: &'a str,
     pub from: &'a [u8],
     pub upto: &'a [u8],
-    /// How many at most.
+    /// The maximum number of rows.
     pub count: u64,
 }
 
 impl Keyed<'_> {
-    /// The rows that a text shows with these parameters.
+    /// The rows of the query with these parameters.
     pub fn query<S: Alter>(
         &self,
         connection: &mut Connection<S>,
@@ -48,19 +48,19 @@ impl Keyed<'_> {
     }
 }
 
-/// The rows of a key in a bucket that come after the one of a number.
+/// The rows of a key in a bucket that follow the one with a number.
 #[derive(Clone, Copy)]
 pub struct Later<'a> {
     pub tenant: &'a str,
     pub bucket: &'a str,
     pub key: &'a [u8],
     pub after: u64,
-    /// How many at most.
+    /// The maximum number of rows.
     pub count: u64,
 }
 
 impl Later<'_> {
-    /// The rows that a text shows with these parameters.
+    /// The rows of the query with these parameters.
     pub fn query<S: Alter>(
         &self,
         connection: &mut Connection<S>,
@@ -83,11 +83,11 @@ impl Later<'_> {
     }
 }
 
-/// What is read of rows that a listing reads from any place on, in the order of the listing.
+/// The value of a row that a listing reads from any place on, in the order of the listing.
 pub trait PlacedRow: FromRow {
     ghost rows: { Shows };
 
-    /// The first rows with such keys.
+    /// The first rows with keys in a range.
     fn keyed<S: Alter>(connection: &mut Connection<S>, at: &Keyed<'_>) -> Result<Vec<Row>, Error>
         requires inside { InTransaction S.Store connection.old }
         requires small { at.now.count < 2 ^ 63 }
@@ -97,7 +97,7 @@ pub trait PlacedRow: FromRow {
             (tables S.Store connection.old)) }
         ensures trouble { IfErr result (IsTrouble S.Store connection.old connection.new) };
 
-    /// The first rows of the key past the number.
+    /// The first rows of a key after a number.
     fn later<S: Alter>(connection: &mut Connection<S>, at: &Later<'_>) -> Result<Vec<Row>, Error>
         requires inside { InTransaction S.Store connection.old }
         requires early { at.now.after < 2 ^ 63 }
@@ -114,11 +114,11 @@ pub trait PlacedRow: FromRow {
 pub struct Keys<'a> {
     pub tenant: &'a str,
     pub bucket: &'a str,
-    /// A text that they are before.
+    /// An upper limit, which is not included.
     pub upto: &'a [u8],
 }
 
-/// At most as many rows as this, from a place on.
+/// At most `count` rows, from a place on.
 fn placed_rows<L: PlacedRow, S: Alter>(
     connection: &mut Connection<S>,
     keys: &Keys<'_>,
@@ -165,12 +165,12 @@ fn placed_rows<L: PlacedRow, S: Alter>(
                 },
             ))
         }
-        // No row has so great a number.
+        // No row has a number that large.
         Some(_) => Err(Trouble::Store),
     }
 }
 
-/// What is read of at most as many rows as this, from a place on, in the order of the listing.
+/// The values of at most `count` rows, from a place on, in the order of the listing.
 pub fn lines_at<L: PlacedRow + Drop, S: Alter>(
     connection: &mut Connection<S>,
     alloc: Global,

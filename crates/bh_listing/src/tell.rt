@@ -1,4 +1,4 @@
-//! What a page tells of the entries that were gathered for it.
+//! The contents of a page, from the entries that were gathered for it.
 
 ghost use Rattle.std.specs.Prelude.{◌≡◌, map, flat_map, option_map, take, IfOk};
 ghost use Rattle.std.specs.String.{string_bytes};
@@ -14,43 +14,43 @@ use bh_storage::error::Trouble;
 use bh_types::moment::Moment;
 use std::alloc::{AllocError, Global};
 
-/// What a listing shows by itself, as its page tells it.
+/// An entry that a listing contains, as opposed to a grouped name.
 pub trait Told {
     type Entry: Drop;
 
-    /// Where a page begins.
+    /// The position at which a page begins.
     type Next: Drop;
 
     ghost Item: { Type 0 };
 
     ghost Place: { Type 0 };
 
-    /// What is seen of it.
+    /// The entry's spec value.
     ghost see: { Self → Item };
 
-    /// What is seen of how it is told.
+    /// The spec value of its form in a page.
     ghost view: { Self.Entry → Item };
 
-    /// What is seen of where a page begins.
+    /// The spec value of a page's position.
     ghost next_view: { Self.Next → Place };
 
-    /// Where the page after an entry begins.
+    /// The position of the page after an entry.
     ghost next_of: { Seen Item → Place };
 
-    /// How it is told.
+    /// Its form in a page.
     fn told(&self, alloc: Global) -> Result<Self::Entry, Trouble>
         ensures { IfOk result (λ entry. view entry ≡ see self.now) };
 
-    /// Where the page after it begins.
+    /// The position of the page after it.
     fn next(&self, alloc: Global) -> Result<Self::Next, Trouble>
         ensures { IfOk result (λ next. next_view next ≡ next_of (Single (see self.now))) };
 
-    /// Where the page after a rolled-up name begins.
+    /// The position of the page after a grouped name.
     fn next_past(alloc: Global, name: &[u8]) -> Result<Self::Next, Trouble>
         ensures { IfOk result (λ next. next_view next ≡ next_of (Common name.now)) };
 }
 
-/// A text of these bytes. Bytes that are no UTF-8 can't be read.
+/// The text of these bytes. It fails if they are not UTF-8.
 pub fn text_of(alloc: Global, bytes: &[u8]) -> Result<String, Trouble>
     ensures { IfOk result (λ text. string_bytes text ≡ bytes.now) }
 {
@@ -60,14 +60,14 @@ pub fn text_of(alloc: Global, bytes: &[u8]) -> Result<String, Trouble>
     }
 }
 
-/// The moment of a stamp. One that is none can't be read.
+/// The moment of a stamp. It fails if the stamp is out of range.
 pub fn moment_of(stamp: u64) -> Result<Moment, Trouble>
     ensures { IfOk result (λ moment. moment ≡ stamp) }
 {
     Moment::new(stamp).ok_or(Trouble::Store)
 }
 
-/// What a page shows of what was gathered for it.
+/// The part of the gathered entries that is on the page.
 pub fn shown_of<X>(gathered: &[X], max: u32) -> &[X]
     ensures { result.now ≡ take max gathered.now }
 {
@@ -78,7 +78,7 @@ pub fn shown_of<X>(gathered: &[X], max: u32) -> &[X]
     }
 }
 
-/// The last that a page shows, where it is truncated.
+/// The last entry on the page, if the page is truncated.
 pub fn last_shown<X>(gathered: &[X], max: u32) -> Option<&X>
     ensures { option_map (λ x. x.now) result ≡ (paged max gathered.now).next }
 {
@@ -88,7 +88,7 @@ pub fn last_shown<X>(gathered: &[X], max: u32) -> Option<&X>
     Some(&gathered[max as usize - 1])
 }
 
-/// Those of these entries that are shown by themselves.
+/// The entries that are not grouped names.
 fn singles<T: Told>(alloc: Global, entries: &[Listed<T>]) -> Result<Vec<T::Entry>, Trouble>
     ensures { IfOk result (λ told. map T.view told.items ≡ flat_map single_in (map (entry_by T.see) entries.now)) }
 {
@@ -102,7 +102,7 @@ fn singles<T: Told>(alloc: Global, entries: &[Listed<T>]) -> Result<Vec<T::Entry
     Ok(told)
 }
 
-/// The rolled-up names among these entries.
+/// The grouped names among these entries.
 fn rolled_names<T: Told>(alloc: Global, entries: &[Listed<T>]) -> Result<Vec<CommonPrefix>, Trouble>
     ensures { IfOk result (λ prefixes. map prefix_view prefixes.items ≡ flat_map common_in (map (entry_by T.see) entries.now)) }
 {
@@ -118,7 +118,7 @@ fn rolled_names<T: Told>(alloc: Global, entries: &[Listed<T>]) -> Result<Vec<Com
     Ok(prefixes)
 }
 
-/// Where the page after this entry begins.
+/// The position of the page after this entry.
 fn next_after<T: Told>(alloc: Global, entry: &Listed<T>) -> Result<T::Next, Trouble>
     ensures { IfOk result (λ next. T.next_view next ≡ T.next_of (entry_by T.see entry.now)) }
 {
@@ -128,7 +128,7 @@ fn next_after<T: Told>(alloc: Global, entry: &Listed<T>) -> Result<T::Next, Trou
     }
 }
 
-/// Where the next page begins, where this one is truncated.
+/// The position of the next page, if this one is truncated.
 fn next_page<T: Told>(
     alloc: Global,
     entries: &[Listed<T>],
@@ -143,7 +143,7 @@ fn next_page<T: Told>(
     Ok(Some(next_after(alloc, last)?))
 }
 
-/// What a page tells of these entries, which are those that it takes, and one more, if there is one.
+/// A page from these entries: those that belong to it, and one more if there is one.
 pub fn tell<T: Told>(
     alloc: Global,
     bucket: &str,

@@ -1,4 +1,4 @@
-//! What a page of objects tells.
+//! The contents of a page of objects.
 
 ghost use Rattle.std.specs.String.{string_bytes};
 ghost use Rattle.bh_model.specs.State.{Octets};

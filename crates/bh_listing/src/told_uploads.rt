@@ -1,4 +1,4 @@
-//! What a page of uploads tells.
+//! The contents of a page of uploads.
 
 ghost use Rattle.bh_model.specs.Pages.{UploadItem, UploadNext, upload_next};
 ghost use Rattle.bh_pages.specs.Uploads.{seen_line};

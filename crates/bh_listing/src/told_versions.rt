@@ -1,4 +1,4 @@
-//! What a page of versions tells.
+//! The contents of a page of versions.
 
 ghost use Rattle.std.specs.Prelude.{◌≡◌, option_map, IfOk};
 ghost use Rattle.std.specs.String.{string_bytes};
@@ -14,7 +14,7 @@ use bh_storage::error::Trouble;
 use bh_types::id::VersionId;
 use std::alloc::{AllocError, Global};
 
-/// What a version stores; a delete marker stores nothing.
+/// A version's stored object; a delete marker has none.
 fn stored_object(alloc: Global, version: &VersionLine) -> Result<Option<StoredObject>, AllocError>
     ensures { IfOk result (λ stored. option_map stored_view stored
         ≡ stored_of version.now.marker version.now.size (string_bytes version.now.checksum)) }

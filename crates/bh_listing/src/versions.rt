@@ -36,15 +36,15 @@ use bh_types::wanted::Wanted;
 use sqlite::{Alter, Connection};
 use std::alloc::{AllocError, Global};
 
-/// Where a page begins.
+/// The position at which a page begins.
 #[derive(Drop)]
 pub struct Start {
     pub place: Place,
-    /// The key of the rows before the place, if they show it.
+    /// The key of the rows before the position, if one is listed there.
     pub key: Option<Vec<u8>>,
 }
 
-/// The marker's key and an id, where the page comes after one version of a key under the prefix.
+/// The marker's key and an id, if the page comes after one version of a key under the prefix.
 fn marked_version<'a>(asked: &PageAsked<'a>, version: Wanted) -> Option<(&'a [u8], VersionId)>
     ensures { option_map (λ m. (m.0.now, m.1)) result ≡ marked asked.now.prefix.now (token_of asked.now) version }
 {
@@ -64,7 +64,7 @@ fn marked_version<'a>(asked: &PageAsked<'a>, version: Wanted) -> Option<(&'a [u8
     }
 }
 
-/// After all that the marker's key has, if there is a marker.
+/// The position after all entries of the marker's key, if there is a marker.
 fn start_past(alloc: Global, asked: &PageAsked<'_>) -> Result<Start, AllocError>
     ensures { IfOk result (λ start. seen_start start ≡ past_marker asked.now) }
 {
@@ -75,7 +75,7 @@ fn start_past(alloc: Global, asked: &PageAsked<'_>) -> Result<Start, AllocError>
     })
 }
 
-/// After an entry of a key.
+/// The position after an entry of a key.
 fn start_older(alloc: Global, key: &[u8], seq: u64) -> Result<Start, AllocError>
     ensures { IfOk result (λ start. seen_start start ≡ past_entry key.now seq) }
 {
@@ -111,7 +111,7 @@ fn seq_of<S: Alter>(
     }
 }
 
-/// Where the page begins that comes after a marker, which may be of a version that isn't there.
+/// The position of the page after a marker. The marker's version may be missing.
 fn start_of<S: Alter>(
     connection: &mut Connection<S>,
     alloc: Global,
@@ -136,7 +136,7 @@ fn start_of<S: Alter>(
     }
 }
 
-/// What a page takes of a bucket's versions from here on, and one entry more, if there is one.
+/// The entries of a page of a bucket's versions from here on, and one more if there is one.
 fn gather_versions<S: Alter>(
     connection: &mut Connection<S>,
     alloc: Global,
@@ -171,11 +171,11 @@ fn gather_versions<S: Alter>(
             return Ok(reading.into_entries());
         }
     }
-    // So many rows there are not.
+    // There are fewer rows than that.
     Err(Trouble::Store)
 }
 
-/// What a page of a bucket's versions takes, and one entry more, if there is one.
+/// The entries of a page of a bucket's versions, and one more if there is one.
 fn page_entries<S: Alter>(
     connection: &mut Connection<S>,
     alloc: Global,
@@ -194,7 +194,8 @@ fn page_entries<S: Alter>(
     gather_versions(connection, alloc, tenant, bucket, asked, start)
 }
 
-/// S3's ListObjectVersions, a page of a bucket's versions and delete markers: NoSuchBucket.
+/// S3's ListObjectVersions: a page of a bucket's versions and delete markers. Refusal:
+/// NoSuchBucket.
 pub fn list_versions<S: Alter>(
     connection: &mut Connection<S>,
     alloc: Global,

@@ -5,7 +5,7 @@ use Rattle.std.specs.Result.{IfOk}
 use Rattle.bh_types.specs.Limits.{HostLimits}
 use Rattle.bh_types.specs.Names.{is_tenant_name}
 use Rattle.bh_types.specs.Outcomes.{◌>>=◌, require}
-use Rattle.bh_types.specs.Rejections.{plain, plainly}
+use Rattle.bh_types.specs.Rejections.{plain, plainly, for_date}
 use Rattle.bh_types.specs.declared.id.UploadId.{UploadId}
 use Rattle.bh_types.specs.declared.refusal.Refusal.{Refusal}
 use Rattle.bh_types.specs.declared.refusal.Refusal.TheVariants.{InvalidAccessKeyId, InvalidName, NoSuchLifecycleConfiguration}
@@ -76,7 +76,7 @@ module _ (R : Option State → Option State → Type 0) (now : ℕ) (all : Chang
   sets_retention bucket key wanted body = then_holds (plainly (retention_of body)) _ (λ date. all.retention_put bucket key wanted date s)
 
   retention_read : (bucket key : Octets) (wanted : Wanted) → Holds (get_retention bucket key wanted s)
-  retention_read bucket key wanted = then_holds (wanted_version bucket key wanted s) _ (λ f. same)
+  retention_read bucket key wanted = then_holds (for_date (wanted_version bucket key wanted s)) _ (λ f. same)
 
   finishes : (limits : HostLimits) (bucket key : Octets) (upload : Option UploadId) (body : Octets) → Holds (finish_upload limits now bucket key upload body s)
   finishes limits bucket key upload body =

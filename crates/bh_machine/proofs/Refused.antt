@@ -12,7 +12,7 @@ use Rattle.bh_types.specs.Names.{is_tenant_name, is_key_name, is_secret}
 use Rattle.bh_types.specs.Outcomes.{◌>>=◌, require}
 use Rattle.bh_types.specs.Ranges.{Asked as Range, Between, From, Last, asked_in, part, planned_if_asked, range_of}
 use Rattle.bh_types.specs.Refusing.{RefusedOnly}
-use Rattle.bh_types.specs.Rejections.{plain, plainly}
+use Rattle.bh_types.specs.Rejections.{plain, plainly, for_date}
 use Rattle.bh_types.specs.declared.access_key.AccessKeyId.{AccessKeyId}
 use Rattle.bh_types.specs.declared.bucket_state.BucketState.{BucketState}
 use Rattle.bh_types.specs.declared.bucket_state.BucketState.TheVariants.{Unversioned, Enabled, Suspended}
@@ -169,6 +169,10 @@ lookup_only Unknown entries = refl
 not_found_told : {X : Type 0} (r : Result X LookupFault) → IfErr r fault_only → MaySay (result_map_both (λ (o : X). o) not_found r)
 not_found_told (Ok x) h = tt
 not_found_told (Err e) h = h
+
+for_date_told : {X : Type 0} (r : Result X Rejection) → MaySay r → MaySay (for_date r)
+for_date_told (Ok x) h = tt
+for_date_told (Err e) h = h
 
 found_bucket : (bucket : Octets) (s : Option State) → Only (tenant_bucket bucket s)
 found_bucket bucket s = ok_or_only may _ NoSuchBucket refl
@@ -350,12 +354,12 @@ retention_set_only : (now : ℕ) (bucket key : Octets) (wanted : Wanted) (body :
 retention_set_only now bucket key wanted body s =
     then_told (plainly (retention_of body)) _ (plainly_told (retention_of body) (retention_only body))
     (λ date. then_told (plainly (tenant_bucket bucket s)) _ (plainly_told (tenant_bucket bucket s) (found_bucket bucket s))
-    (λ f. then_told (found_version key wanted f.1) _ (not_found_told (lookup wanted (listed key f.1)) (lookup_only wanted (listed key f.1)))
+    (λ f. then_told (for_date (found_version key wanted f.1)) _ (for_date_told (found_version key wanted f.1) (not_found_told (lookup wanted (listed key f.1)) (lookup_only wanted (listed key f.1))))
     (λ v. then_told (plainly (may_retain (can_retain f.1.locked v.id) (date_of key v.id f.1) (Some date) now)) _ (plainly_told (may_retain (can_retain f.1.locked v.id) (date_of key v.id f.1) (Some date) now) (retained_only (can_retain f.1.locked v.id) (date_of key v.id f.1) (Some date) now))
     (λ _. tt))))
 
 retention_told_only : (bucket key : Octets) (wanted : Wanted) (s : Option State) → MaySay (get_retention bucket key wanted s)
-retention_told_only bucket key wanted s = then_told (wanted_version bucket key wanted s) _ (wanted_only bucket key wanted s) (λ f. tt)
+retention_told_only bucket key wanted s = then_told (for_date (wanted_version bucket key wanted s)) _ (for_date_told (wanted_version bucket key wanted s) (wanted_only bucket key wanted s)) (λ f. tt)
 
 -- ---- uploads
 

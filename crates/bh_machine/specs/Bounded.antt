@@ -1,4 +1,4 @@
--- How much a tenant may come to use.
+-- Limits of a tenant's use.
 use Rattle.std.specs.Prelude.{ℕ, List, Option}
 use Rattle.bh_event.specs.Events.{AddTenant, SetQuota}
 use Rattle.bh_model.specs.QuotaLaws.{FitsQuota, UsesNoMore, IsBounded}
@@ -7,7 +7,7 @@ use Rattle.bh_model.specs.State.{State, absent}
 use Rattle.bh_types.specs.Limits.{HostLimits}
 use Rattle.bh_machine.specs.Machine.{Act, Act.Commanded, step}
 
--- of all acts only the operator's commands that set a quota change it, and no more is used after these
+-- only the operator's commands that set a quota change it, and the use is then no greater
 abbrev pub KeepsQuota : Act → Option State → Option State → Type 0
 KeepsQuota (Commanded (AddTenant tenant quota)) s t = UsesNoMore s t
 KeepsQuota (Commanded (SetQuota tenant quota)) s t = UsesNoMore s t

@@ -1,4 +1,5 @@
--- The private machine of a host: what an event turns out to be, whose it is, and what it makes of its owner's state.
+-- The private machine of a host: how an event is understood, who owns it, and its effect on its
+-- owner's state.
 use Rattle.std.specs.Prelude.{◌≡◌, ℕ, Option, None, option_map, ok_or, Result, Ok, Err, map}
 use Rattle.bh_types.specs.AccessKeys.{tenant_named}
 use Rattle.bh_types.specs.Limits.{HostLimits}
@@ -54,12 +55,14 @@ use Rattle.bh_operation.specs.declared.operation.StoreOperation.TheVariants.{Put
 
 -- ---- acts
 
--- what an event turns out to be: a request, or its first refusal, as its bytes are read; or an operator's order
+-- how an event is understood: as a request, or its first refusal, as its bytes are parsed; or as an
+-- operator's order
 pub data Act : Type 0 where
   RequestRead : (answer : Result Taken Refusal) → Act
   Commanded : (order : Order) → Act
 
--- the act that an event's message is; a sweep, a report and a list of tenants are no act of a tenant or of anybody who asks for one
+-- the act in an event's message; sweeps, reports and lists of tenants are not acts of a tenant, nor
+-- of anybody who asks for one
 abbrev pub Acted : HostLimits → Message → Act → Type 0
 Acted limits (Requested bytes) act = (answer : Result Taken Refusal) × Reads limits bytes answer × (act ≡ RequestRead answer)
 Acted limits (Ordered order) act = act ≡ Commanded order
@@ -71,36 +74,36 @@ abbrev pub asker : Result Taken Refusal → Option Octets
 asker (Ok request) = owner request
 asker (Err refusal) = None
 
--- the tenant that an act belongs to, if it belongs to one
+-- the owner of an act, if it has one
 abbrev pub owner_of : Act → Option Octets
 owner_of (RequestRead answer) = asker answer
 owner_of (Commanded order) = tenant_named (tenant_of order)
 
 -- ---- operations
 
--- the document says what the bucket's versioning is to be
+-- the document has the bucket's new versioning
 abbrev pub set_versioning : Octets → Octets → Option State → Result Outcome Refusal
 set_versioning bucket body s = do
   mode ← versioning_of body
   put_versioning bucket mode s
 
--- the document says after how many days uploads of the bucket go
+-- the document has the number of days after which the bucket's uploads are removed
 abbrev pub set_lifecycle : Octets → Octets → Option State → Result Outcome Refusal
 set_lifecycle bucket body s = do
   days ← lifecycle_of body
   put_lifecycle bucket days s
 
--- the document says until when the version is to be kept
+-- the document has the date until which the version is retained
 abbrev pub set_retention : ℕ → Octets → Octets → Wanted → Octets → Option State → Result Outcome Rejection
 set_retention now bucket key wanted body s = do
   date ← plainly (retention_of body)
   put_retention now bucket key wanted date s
 
--- the page that a request asks for
+-- the page in a request
 abbrev pub page_asked : Page → pages.PageAsked
 page_asked page = record { prefix = page.prefix; delimiter = page.delimiter; max = page.size }
 
--- the entry that it begins after
+-- the entry after which it begins
 abbrev pub place_asked : VersionMarker → pages.VersionPlace
 place_asked marker = record { key = marker.key; version = marker.version }
 
@@ -117,19 +120,19 @@ finish_upload limits now bucket key upload body s = do
   parts ← complete_of body
   complete_upload now limits.min_part bucket key upload (map naming parts) s
 
--- what is asked of all buckets of a tenant
+-- an operation on all buckets of a tenant
 unfoldable pub service_operated : ServiceOperation → Option State → Result Outcome Rejection
 service_operated ListBuckets s = plainly (list_buckets s)
 service_operated Usage s = plainly (tell_usage s)
 
--- of a bucket itself, at a moment
+-- on a bucket itself, at a moment
 unfoldable pub bucket_operated : ℕ → BucketOperation → Option State → Result Outcome Rejection
 bucket_operated now (CreateBucket bucket locked) s = plainly (create_bucket now bucket locked s)
 bucket_operated now (HeadBucket bucket) s = plainly (head_bucket bucket s)
 bucket_operated now (DeleteBucket bucket) s = plainly (delete_bucket bucket s)
 bucket_operated now (GetBucketVersioning bucket) s = plainly (get_versioning bucket s)
 
--- a page of what a bucket has
+-- a page of a bucket's contents
 unfoldable pub listing_operated : ListingOperation → Option State → Result Outcome Rejection
 listing_operated (ListObjectsV2 bucket page token) s = plainly (list_objects bucket (page_asked page) token s)
 listing_operated (ListObjectVersions bucket page after) s =
@@ -137,18 +140,18 @@ listing_operated (ListObjectVersions bucket page after) s =
 listing_operated (ListMultipartUploads bucket page after) s =
     plainly (list_uploads bucket (page_asked page) (option_map upload_asked after) s)
 
--- of a bucket's rule
+-- on a bucket's rule
 unfoldable pub lifecycle_operated : LifecycleOperation → Option State → Result Outcome Rejection
 lifecycle_operated (GetLifecycle bucket) s = plainly (get_lifecycle bucket s)
 lifecycle_operated (DeleteLifecycle bucket) s = plainly (delete_lifecycle bucket s)
 
--- of an upload
+-- on an upload
 unfoldable pub upload_operated : ℕ → UploadOperation → Option State → Result Outcome Rejection
 upload_operated now (CreateMultipartUpload object) s = plainly (create_upload now object.bucket object.key s)
 upload_operated now (ListParts object upload page) s = plainly (list_parts object.bucket object.key upload page.size page.after s)
 upload_operated now (AbortMultipartUpload object upload) s = plainly (abort_upload object.bucket object.key upload s)
 
--- of an object
+-- on an object
 unfoldable pub object_operated : ℕ → ObjectOperation → Option State → Result Outcome Rejection
 object_operated now (CopyObject object source date) s =
     plainly (copy_object now object.bucket object.key source.object.bucket source.object.key source.version date s)
@@ -156,7 +159,7 @@ object_operated now (HeadObject object version) s = head_object object.bucket ob
 object_operated now (DeleteObject object version) s = plainly (delete_object now object.bucket object.key version s)
 object_operated now (GetRetention object version) s = get_retention object.bucket object.key version s
 
--- an operation that reads nothing of its request's body
+-- an operation that doesn't need its request's body
 unfoldable pub bare_operated : ℕ → BareOperation → Option State → Result Outcome Rejection
 bare_operated now (Service operation) s = service_operated operation s
 bare_operated now (Bucket operation) s = bucket_operated now operation s
@@ -165,7 +168,7 @@ bare_operated now (Lifecycle operation) s = lifecycle_operated operation s
 bare_operated now (Upload operation) s = upload_operated now operation s
 bare_operated now (Object operation) s = object_operated now operation s
 
--- by its document, which is read before anything is looked at, on a host with these limits
+-- by its document, which is parsed before anything is looked up, on a host with these limits
 unfoldable pub document_operated : HostLimits → ℕ → Octets → DocumentOperation → Option State → Result Outcome Rejection
 document_operated limits now document (PutBucketVersioning bucket) s = plainly (set_versioning bucket document s)
 document_operated limits now document (PutLifecycle bucket) s = plainly (set_lifecycle bucket document s)
@@ -188,7 +191,8 @@ operated limits now body (GetObject object version range) s = get_object object.
 
 -- ---- requests and orders
 
--- a request: its credentials, what it asks for by its target and names, and then what comes of that
+-- a request: its credentials, its operation by its target and names, and then that operation's
+-- effect
 abbrev pub requested : HostLimits → ℕ → Taken → Option State → Result Outcome Rejection
 requested limits now request s = do
   secret ← plainly (secret_given request)
@@ -209,11 +213,12 @@ ordered (RemoveKey tenant name) s = remove_key tenant name s
 ordered (ShowUsage tenant) s = show_usage tenant s
 ordered (ShowKeys tenant) s = show_keys tenant s
 
--- what an act makes of its owner's state once that is purged
+-- an act's effect on its owner's state once that is purged
 abbrev pub change : HostLimits → ℕ → Act → Option State → Result Outcome Rejection
 change limits now (RequestRead answer) s = asked limits now answer s
 change limits now (Commanded order) s = plainly (ordered order s)
 
--- an act at a moment: the owner's stale uploads go, and then comes the change, or a refusal that changes nothing more
+-- an act at a moment: the owner's stale uploads are removed, and then comes the change, or a
+-- refusal that changes nothing more
 abbrev pub step : HostLimits → ℕ → Act → Option State → Result Answer Rejection × Option State
 step limits = runs.step (change limits)

@@ -1,4 +1,4 @@
--- The numbers that a tenant's counters give.
+-- The numbers of a tenant's counters.
 use Rattle.std.specs.Prelude.{ℕ, List, Option}
 use Rattle.bh_model.specs.Ids.{IsNumbered}
 use Rattle.bh_model.specs.Laws.{Rises}
@@ -7,11 +7,11 @@ use Rattle.bh_model.specs.State.{State, absent}
 use Rattle.bh_types.specs.Limits.{HostLimits}
 use Rattle.bh_machine.specs.Machine.{Act, step}
 
--- no step, whatever its act is, makes a counter go down or a tenant go away
+-- no step, whatever its act is, decreases a counter or removes a tenant
 abbrev pub StepsRise : Type 0
 StepsRise = (limits : HostLimits) (now : ℕ) (act : Act) (s : Option State) → Rises s (step limits now act s).1
 
--- nor does any give an entry the id of another one of its key
+-- nor does any give two entries of a key the same id
 abbrev pub StepsKeepIds : Type 0
 StepsKeepIds = (limits : HostLimits) (now : ℕ) (act : Act) (s : Option State) → IsNumbered s → IsNumbered (step limits now act s).1
 

@@ -1,7 +1,8 @@
-//! How much a tenant may come to use, each law the contract of a function that does nothing.
+//! Limits of a tenant's use, each as the contract of a function that does nothing.
 ghost use Rattle.bh_machine.specs.Bounded.{StepsKeepQuota, StepsStayBounded, RunsStayBounded};
 
-/// No step of the machine takes a tenant above its quota, and only those that set it change it.
+/// No step of the machine takes a tenant above its quota, and only steps that set the quota change
+/// it.
 pub fn steps_keep_quota()
     ensures { StepsKeepQuota }
 {}
@@ -11,7 +12,7 @@ pub fn steps_stay_bounded()
     ensures { StepsStayBounded }
 {}
 
-/// Nor does any run from before the tenant was added.
+/// Neither does any run from before the tenant was added.
 pub fn runs_stay_bounded()
     ensures { RunsStayBounded }
 {}

@@ -1,5 +1,5 @@
-//! What a host answers a tenant, as the steps of the tenant's private machine: definitions and a law, for the
-//! contracts of the storage and of the host.
+//! A host's answers to a tenant, as the steps of the tenant's private machine: definitions and laws
+//! for the contracts of the storage and of the host.
 #![tactic(auto)]
 
 pub mod bounds;

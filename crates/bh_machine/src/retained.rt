@@ -1,12 +1,12 @@
-//! What the dates of versions are for, each law the contract of a function that does nothing.
+//! Laws of versions' dates, each as the contract of a function that does nothing.
 ghost use Rattle.bh_machine.specs.Retained.{StepsKeepRetained, RunsKeepRetained};
 
-/// No step before its date takes a version away or brings the date nearer.
+/// No step deletes a version before its date, or moves the date nearer.
 pub fn steps_keep_retained()
     ensures { StepsKeepRetained }
 {}
 
-/// Nor do any acts of a run that are all before it.
+/// Neither do any acts of a run that all come before it.
 pub fn runs_keep_retained()
     ensures { RunsKeepRetained }
 {}

@@ -1,5 +1,5 @@
 -- A tenant that is moved between hosts that are ready.
-use Rattle.std.proofs.Common.{◌≡◌, ◌≢◌, inl, inr, false, true, [], ◌∷◌, codes, ◌++◌, Option, Some, None, Result, Ok, Err, IfOk, IfSome, is_some, refl, sym, ap, ◌∙◌, subst}
+use Rattle.std.proofs.Common.{◌≡◌, ◌≢◌, ℕ, inl, inr, false, true, [], ◌∷◌, codes, ◌++◌, Option, Some, None, Result, Ok, Err, IfOk, IfSome, is_some, refl, sym, ap, ◌∙◌, subst}
 use Rattle.std.specs.Prelude.{MatchResult}
 use Rattle.std.specs.String.{string_bytes}
 use Rattle.std.specs.declared.alloc.Global.{Global}
@@ -28,9 +28,11 @@ use Rattle.bh_moved.specs.Moves.{IsSettled, IsCommitted}
 use Rattle.bh_open.specs.declared.open.Opened.{Opened}
 use Rattle.bh_maintenance.proofs.Found.{shown_now}
 use Rattle.bh_maintenance.proofs.Refused.{keeps_disk}
+use Rattle.bh_maintenance.specs.Clocks.{is_beyond, moment_of}
 use Rattle.bh_maintenance.specs.Found.{IsReadyBy}
 use Rattle.bh_maintenance.specs.Moves.{shown_by, Stays, tenants_in, Tells, TellsName, AreBothClean, HasCome, Moves, TellsMove, HasNoName, IsOneName, Imports}
 use Rattle.bh_maintenance.specs.Printing.{IsFault, IsLine}
+use Rattle.bh_maintenance.specs.declared.clocks.ClockRead.{ClockRead}
 use Rattle.bh_maintenance.specs.declared.printed.Printed.{Printed}
 
 -- ---- a host that is ready
@@ -46,6 +48,10 @@ module _ {S : Type 0} (g : Ghosts S) (digest : Octets → Octets) (host : Opened
   pub sound_shown : IsStateClean (state g host.connection) → IsSoundHost digest (shown_by g host.connection)
   unfolding seen_in
   sound_shown clean = (ready.rest clean).sound
+
+  pub latest_shown : IsStateClean (state g host.connection) → host.latest ≡ latest_of (shown_by g host.connection)
+  unfolding seen_in
+  latest_shown clean = ready.latest clean
 
   pub limits_shown : IsStateClean (state g host.connection) → limits_in (shown_by g host.connection) ≡ host.limits
   unfolding seen_in
@@ -175,9 +181,9 @@ module _ {S : Type 0} (g : Ghosts S) (digest : Octets → Octets) (host : Opened
   named_of (Err e) (Ok name) told sole = absurd told
   named_of (Err e) (Err printed) told sole = inr told
 
-module _ {S T : Type 0} (g : Ghosts S) (h : Ghosts T) (from : Opened S) (to : Opened T) where
+module _ (clock : ClockRead) {S T : Type 0} (g : Ghosts S) (h : Ghosts T) (from : Opened S) (to : Opened T) where
   -- nothing was done
-  pub not_imported : (printed : Printed) → IsFault printed → Imports g h from to from.connection to.connection printed
+  pub not_imported : (printed : Printed) → IsFault printed → Imports clock g h from to from.connection to.connection printed
   not_imported printed fault = inr (record {
     refusal = None;
     line = fault;
@@ -188,7 +194,7 @@ module _ {S T : Type 0} (g : Ghosts S) (h : Ghosts T) (from : Opened S) (to : Op
 
   module _ (mid : Held S) (stays : Stays g from.connection mid) where
     -- there was no one name
-    pub unnamed : (printed : Printed) → HasNoName g from.connection mid printed → Imports g h from to mid to.connection printed
+    pub unnamed : (printed : Printed) → HasNoName g from.connection mid printed → Imports clock g h from to mid to.connection printed
     unnamed printed (inl none) = inr (record {
       refusal = Some NotAHostFile;
       line = none;
@@ -204,7 +210,7 @@ module _ {S T : Type 0} (g : Ghosts S) (h : Ghosts T) (from : Opened S) (to : Op
       exists = λ is. absurd (cc);
     })
 
-    module _ (from_ready : IsReadyBy g (digest_by from.digest) from) (to_ready : IsReadyBy h (digest_by to.digest) to) (limits : from.limits ≡ to.limits) (from_new : Held S) (to_new : Held T) (tenant : Octets) (name : IsOneName g from.connection mid tenant) where
+    module _ (from_ready : IsReadyBy g (digest_by from.digest) from) (to_ready : IsReadyBy h (digest_by to.digest) to) (limits : from.limits ≡ to.limits) (in_time : is_beyond clock.leap (moment_of clock to.latest) from.latest ≡ false) (from_new : Held S) (to_new : Held T) (tenant : Octets) (name : IsOneName g from.connection mid tenant) where
       mid_shown : Stays g mid from_new → IsStateClean (state g from_new) → shown_by g mid ≡ shown_by g from.connection
       mid_shown later clean = stays_shown g (digest_by from.digest) from from_ready mid stays (later.follows.clean clean)
 
@@ -216,12 +222,16 @@ module _ {S T : Type 0} (g : Ghosts S) (h : Ghosts T) (from : Opened S) (to : Op
         brought = λ both. subst (λ (x : Tables). IsBrought (digest_by to.digest) tenant x (shown_by h to.connection) (shown_by h to_new)) (mid_shown come.from_stays both.0) (come.brought both);
       }
 
-      pub imported : (line printed : Printed) → IsLine (codes "tenant " ++ tenant) line → TellsMove g h mid to.connection from_new to_new (digest_by to.digest) tenant line printed → Imports g h from to from_new to_new printed
+      pub imported : (line printed : Printed) → IsLine (codes "tenant " ++ tenant) line → TellsMove g h mid to.connection from_new to_new (digest_by to.digest) tenant line printed → Imports clock g h from to from_new to_new printed
       imported line printed told (inl (come, is)) = inl (record {
         tenant = tenant;
         line = subst (IsLine (codes "tenant " ++ tenant)) (sym is) told;
         name = λ clean. name (come.from_stays.follows.clean clean);
         limits = λ both. limits_shown g (digest_by from.digest) from from_ready (stays.follows.clean (come.from_stays.follows.clean both.0)) ∙ limits ∙ sym (limits_shown h (digest_by to.digest) to to_ready (come.follows.clean both.1));
+        in_time = λ both.
+            let one = latest_shown g (digest_by from.digest) from from_ready (stays.follows.clean (come.from_stays.follows.clean both.0)) in
+            let two = latest_shown h (digest_by to.digest) to to_ready (come.follows.clean both.1) in
+            subst (λ (m : ℕ). is_beyond clock.leap (moment_of clock m) (latest_of (shown_by g from.connection)) ≡ false) two (subst (λ (m : ℕ). is_beyond clock.leap (moment_of clock to.latest) m ≡ false) one in_time);
         come = come_from come;
       })
       imported line printed told (inr (refusal, not, why)) = inr (record {

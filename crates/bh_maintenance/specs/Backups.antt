@@ -1,4 +1,4 @@
--- What comes of a backup of a file.
+-- The results of a backup of a file.
 use Rattle.std.specs.Prelude.{◌≡◌, Option, MatchOption, None, codes}
 use Rattle.sqlite_disk.specs.declared.Disk as disk
 use Rattle.sqlite_disk.specs.declared.Files.{Files}
@@ -19,21 +19,21 @@ use Rattle.bh_maintenance.specs.Found.{IsOpenedAs, IsNotFound}
 use Rattle.bh_maintenance.specs.declared.printed.Printed.{Printed}
 
 module _ {D : Type 0} {g : disk.Ghosts D} where
-  -- no host was found, which alone is told, and the files were closed
+  -- no host was found, which alone is printed, and the files were closed
   pub record IsLeftOut (old : Held (FileStore D g)) (printed : Printed) (files : Files D) : Type 0 where
     pub new : Held (FileStore D g)
     pub not_found : IsNotFound (file_state old) (file_state new) printed
     pub closed : AreClosed new files
 
-  -- what a connection had committed stands in its files, which are closed, and in the copy, without a log, if the files
-  -- returned what was written to them
+  -- a connection's committed database is in its files, which are closed, and in the copy, without a
+  -- log, if the files returned what was written to them
   pub record IsCopiedTo {E : Type 0} (e : disk.Ghosts E) (c : Held (FileStore D g)) (printed : Printed) (files : Files D) (copy : E) :
       Type 0 where
     pub kept : AreClean g files.log files.db → IsCopied c files
     pub copied : AreClean g files.log files.db → IsFileOf e (file_state c).committed copy
     pub line : IsLine (codes "backup") printed
 
-  -- and that is a host's database: as it stood, or brought over from an earlier version
+  -- and that is a host's database: as it was, or upgraded from an earlier version
   pub record IsSaved {E : Type 0} (e : disk.Ghosts E) (old : Held (FileStore D g)) (printed : Printed) (files : Files D) (copy : E) :
       Type 0 where
     pub new : Held (FileStore D g)
@@ -44,18 +44,19 @@ module _ {D : Type 0} {g : disk.Ghosts D} where
   abbrev pub HasSaved : {E : Type 0} → disk.Ghosts E → Held (FileStore D g) → Printed → Option (Files D) → Option E → Type 0
   HasSaved e c printed files copy = MatchOption files ⊥ (λ f. MatchOption copy ⊥ (IsCopiedTo e c printed f))
 
-  -- the one or the other came of a connection
+  -- the one or the other, from a connection
   abbrev pub IsSavedOrNot : {E : Type 0} → disk.Ghosts E → Held (FileStore D g) → Printed → Option (Files D) → Option E → Type 0
   IsSavedOrNot e old printed files copy = MatchOption files ⊥ (λ f. MatchOption copy (IsLeftOut old printed f) (IsSaved e old printed f))
 
--- files with these contents were opened as a database, and the one or the other came of it
+-- files with these contents were opened as a database, with the one or the other result
 pub record IsTriedOn {D E : Type 0} (g : disk.Ghosts D) (e : disk.Ghosts E) (image : Image) (printed : Printed) (files : Files D)
     (copy : Option E) : Type 0 where
   pub old : Held (FileStore D g)
   pub opened : IsOpenedOn image (file_state old)
   pub came : MatchOption copy (IsLeftOut old printed files) (IsSaved e old printed files)
 
--- a backup came of it or not; where there were no files, the answer is that no host is there, and there is no copy
+-- a backup was made or not; if there were no files, the answer is that there is no host, and there
+-- is no copy
 abbrev pub IsBackedUp : {D E : Type 0} → disk.Ghosts D → disk.Ghosts E → Image → Printed → Option (Files D) → Option E → Type 0
 IsBackedUp g e image printed files copy =
     MatchOption files (IsRefusal NotAHostFile printed × (copy ≡ None)) (λ f. IsTriedOn g e image printed f copy)

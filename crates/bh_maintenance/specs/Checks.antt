@@ -1,4 +1,4 @@
--- What the check of a host's file finds, and what it prints.
+-- The result of checking a host's file, and the printed text.
 use Rattle.std.specs.Prelude.{◌≡◌, ◌⊎◌, codes, IsTrue, Option, MatchOption}
 use Rattle.sqlite_disk.specs.declared.Disk as disk
 use Rattle.sqlite_disk.specs.declared.Files.{Files}
@@ -18,18 +18,18 @@ use Rattle.bh_maintenance.specs.Printing.{IsLine}
 use Rattle.bh_maintenance.specs.Found.{IsSoundByItsRow}
 use Rattle.bh_maintenance.specs.declared.printed.Printed.{Printed}
 
--- `sound`, where this holds, or another line and status 1
+-- `sound`, if this holds, or another line and status 1
 abbrev pub IsVerdict : Type 0 → Printed → Type 0
 IsVerdict Fine printed = (IsLine (codes "sound") printed × Fine) ⊎ (printed.status ≡ 1)
 
 module _ {S : Type 0} (g : Ghosts S) where
-  -- of a connection a store is left. If that is clean and open, so was the connection, and the tables that it shows once it is
-  -- opened as a host are a sound host's, with blocks named by this function
+  -- a connection leaves a store. If that is clean and open, so was the connection; and its tables,
+  -- once opened as a host, are a sound host's, with blocks named by this function
   abbrev pub IsSoundBy : (Octets → Octets) → Held S → S → Type 0
   IsSoundBy digest old last = IsClean (g.view last) → IsTrue (g.view last).is_open → IsStateClean (state g old)
       × IsSoundHost digest (tables_opened (state g old).now)
 
-  -- with blocks named by the function that its row tells
+  -- with blocks named by the function in its row
   abbrev pub IsFoundSound : Held S → S → Type 0
   IsFoundSound old last = IsClean (g.view last) → IsTrue (g.view last).is_open → IsStateClean (state g old)
       × IsSoundByItsRow (tables_opened (standing (state g old)).now)
@@ -42,6 +42,6 @@ pub record AreFoundSound {D : Type 0} (g : disk.Ghosts D) (image : Image) (files
   pub sound : IsFoundSound over_files old last
   pub closed : store.files last ≡ (files.log, files.db)
 
--- what is printed of files: a verdict; where there were none, another line
+-- the output for files: a verdict; if there were none, another line
 abbrev pub IsChecked : {D : Type 0} → disk.Ghosts D → Image → Printed → Option (Files D) → Type 0
 IsChecked g image printed files = MatchOption files (printed.status ≡ 1) (λ its. IsVerdict (AreFoundSound g image its) printed)

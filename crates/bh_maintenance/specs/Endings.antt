@@ -1,4 +1,4 @@
--- What is left of a connection, and of its files, once its subcommand is done.
+-- The rest of a connection, and of its files, after its subcommand.
 use Rattle.std.specs.Prelude.{◌≡◌}
 use Rattle.sqlite_disk.specs.declared.Disk as disk
 use Rattle.sqlite_disk.specs.declared.Files.{Files}
@@ -11,7 +11,8 @@ use Rattle.sqlite.specs.Files.{over_files}
 use Rattle.bh_maintenance.specs.declared.ending.Left.{Left}
 use Rattle.bh_maintenance.specs.declared.ending.Left.TheVariants.{Whole, Bare}
 
--- what is not committed is gone: what a crash may leave of the store, it might have left of the connection, and is a database
+-- uncommitted changes are lost: what a crash may leave of the store was possible for the
+-- connection, and is a database
 pub record IsBared {S : Type 0} (g : Ghosts S) (connection : Held S) (last : S) : Type 0 where
   pub quiet : IsQuiet g.view g.faults g.recovers g.is_shielded connection.store last
   pub sound : IsClean (g.view last) → AreDatabases (g.recovers last)
@@ -20,7 +21,7 @@ abbrev pub IsLeft : {S : Type 0} → Ghosts S → Held S → Left S → Type 0
 IsLeft g connection (Whole it) = it ≡ connection
 IsLeft g connection (Bare last) = IsBared g connection last
 
--- files of a connection that were closed: those of its store, which was left with what was committed
+-- closed files of a connection: those of its store, with what was committed
 abbrev pub AreClosed : {D : Type 0} {g : disk.Ghosts D} → Held (FileStore D g) → Files D → Type 0
 AreClosed {D} {g} connection files =
     (last : FileStore D g) × (store.files last ≡ (files.log, files.db)) × IsBared over_files connection last

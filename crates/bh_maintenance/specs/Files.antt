@@ -1,4 +1,4 @@
--- What the files of a host held when they were opened.
+-- The contents of a host's files when they were opened.
 use Rattle.std.specs.Prelude.{◌≡◌}
 use Rattle.sqlite_wal.specs.Recovery.{Image}
 use Rattle.sqlite.specs.Effect.{Database, IsDatabase}
@@ -8,8 +8,8 @@ use Rattle.bh_tables.specs.Typed.{Tables}
 use Rattle.bh_open.specs.Versions.{IsHostsSchema}
 use Rattle.bh_maintenance.specs.Found.{IsSoundByItsRow}
 
--- files with these contents hold a database of a host's schema, which shows these tables once it is opened: of an earlier
--- version those that it has, brought over
+-- files with these contents have a database of a host's schema, with these tables once it is
+-- opened, upgraded if needed
 pub record AreTablesIn (image : Image) (tables : Tables) : Type 0 where
   pub db : Database
   pub found : AreFoundIn image db.trees
@@ -17,6 +17,6 @@ pub record AreTablesIn (image : Image) (tables : Tables) : Type 0 where
   pub schema : IsHostsSchema db.schema
   pub shown : tables ≡ tables_opened db
 
--- what they hold of a host is sound, its blocks named by the function that its row tells
+-- if they have a host, it is sound, with blocks named by the function in its row
 abbrev pub HoldsSoundHost : Image → Type 0
 HoldsSoundHost image = (tables : Tables) → AreTablesIn image tables → IsSoundByItsRow tables

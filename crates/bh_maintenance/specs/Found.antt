@@ -1,4 +1,4 @@
--- The host that a database holds, and what comes of opening it.
+-- The host in a database, and the results of opening it.
 use Rattle.std.specs.Prelude.{◌≡◌, ◌⊎◌}
 use Rattle.sqlite_trees.specs.declared.store.Store.{Ghosts}
 use Rattle.sqlite.specs.Held.{Held, state}
@@ -24,7 +24,7 @@ use Rattle.bh_blocks.specs.Digests.{digest_by}
 use Rattle.bh_maintenance.specs.Printing.{IsRefusal}
 use Rattle.bh_maintenance.specs.declared.printed.Printed.{Printed}
 
--- a sound host's tables, its blocks named by the function that its row tells
+-- a sound host's tables, with blocks named by the function in its row
 pub record IsSoundByItsRow (tables : Tables) : Type 0 where
   pub digest : BlockDigest
   pub row : digest_number digest ≡ digest_in tables
@@ -34,8 +34,9 @@ pub record IsSoundByItsRow (tables : Tables) : Type 0 where
 abbrev pub IsSoundIn : State → Type 0
 IsSoundIn s = IsStateClean s → IsHostsSchema (standing s).now.schema → IsSoundByItsRow (tables_opened (standing s).now)
 
--- a database was opened as a host: one of the present version stands as it stood, and one of an earlier version was brought over, in
--- one commit. It shows what it was to show; rows under the schema of an earlier version are to be typed rows
+-- a database was opened as a host: one of the present version is unchanged, and one of an earlier
+-- version was upgraded, in one commit. It has the tables that it should have; rows under an earlier
+-- schema have to be typed rows
 pub record IsOpenedAs (old new : State) : Type 0 where
   pub schema : IsHostsSchema (standing old).now.schema
   pub same : IsStateClean new → (standing old).now.schema ≡ host_schema → standing new ≡ standing old
@@ -44,8 +45,8 @@ pub record IsOpenedAs (old new : State) : Type 0 where
   pub follows : KeepsDisk old new
   pub crash : IsOpen old → LeavesOver old new
 
--- a refusal alone, of what is no host's file or for want of memory or the store. What stands is what stood, and no more than
--- a transaction that was open is taken back
+-- a refusal alone, because the file is not a host's, or memory or the store failed. The database is
+-- unchanged, except that an open transaction may be rolled back
 pub record IsLeftAlone (old new : State) (printed : Printed) : Type 0 where
   pub refusal : Refusal
   pub which : (refusal ≡ NotAHostFile) ⊎ (refusal ≡ Unavailable)
@@ -53,8 +54,8 @@ pub record IsLeftAlone (old new : State) (printed : Printed) : Type 0 where
   pub follows : KeepsDisk old new
   pub stays : IsStateClean new → Unwinds (standing old) (standing new)
 
--- no host is found in a database. Only where the commit failed that was to bring one of an earlier version over may a crash leave
--- anything else than before: all of it brought over
+-- a database has no host. Only if the commit that was to upgrade it failed may a crash leave
+-- anything else than before: all of it upgraded
 pub record IsNotFound (old new : State) (printed : Printed) : Type 0 where
   pub alone : IsLeftAlone old new printed
   pub no_host : alone.refusal ≡ NotAHostFile → IsStateClean new → (limits : HostLimits) → ¬ IsHostOf limits (standing old).now
@@ -68,13 +69,13 @@ module _ {S : Type 0} (g : Ghosts S) where
     pub latest : IsStateClean (state g opened.connection) → opened.latest
         ≡ latest_of (seen_in opened.limits (state g opened.connection)).now
 
-  -- so by the function that its row tells
+  -- so with the function in its row
   pub record IsReadyByRow (host : Opened S) : Type 0 where
     pub ready : IsReadyBy (digest_by host.digest) host
     pub row : IsStateClean (state g host.connection) → digest_number host.digest
         ≡ digest_in (tables_shown (standing (state g host.connection)).now)
 
-  -- a database was opened as a host, which shows what stood, of an earlier version brought over, and is ready
+  -- a database was opened as a host, which has the same tables, upgraded if needed, and is ready
   pub record IsHostIn (old : Held S) (host : Opened S) : Type 0 where
     pub opened : IsOpenedAs (state g old) (state g host.connection)
     pub shows : IsStateClean (state g host.connection) → tables_shown (standing (state g host.connection)).now

@@ -1,5 +1,6 @@
 pub mod Backups
 pub mod Checks
+pub mod Clocks
 pub mod Endings
 pub mod Files
 pub mod Found

@@ -1,4 +1,5 @@
--- What comes of a tenant that is moved: from one host to another, from a file's host to a new file, from such a file to a host.
+-- Moving a tenant: from one host to another, from a file's host to a new file, and from such a file
+-- to a host.
 use Rattle.std.specs.Prelude.{◌≡◌, ◌≢◌, ◌⊎◌, true, false, List, [], ◌∷◌, ◌++◌, map, codes, Option, Some, None, MatchOption, MatchResult}
 use Rattle.std.specs.Prelude.{Result, Ok, Err, is_some}
 use Rattle.std.specs.declared.alloc.Global.{Global}
@@ -31,19 +32,21 @@ use Rattle.bh_open.specs.declared.open.Opened.{Opened}
 use Rattle.bh_file.specs.Opened.{IsOpenedOn}
 use Rattle.bh_backup.specs.Copies.{IsFileOf}
 use Rattle.bh_maintenance.specs.Backups.{IsLeftOut}
+use Rattle.bh_maintenance.specs.Clocks.{is_beyond, moment_of}
 use Rattle.bh_maintenance.specs.Endings.{AreClosed}
 use Rattle.bh_maintenance.specs.Found.{IsReadyByRow, IsHostIn}
 use Rattle.bh_maintenance.specs.Printing.{IsFault, IsLine, IsRefusal}
+use Rattle.bh_maintenance.specs.declared.clocks.ClockRead.{ClockRead}
 use Rattle.bh_maintenance.specs.declared.printed.Printed.{Printed}
 
 -- ---- between two connections
 
 module _ {S : Type 0} (g : Ghosts S) where
-  -- the tables that a connection shows as a host's
+  -- a connection's tables as a host's
   abbrev pub shown_by : Held S → Tables
   shown_by c = tables_shown (standing (state g c)).now
 
-  -- a connection stands as another one stood, of which no more than an open transaction is taken back
+  -- a connection is as another one was, except that an open transaction may be rolled back
   pub record Stays (old new : Held S) : Type 0 where
     pub follows : KeepsDisk (state g old) (state g new)
     pub stands : IsStateClean (state g new) → Unwinds (standing (state g old)) (standing (state g new))
@@ -52,49 +55,50 @@ module _ {S : Type 0} (g : Ghosts S) where
 abbrev pub tenants_in : Tables → List Octets
 tenants_in tables = map (λ (r : TenantRow). r.tenant) tables.tenants
 
--- a refusal is told, or `fault`
+-- a refusal is printed, or `fault`
 abbrev pub IsToldNo : Option Refusal → Printed → Type 0
 IsToldNo refusal printed = MatchOption refusal (IsFault printed) (λ r. IsRefusal r printed)
 
--- the line of what was done, or why it wasn't
+-- the line of the result
 abbrev pub Tells : Printed → Result (Option Refusal) Error → Printed → Type 0
 Tells line (Ok None) printed = printed ≡ line
 Tells line (Ok (Some refusal)) printed = IsRefusal refusal printed
 Tells line (Err e) printed = IsFault printed
 
 module _ {S T : Type 0} (g : Ghosts S) (h : Ghosts T) (from : Held S) (to : Held T) (from_new : Held S) (to_new : Held T) where
-  -- both stores gave back what was written to them, and no fault has shut one
+  -- both stores returned what was written to them, and no fault has shut one
   abbrev pub AreBothClean : Type 0
   AreBothClean = IsStateClean (state g from_new) × IsStateClean (state h to_new)
 
-  -- a tenant of the first host came to the second one, in one commit; the first one stays
+  -- a tenant of the first host was added to the second one, in one commit; the first one is
+  -- unchanged
   pub record HasCome (digest : Octets → Octets) (tenant : Octets) : Type 0 where
     pub from_stays : Stays g from from_new
     pub follows : KeepsDisk (state h to) (state h to_new)
     pub committed : IsStateClean (state h to_new) → IsCommitted (standing (state h to_new))
     pub brought : AreBothClean → IsBrought digest tenant (shown_by g from) (shown_by h to) (shown_by h to_new)
 
-  -- it didn't, by a refusal or a failure; both stay
+  -- it was not, by a refusal or a failure; both are unchanged
   pub record HasNotCome (tenant : Octets) (refusal : Option Refusal) : Type 0 where
     pub from_stays : Stays g from from_new
     pub to_stays : Stays h to to_new
     pub exists : refusal ≡ Some TenantExists → IsStateClean (state h to_new) → is_some (view (shown_by h to) tenant) ≡ true
     pub missing : refusal ≡ Some NoSuchTenant → IsStateClean (state g from_new) → is_some (view (shown_by g from) tenant) ≡ false
 
-  -- the one or the other, by what a move answers
+  -- the one or the other, by the result of a move
   abbrev pub Moves : (Octets → Octets) → Octets → Result (Option Refusal) Error → Type 0
   Moves digest tenant (Ok None) = HasCome digest tenant
   Moves digest tenant (Ok (Some refusal)) = HasNotCome tenant (Some refusal)
   Moves digest tenant (Err e) = HasNotCome tenant None
 
-  -- by what is printed of it
+  -- by the printed text
   abbrev pub TellsMove : (Octets → Octets) → Octets → Printed → Printed → Type 0
   TellsMove digest tenant line printed =
       (HasCome digest tenant × (printed ≡ line)) ⊎ ((refusal : Option Refusal) × HasNotCome tenant refusal × IsToldNo refusal printed)
 
 -- ---- `import`
 
--- the name that was read, or why none was
+-- the name that was read, or why there is none
 abbrev pub TellsName : Result (Option (String Global)) Error → Result (String Global) Printed → Type 0
 TellsName (Ok (Some name)) told = told ≡ Ok name
 TellsName (Ok None) told = MatchResult told (λ name. ⊥) (IsRefusal NotAHostFile)
@@ -108,17 +112,21 @@ module _ {S : Type 0} (g : Ghosts S) (old new : Held S) where
   abbrev pub IsOneName : Octets → Type 0
   IsOneName tenant = IsStateClean (state g new) → tenants_in (shown_by g old) ≡ tenant ∷ []
 
-module _ {S T : Type 0} (g : Ghosts S) (h : Ghosts T) (from : Opened S) (to : Opened T) (from_new : Held S) (to_new : Held T) where
-  -- the one tenant of a host of the same limits came, and its name is told
+module _ (clock : ClockRead) {S T : Type 0} (g : Ghosts S) (h : Ghosts T) (from : Opened S) (to : Opened T) (from_new : Held S)
+    (to_new : Held T) where
+  -- the only tenant of a host with the same limits was added, and its name is printed. That host's
+  -- last stamp isn't too far ahead of the clock and the other host's
   pub record HasImported (printed : Printed) : Type 0 where
     pub tenant : Octets
     pub line : IsLine (codes "tenant " ++ tenant) printed
     pub name : IsOneName g from.connection from_new tenant
     pub limits : AreBothClean g h from.connection to.connection from_new to_new → limits_in (shown_by g from.connection)
         ≡ limits_in (shown_by h to.connection)
+    pub in_time : AreBothClean g h from.connection to.connection from_new to_new
+        → is_beyond clock.leap (moment_of clock (latest_of (shown_by h to.connection))) (latest_of (shown_by g from.connection)) ≡ false
     pub come : HasCome g h from.connection to.connection from_new to_new (digest_by to.digest) tenant
 
-  -- none came, and both stay: `41` tells that the tenant is there
+  -- no tenant was added, and both are unchanged: `41` means that the tenant exists
   pub record HasNotImported (printed : Printed) : Type 0 where
     pub refusal : Option Refusal
     pub line : IsToldNo refusal printed
@@ -133,7 +141,8 @@ module _ {S T : Type 0} (g : Ghosts S) (h : Ghosts T) (from : Opened S) (to : Op
 
 -- ---- `export`
 
--- a host has one tenant of other tables alone, as it is in those, with the same limits, digest function and last stamp
+-- a host has only this tenant of other tables, as it is in those, with the same limits, digest
+-- function and last stamp
 pub record HasOnly (digest : Octets → Octets) (tenant : Octets) (from new : Tables) : Type 0 where
   pub sound : IsSoundHost digest new
   pub shown : view new tenant ≡ view from tenant
@@ -143,7 +152,7 @@ pub record HasOnly (digest : Octets → Octets) (tenant : Octets) (from new : Ta
   pub latest : latest_of new ≡ latest_of from
 
 module _ {S T : Type 0} (h : Ghosts T) (host : Opened S) (made : Opened T) where
-  -- a new host with the limits of another, which keeps that the same function is to name its blocks
+  -- a new host with another one's limits and digest function
   pub record IsLike : Type 0 where
     pub limits : made.limits ≡ host.limits
     pub digest : made.digest ≡ host.digest
@@ -151,7 +160,7 @@ module _ {S T : Type 0} (h : Ghosts T) (host : Opened S) (made : Opened T) where
     pub fresh : IsStateClean (state h made.connection) → IsNewHost made.limits made.digest (state h made.connection)
 
 module _ {S : Type 0} (g : Ghosts S) (tenant : Octets) (from : Opened S) (from_new : Held S) (printed : Printed) where
-  -- in a new host the tenant is alone, and that is committed
+  -- the tenant is alone in a new host, and that is committed
   pub record HasExported {T : Type 0} (h : Ghosts T) (new : Held T) : Type 0 where
     pub line : IsLine (codes "export") printed
     pub from_stays : Stays g from.connection from_new
@@ -159,7 +168,7 @@ module _ {S : Type 0} (g : Ghosts S) (tenant : Octets) (from : Opened S) (from_n
     pub alone : IsStateClean (state g from_new) → IsStateClean (state h new)
         → HasOnly (digest_by from.digest) tenant (shown_by g from.connection) (shown_by h new)
 
-  -- it isn't: `42` tells that it isn't in the first host
+  -- it was not: `42` means that the first host doesn't have it
   pub record HasNotExported : Type 0 where
     pub refusal : Option Refusal
     pub line : IsToldNo refusal printed
@@ -170,7 +179,8 @@ module _ {S : Type 0} (g : Ghosts S) (tenant : Octets) (from : Opened S) (from_n
   Exports h new = HasExported h new ⊎ HasNotExported
 
   module _ {M E : Type 0} (m : disk.Ghosts M) (e : disk.Ghosts E) where
-    -- a copy is the file of such a host, if the files in which that was made returned what was written to them
+    -- a copy is the file of such a host, if the files in which that was made returned what was
+    -- written to them
     pub record IsExport (made : Files M) (copy : E) : Type 0 where
       pub db : Database
       pub line : IsLine (codes "export") printed
@@ -179,17 +189,18 @@ module _ {S : Type 0} (g : Ghosts S) (tenant : Octets) (from : Opened S) (from_n
       pub alone : AreClean m made.log made.db → IsStateClean (state g from_new)
           → HasOnly (digest_by from.digest) tenant (shown_by g from.connection) (tables_shown db)
 
-    -- there is one, or none
+    -- there is a copy, or none
     abbrev pub ExportsTo : Option (Files M) → Option E → Type 0
     ExportsTo made copy = MatchOption copy HasNotExported (λ c. MatchOption made ⊥ (λ its. IsExport its c))
 
--- what a connection had committed is in the copy of its files, if they returned what was written to them
+-- a connection's committed database is in the copy of its files, if they returned what was written
+-- to them
 pub record IsSavedIn {D E : Type 0} {g : disk.Ghosts D} (e : disk.Ghosts E) (c : Held (FileStore D g)) (files : Files D) (copy : E) :
     Type 0 where
   pub kept : AreClean g files.log files.db → IsCopied c files
   pub copied : AreClean g files.log files.db → IsFileOf e (file_state c).committed copy
 
--- where the status is 0, and else there is no copy
+-- if the status is 0; otherwise there is no copy
 abbrev pub SavesMoved : {D E : Type 0} {g : disk.Ghosts D} → disk.Ghosts E → Held (FileStore D g) → Printed → Option (Files D) → Option E
     → Type 0
 SavesMoved e c printed files copy =
@@ -214,11 +225,12 @@ module _ {D : Type 0} (g : disk.Ghosts D) (image : Image) where
   abbrev pub HasNoHost : Printed → Option (Files D) → Type 0
   HasNoHost printed files = MatchOption files (IsRefusal NotAHostFile printed) (HoldNoHost printed)
 
-module _ {S D : Type 0} (h : Ghosts S) (from : Opened S) (from_new : Held S) where
-  -- a host's tenant came to the host of files, or both stay, and the files were closed
+module _ (clock : ClockRead) {S D : Type 0} (h : Ghosts S) (from : Opened S) (from_new : Held S) where
+  -- a host's tenant was added to the host of files, or both are unchanged, and the files were
+  -- closed
   pub record IsImportedInto {g : disk.Ghosts D} (to : Opened (FileStore D g)) (printed : Printed) (files : Files D) : Type 0 where
     pub new : Held (FileStore D g)
-    pub imports : Imports h over_files from to from_new new printed
+    pub imports : Imports clock h over_files from to from_new new printed
     pub closed : AreClosed new files
 
   module _ (g : disk.Ghosts D) (image : Image) where
@@ -228,23 +240,24 @@ module _ {S D : Type 0} (h : Ghosts S) (from : Opened S) (from_new : Held S) whe
       pub at : IsHostAt g image to
       pub came : IsImportedInto to printed files
 
-    -- the tenant came to the host of the files; or they hold none, and nothing was done
+    -- the tenant was added to the host of the files; or they have none, and nothing was done
     abbrev pub ImportsTo : Printed → Option (Files D) → Type 0
     ImportsTo printed files = (HasNoHost g image printed files × (from_new ≡ from.connection)) ⊎ MatchOption files ⊥ (IsImportedTo printed)
 
--- the one tenant of a host in files was imported so, and these were closed
-pub record IsImportedOf {D E : Type 0} {h : disk.Ghosts E} (from : Opened (FileStore E h)) (g : disk.Ghosts D) (image : Image)
-    (printed : Printed) (files : Option (Files D)) (given : Files E) : Type 0 where
+-- the only tenant of a host in files was imported so, and these were closed
+pub record IsImportedOf (clock : ClockRead) {D E : Type 0} {h : disk.Ghosts E} (from : Opened (FileStore E h)) (g : disk.Ghosts D)
+    (image : Image) (printed : Printed) (files : Option (Files D)) (given : Files E) : Type 0 where
   pub new : Held (FileStore E h)
-  pub imports : ImportsTo over_files from new g image printed files
+  pub imports : ImportsTo clock over_files from new g image printed files
   pub closed : AreClosed new given
 
--- what came of an import: that, of the host of the given files; or they hold none, and the others weren't opened
-abbrev pub IsImported : {D E : Type 0} → disk.Ghosts D → disk.Ghosts E → Image → Image → Printed → Option (Files D) → Option (Files E)
-    → Type 0
-IsImported {D} {E} g h image given_image printed files given =
+-- the result of an import: that, for the host of the given files; or they have none, and the others
+-- weren't opened
+abbrev pub IsImported : ClockRead → {D E : Type 0} → disk.Ghosts D → disk.Ghosts E → Image → Image → Printed → Option (Files D)
+    → Option (Files E) → Type 0
+IsImported clock {D} {E} g h image given_image printed files given =
     (HasNoHost h given_image printed given × (files ≡ None))
-    ⊎ ((from : Opened (FileStore E h)) × IsHostAt h given_image from × MatchOption given ⊥ (IsImportedOf from g image printed files))
+    ⊎ ((from : Opened (FileStore E h)) × IsHostAt h given_image from × MatchOption given ⊥ (IsImportedOf clock from g image printed files))
 
 -- a host's tenant was copied to a new file, or not, and the host's files were closed
 pub record IsExportedFrom {D M E : Type 0} {g : disk.Ghosts D} (m : disk.Ghosts M) (e : disk.Ghosts E) (tenant : Octets)
@@ -253,7 +266,8 @@ pub record IsExportedFrom {D M E : Type 0} {g : disk.Ghosts D} (m : disk.Ghosts 
   pub exports : ExportsTo over_files tenant host new printed m e made copy
   pub closed : AreClosed new files
 
--- what came of an export: that, of the host of files with these contents; or they hold none, and there is no copy
+-- the result of an export: that, for the host of files with these contents; or they have none, and
+-- there is no copy
 abbrev pub IsExported : {D M E : Type 0} → disk.Ghosts D → disk.Ghosts M → disk.Ghosts E → Image → Octets → Printed → Option (Files D)
     → Option (Files M) → Option E → Type 0
 IsExported {D} g m e image tenant printed files made copy =

@@ -1,4 +1,4 @@
-//! The host of a file, copied to a new one.
+//! Copies the host of a file to a new one.
 
 ghost use Rattle.std.specs.Prelude.{◌≡◌, None, IfOk, MatchOption};
 ghost use Rattle.sqlite_wal.specs.Files.{image_at};
@@ -11,6 +11,7 @@ use crate::ending::{Done, close, leave};
 use crate::fault::Fault;
 use crate::files::{is_blank, open};
 use crate::hosts::found_host;
+use crate::leftovers::refuse_foreign;
 use crate::printed::Printed;
 use bh_backup::{Saved, save};
 use bh_file::OpenFault;
@@ -19,7 +20,8 @@ use sqlite::{Connection, FileFrom, FileStore, Files, Start};
 use sqlite_disk::Disk;
 use std::alloc::{AllocError, Global};
 
-/// What came of a backup: what is printed, the host's files, if there were any, closed, and the copy, if one was made.
+/// The result of a backup: the printed text; the host's closed files, if there were any; and the
+/// copy, if one was made.
 #[derive(Drop)]
 pub struct BackedUp<D: Disk + Drop, E: Disk + Drop> {
     pub printed: Printed,
@@ -28,7 +30,7 @@ pub struct BackedUp<D: Disk + Drop, E: Disk + Drop> {
 }
 
 impl<D: Disk + Drop, E: Disk + Drop> BackedUp<D, E> {
-    /// What is printed. The files are let go of, so that another process may open them.
+    /// The printed text. The files are closed, so that another process may open them.
     pub fn into_printed(self) -> Printed
         ensures { result ≡ self.printed }
     {
@@ -50,6 +52,7 @@ fn save_host<D: Disk + Drop, T: Start>(
 ) -> Result<BackedUp<D, FileFrom<T>>, Fault>
     ensures { IfOk result (λ it. HasSaved ⟦<FileFrom<T> as Disk>⟧ connection it.printed it.files it.copy) }
 {
+    refuse_foreign(rt, to)?;
     let printed = Printed::line(rt.alloc(), b"backup")?;
     match save(rt, connection, to, to_start) {
         Ok(Saved { files, copy }) => Ok(BackedUp {
@@ -61,7 +64,7 @@ fn save_host<D: Disk + Drop, T: Start>(
     }
 }
 
-/// What is printed where there is no host, whose files are closed.
+/// The result if there is no host; its files are closed.
 fn without_host<D: Disk + Drop, E: Disk + Drop>(done: Done<FileStore<D>>) -> BackedUp<D, E>
     ensures copy { result.copy ≡ None }
     ensures files { MatchOption result.files ⊥ (AreClosed done.connection) }
@@ -75,7 +78,7 @@ fn without_host<D: Disk + Drop, E: Disk + Drop>(done: Done<FileStore<D>>) -> Bac
     }
 }
 
-/// What is printed where there is no file.
+/// The result if there is no file.
 fn without_file<D: Disk + Drop, E: Disk + Drop>(alloc: Global) -> Result<BackedUp<D, E>, AllocError>
     ensures { IfOk result (λ it. (it.files ≡ None) × (it.copy ≡ None) × IsRefusal refusal.NotAHostFile it.printed) }
 {
@@ -86,7 +89,7 @@ fn without_file<D: Disk + Drop, E: Disk + Drop>(alloc: Global) -> Result<BackedU
     })
 }
 
-/// Copies the host of a connection, if it is one's.
+/// Copies a connection's host, if it has one.
 fn back_up_connection<D: Disk + Drop, T: Start>(
     rt: &HostRuntime,
     path: &str,
@@ -102,10 +105,12 @@ fn back_up_connection<D: Disk + Drop, T: Start>(
     }
 }
 
-/// Copies the host of a file to a new file, `to`, as it stood after the last event, and prints `backup`. No clock is read, and
-/// the host has the same last stamp afterwards. A host of an earlier version is brought over first, and so is the copy.
+/// Copies the host of a file to a new file, `to`, as it is after its last event, and prints
+/// `backup`. No clock is read, and the last stamp doesn't change. A host of an earlier version is
+/// upgraded first, and so is the copy.
 ///
-/// The copy is whole and synced before that, or there is none. A name that is taken is a fault.
+/// Before it prints, the copy is complete and synced; if it fails, there is none. It fails if the
+/// name is taken, or its `.partial` file is another program's database.
 pub fn backup_file<S: Start, T: Start>(
     rt: &HostRuntime,
     path: &str,

@@ -1,4 +1,4 @@
-//! The check of a host's file.
+//! Checks a host's file.
 
 ghost use Rattle.std.specs.Prelude.{◌≡◌, None, IfOk, IsTrue};
 ghost use Rattle.sqlite.specs.Files.{file_state};
@@ -30,7 +30,7 @@ use sqlite_disk::Disk;
 use sqlite_trees::error::StoreError;
 use std::alloc::{AllocError, Global};
 
-/// Tells on standard error how far a check is.
+/// Prints a check's progress on standard error.
 #[derive(Drop)]
 struct Progress<'a> {
     rt: &'a HostRuntime,
@@ -43,7 +43,7 @@ impl Watch for Progress<'_> {
     }
 }
 
-/// The line that tells a flaw, and status 1.
+/// The line that describes a flaw, with status 1.
 fn flawed(alloc: Global, flaw: Flaw) -> Result<Printed, AllocError>
     ensures { IfOk result (λ printed. printed.status ≡ 1) }
 {
@@ -51,7 +51,7 @@ fn flawed(alloc: Global, flaw: Flaw) -> Result<Printed, AllocError>
     Ok(Printed { text, status: 1 })
 }
 
-/// What is printed of what was found: `sound`, or the first thing that isn't.
+/// The printed text: `sound`, or the first flaw.
 fn verdict(alloc: Global, found: Option<Flaw>) -> Result<Printed, AllocError>
     ensures { IfOk result (IsVerdict (found ≡ None)) }
 {
@@ -61,7 +61,7 @@ fn verdict(alloc: Global, found: Option<Flaw>) -> Result<Printed, AllocError>
     }
 }
 
-/// What is printed where the store failed, or memory was wanting.
+/// The printed text if memory or the store failed.
 fn unread(rt: &HostRuntime, path: &str, error: StoreError) -> Result<Printed, Fault>
     ensures { IfOk result (λ printed. printed.status ≡ 1) }
 {
@@ -72,7 +72,7 @@ fn unread(rt: &HostRuntime, path: &str, error: StoreError) -> Result<Printed, Fa
     Ok(Printed::fault(rt.alloc())?)
 }
 
-/// Checks a host's database by a digester, and gives what is printed of it and the store that is left.
+/// Checks a host's database with a digester. Returns the printed text and the store.
 fn check_by<S: Alter + Drop, D: Digester>(
     rt: &HostRuntime,
     path: &str,
@@ -90,7 +90,7 @@ fn check_by<S: Alter + Drop, D: Digester>(
     }
 }
 
-/// Checks a host, by the digester of the function that names its blocks.
+/// Checks a host, with the digester of the function that names its blocks.
 fn check_named<S: Alter + Drop>(
     rt: &HostRuntime,
     path: &str,
@@ -106,7 +106,7 @@ fn check_named<S: Alter + Drop>(
     }
 }
 
-/// What is printed where no host was found, and the store that is left.
+/// The printed text if there is no host, and the store.
 fn check_none<S: Alter + Drop>(
     rt: &HostRuntime,
     path: &str,
@@ -121,8 +121,9 @@ fn check_none<S: Alter + Drop>(
     Ok((printed, connection.into_store()))
 }
 
-/// Checks the host of a database by the function that its row tells, and gives what is printed of it and the store that is left.
-/// One of an earlier version isn't brought over: it is judged by what it has once that is done.
+/// Checks the host of a database with the digest function in its row, and returns the printed text
+/// and the store. A host of an earlier version isn't upgraded, but judged by the tables that it
+/// would then have.
 pub(crate) fn check_on<S: Alter + Drop>(
     rt: &HostRuntime,
     path: &str,
@@ -144,7 +145,7 @@ pub(crate) fn check_on<S: Alter + Drop>(
     }
 }
 
-/// Opens files, checks what they hold, and closes them.
+/// Opens files, checks their host, and closes them.
 fn check_files<S: Start>(
     rt: &HostRuntime,
     path: &str,
@@ -160,12 +161,12 @@ fn check_files<S: Start>(
     })
 }
 
-/// Checks the host of a file: prints `sound`, or the first thing that isn't.
+/// Checks the host of a file: prints `sound`, or the first flaw.
 ///
-/// Where it is `sound` the tables that the file shows once it is opened are a sound host's, as far as the file gave back what was
-/// written to it: what is asked of a file before anything else is done on its host. Nothing is changed, and a host of an earlier
-/// version stays one. `47 NotAHostFile` where the path names nothing, a file of no bytes, or another database than a host's;
-/// `fault` where the file can't be read.
+/// If it prints `sound`, the file's tables, once opened, are a sound host's, provided that the file
+/// returned what was written to it. Soundness is what all other work on a host assumes. Nothing is
+/// changed, and a host of an earlier version isn't upgraded. `47 NotAHostFile` if the file is
+/// missing or empty, or is another database; `fault` if it can't be read.
 pub fn check_file<S: Start>(
     rt: &HostRuntime,
     path: &str,

@@ -1,4 +1,4 @@
-//! What is left once a subcommand is done.
+//! The state after a subcommand was done.
 
 ghost use Rattle.std.specs.Prelude.{◌≡◌};
 ghost use Rattle.bh_maintenance.specs.Endings.{IsLeft, AreClosed, Closes};
@@ -7,23 +7,23 @@ use crate::printed::Printed;
 use sqlite::{Alter, Connection, FileStore, Files};
 use sqlite_disk::Disk;
 
-/// What was done on the connection of a file.
+/// The result of a subcommand on a file's connection.
 #[derive(Drop)]
 pub struct Done<S: Alter + Drop> {
     pub printed: Printed,
     pub connection: Connection<S>,
 }
 
-/// What is left of a connection.
+/// The rest of a connection.
 #[derive(Drop)]
 pub enum Left<S: Alter + Drop> {
-    /// All of it.
+    /// The whole connection.
     Whole(Connection<S>),
-    /// The store beneath it, without what wasn't committed.
+    /// The store beneath it, with the committed database.
     Bare(S),
 }
 
-/// What is printed of a subcommand, and the files that it was done on, if there were any.
+/// A subcommand's printed text, and its files, if there were any.
 #[derive(Drop)]
 pub struct Ended<D: Disk + Drop> {
     pub printed: Printed,
@@ -31,7 +31,7 @@ pub struct Ended<D: Disk + Drop> {
 }
 
 impl<D: Disk + Drop> Ended<D> {
-    /// What is printed. The files are let go of, so that another process may open them.
+    /// The printed text. The files are closed, so that another process may open them.
     pub fn into_printed(self) -> Printed
         ensures { result ≡ self.printed }
     {
@@ -40,7 +40,7 @@ impl<D: Disk + Drop> Ended<D> {
     }
 }
 
-/// What is left of a connection: where the subcommand was refused, its files stay as they are.
+/// The rest of a connection. If the subcommand was refused, its files are unchanged.
 fn left_of<S: Alter + Drop>(connection: Connection<S>, status: u8) -> Left<S>
     ensures { IsLeft S.Store connection result }
 {
@@ -50,7 +50,7 @@ fn left_of<S: Alter + Drop>(connection: Connection<S>, status: u8) -> Left<S>
     Left::Bare(connection.into_store())
 }
 
-/// What is printed, and what is left.
+/// The printed text, and the rest of the connection.
 pub fn leave<S: Alter + Drop>(done: Done<S>) -> (Printed, Left<S>)
     ensures printed { result.0 ≡ done.printed }
     ensures left { IsLeft S.Store done.connection result.1 }
@@ -63,8 +63,8 @@ pub fn leave<S: Alter + Drop>(done: Done<S>) -> (Printed, Left<S>)
     (printed, left)
 }
 
-/// Closes files. Those of a whole connection get all of the log into the database file first: a failure to do so takes
-/// nothing back, since the next open reads the log.
+/// Closes files. If their connection is healthy, the log is copied into the database file first. A
+/// failure of that loses nothing, since the next open reads the log.
 pub fn close<D: Disk + Drop>(left: Left<FileStore<D>>) -> Files<D>
     ensures { Closes left result }
 {
@@ -77,7 +77,7 @@ pub fn close<D: Disk + Drop>(left: Left<FileStore<D>>) -> Files<D>
     }
 }
 
-/// Closes the files of a connection, which stay as they are.
+/// Closes the files of a connection, which don't change.
 pub fn let_go<D: Disk + Drop>(connection: Connection<FileStore<D>>) -> Files<D>
     ensures { AreClosed connection result }
 {

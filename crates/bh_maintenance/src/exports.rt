@@ -1,4 +1,4 @@
-//! A tenant of a file's host, copied to a new file.
+//! Copies a tenant of a file's host to a new file.
 
 ghost use Rattle.std.specs.Prelude.{◌≡◌, IfOk, MatchOption, MatchResult};
 ghost use Rattle.sqlite.specs.Files.{over_files};
@@ -12,10 +12,11 @@ use crate::ending::{Done, Ended, let_go};
 use crate::fault::Fault;
 use crate::files::{host_in, open};
 use crate::hosts::why_not_found;
+use crate::leftovers::{Making, refuse_foreign};
 use crate::moves::move_and_tell;
 use crate::printed::Printed;
 use crate::remarks::tell;
-use bh_backup::{BackupFault, Saved, save};
+use bh_backup::{BackupFault, Saved, refuse_taken, save};
 use bh_blocks::digester::Sha256Digester;
 use bh_create::create;
 use bh_open::Opened;
@@ -23,11 +24,9 @@ use bh_types::limits::Tuning;
 use sqlite::{Alter, Connection, FileFrom, FileStore, Files, Start};
 use sqlite_disk::Disk;
 use std::alloc::AllocError;
-use std::io::ErrorKind;
-use std::{fs, io};
 
-/// What came of an export: what is printed; the host's files, if there were any, closed; those in which the tenant's host was made,
-/// closed; and the copy of it, if one was made.
+/// The result of an export: the printed text, the host's files, if there were any, and the files in
+/// which the tenant's host was made. These have a copy, if one was made. All files are closed.
 #[derive(Drop)]
 pub struct Exported<D: Disk + Drop, M: Disk + Drop, E: Disk + Drop> {
     pub printed: Printed,
@@ -37,7 +36,7 @@ pub struct Exported<D: Disk + Drop, M: Disk + Drop, E: Disk + Drop> {
 }
 
 impl<D: Disk + Drop, M: Disk + Drop, E: Disk + Drop> Exported<D, M, E> {
-    /// What is printed. The files are let go of, so that another process may open them.
+    /// The printed text. The files are closed, so that another process may open them.
     pub fn into_printed(self) -> Printed
         ensures { result ≡ self.printed }
     {
@@ -51,7 +50,7 @@ impl<D: Disk + Drop, M: Disk + Drop, E: Disk + Drop> Exported<D, M, E> {
     }
 }
 
-/// What is printed, the files in which a host was made, closed, and the copy.
+/// The printed text, the closed files in which a host was made, and the copy.
 #[derive(Drop)]
 struct Made<M: Disk + Drop, E: Disk + Drop> {
     printed: Printed,
@@ -59,46 +58,15 @@ struct Made<M: Disk + Drop, E: Disk + Drop> {
     copy: Option<E>,
 }
 
-/// Whether something has a name.
-fn is_there(rt: &HostRuntime, path: &str) -> io::Result<bool> {
-    match fs::symlink_metadata(rt, path) {
-        Ok(_) => Ok(true),
-        Err(error) if error.kind() == ErrorKind::NotFound => Ok(false),
-        Err(error) => Err(error),
+/// The outcome, or the fault that no file was saved at this path.
+fn or_unsaved(rt: &HostRuntime, to: &str, outcome: Result<(), BackupFault>) -> Result<(), Fault> {
+    match outcome {
+        Ok(()) => Ok(()),
+        Err(reason) => Err(Fault::unsaved(rt.alloc(), to, reason)),
     }
 }
 
-/// That nothing has the name of the new file yet.
-fn refuse_there(rt: &HostRuntime, path: &str) -> Result<(), Fault> {
-    if is_there(rt, path)? {
-        return Err(Fault::unsaved(rt.alloc(), path, BackupFault::Taken));
-    }
-    Ok(())
-}
-
-/// The name of the file in which the tenant's host is made, and that of its log.
-#[derive(Drop)]
-struct Making {
-    file: String,
-    log: String,
-}
-
-impl Making {
-    fn of(rt: &HostRuntime, path: &str) -> Result<Making, AllocError> {
-        Ok(Making {
-            file: format!(in rt.alloc(); "{path}.moving")?,
-            log: format!(in rt.alloc(); "{path}.moving-wal")?,
-        })
-    }
-
-    /// Removes what was made, or what a stop left of it.
-    fn discard(&self, rt: &HostRuntime) {
-        let _ = fs::remove_file(rt, self.file.as_str());
-        let _ = fs::remove_file(rt, self.log.as_str());
-    }
-}
-
-/// A new host in an empty database, with the limits and the digest function of another, or `fault`.
+/// A new host in an empty database, with another host's limits and digest function, or `fault`.
 fn host_like<S: Alter + Drop, T: Alter + Drop>(
     rt: &HostRuntime,
     host: &Opened<S>,
@@ -107,7 +75,7 @@ fn host_like<S: Alter + Drop, T: Alter + Drop>(
 ) -> Result<Result<Opened<T>, Done<T>>, AllocError>
     ensures { IfOk result (λ made. MatchResult made (IsLike T.Store host.now) (λ done. IsFault done.printed)) }
 {
-    // No block is named yet, so it doesn't matter who would.
+    // There are no blocks yet, so any digester will do.
     let (limits, tuning) = (host.limits, Tuning::default());
     match create(connection, Sha256Digester, host.digest, limits, tuning) {
         Ok(made) => Ok(Ok(Opened {
@@ -127,7 +95,7 @@ fn host_like<S: Alter + Drop, T: Alter + Drop>(
     }
 }
 
-/// Brings a tenant of a host to one that was made like it, and prints `export`.
+/// Copies a tenant of a host to a new one with the same settings, and prints `export`.
 fn bring_to<S: Alter + Drop, T: Alter + Drop>(
     rt: &HostRuntime,
     host: &mut Opened<S>,
@@ -148,7 +116,7 @@ fn bring_to<S: Alter + Drop, T: Alter + Drop>(
     })
 }
 
-/// Brings a tenant to a host that is made for it in an empty database.
+/// Copies a tenant to a new host in an empty database.
 fn fill<S: Alter + Drop, T: Alter + Drop>(
     rt: &HostRuntime,
     host: &mut Opened<S>,
@@ -165,7 +133,7 @@ fn fill<S: Alter + Drop, T: Alter + Drop>(
     }
 }
 
-/// Copies a host that has the tenant to the new file, or closes it where it hasn't.
+/// Copies a host that has the tenant to the new file, or closes it if it doesn't have the tenant.
 fn save_moved<D: Disk + Drop, W: Start>(
     rt: &HostRuntime,
     done: Done<FileStore<D>>,
@@ -215,7 +183,8 @@ fn export_to<S: Alter + Drop, U: Start, W: Start>(
     save_moved(rt, done, to, to_start)
 }
 
-/// Exports a tenant of a host in files, which are closed. What was made beside the new file is removed.
+/// Exports a tenant of a host in files, and closes them. What was made beside the new file is
+/// removed.
 fn export_from<D: Disk + Drop, U: Start, W: Start>(
     rt: &HostRuntime,
     host: Opened<FileStore<D>>,
@@ -230,7 +199,7 @@ fn export_from<D: Disk + Drop, U: Start, W: Start>(
 {
     let mut host = host;
     let making = Making::of(rt, to)?;
-    making.discard(rt);
+    or_unsaved(rt, to, making.clear(rt))?;
     let path = making.file.as_str();
     let outcome = export_to(rt, &mut host, path, tenant, to, made_start, to_start);
     making.discard(rt);
@@ -247,11 +216,15 @@ fn export_from<D: Disk + Drop, U: Start, W: Start>(
     })
 }
 
-/// Copies a tenant of the host of a file, with all that it has, to a host of its own in a new file, `to`, and prints `export`. That
-/// host has the limits of the other, its digest function and its last stamp. No clock is read, and the first host stays as it is.
+/// Copies a tenant of a file's host, with all its contents, to a new host in a new file, `to`, and
+/// prints `export`. The new host has the old one's limits, digest function and last stamp. No clock
+/// is read, and the old host doesn't change.
 ///
-/// It is made in a file of the name with `.moving` behind it, and copied as a backup is: the new file is whole and synced
-/// before that, or there is none. `42 NoSuchTenant` where the host hasn't the tenant.
+/// The new host is made in a file of that name with `.moving` appended, and then copied as a backup
+/// is. Before it prints, the new file is complete and synced; if it fails, there is none.
+/// `42 NoSuchTenant` if the host doesn't have the tenant. If the `.moving` file or its log exists and
+/// no export made it, that is a fault, and it isn't removed. So is another program's database in the
+/// `.partial` file.
 pub fn export_file<S: Start, U: Start, W: Start>(
     rt: &HostRuntime,
     path: &str,
@@ -265,7 +238,8 @@ pub fn export_file<S: Start, U: Start, W: Start>(
     ensures { IfOk result (λ it. IsExported ⟦<FileFrom<S> as Disk>⟧ ⟦<FileFrom<U> as Disk>⟧ ⟦<FileFrom<W> as Disk>⟧ (image_at S.Start)
         tenant.now it.printed it.files it.made it.copy) }
 {
-    refuse_there(rt, to)?;
+    or_unsaved(rt, to, refuse_taken(rt, to))?;
+    refuse_foreign(rt, to)?;
     match host_in(rt, path, start)? {
         Ok(host) => export_from(rt, host, tenant, to, made_start, to_start),
         Err(Ended { printed, files }) => Ok(Exported {

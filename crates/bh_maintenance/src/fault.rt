@@ -3,16 +3,16 @@ use bh_file::OpenFault;
 use std::alloc::{AllocError, Global};
 use std::{fmt, io};
 
-/// Why a file gives no secret.
+/// Why a file has no usable secret.
 #[derive(Drop)]
 pub enum SecretFault {
-    /// It isn't read.
+    /// It can't be read.
     Unread(io::Error),
-    /// Others than its owner may read or write it.
+    /// Users other than its owner can read or write it.
     Shared,
-    /// Its first line isn't 8 to 64 printable characters of ASCII.
+    /// Its first line isn't 8 to 64 printable ASCII characters.
     NoSecret,
-    /// Memory was wanting.
+    /// Memory ran out.
     Memory,
 }
 
@@ -32,7 +32,9 @@ impl fmt::Display for SecretFault {
     fn fmt<W: fmt::Write>(&self, f: &mut fmt::Formatter<W>) -> fmt::Result {
         match self {
             SecretFault::Unread(error) => write!(f, "{error}"),
-            SecretFault::Shared => f.write_str("others may read or write it: give it mode 0600"),
+            SecretFault::Shared => f.write_str(
+                "users other than its owner can read or write it: set mode 0600",
+            ),
             SecretFault::NoSecret => {
                 f.write_str("its first line isn't 8 to 64 printable ASCII characters")
             }
@@ -41,40 +43,42 @@ impl fmt::Display for SecretFault {
     }
 }
 
-/// What ends a subcommand outside of a refusal. Its `Display` tells the operator why.
+/// Why a subcommand failed, refusals aside. Its `Display` is the message to the operator.
 #[derive(Drop)]
 pub enum Fault {
-    /// Memory was wanting.
+    /// Memory ran out.
     Memory,
-    /// The file of this path isn't opened as a database.
+    /// The file of this path can't be opened as a database.
     Unopened { path: String, reason: OpenFault },
-    /// No backup is made under this path.
+    /// The file of this path can't be created.
     Unsaved { path: String, reason: BackupFault },
-    /// The clock or standard input can't be read, or standard output not be written.
+    /// The file of this path can't be created: its `.partial` file is another program's database.
+    Foreign { path: String },
+    /// The clock or standard input can't be read, or standard output can't be written.
     System(io::Error),
-    /// Standard input has more bytes than a script may have.
+    /// Standard input is longer than the maximum for a script.
     LongInput,
     /// No digest function has the name that was given.
     UnknownDigest,
-    /// A write of a script's answers failed, or took none of some bytes.
+    /// A write of a script's replies failed, or took none of some bytes.
     Output,
-    /// The file of this path gives no operator's secret.
+    /// The file of this path has no usable operator's secret.
     Secret { path: String, reason: SecretFault },
-    /// A file of an operator's secret was named, and no port for operators.
+    /// A file of an operator's secret was given without a port for operators.
     NoOperatorPort,
-    /// A host that was closed to be copied couldn't be opened again.
+    /// A host that was closed for a backup could not be reopened.
     LostHost,
-    /// A host that was told a line closed the connection before it had answered.
+    /// A server closed the connection before it replied to a line.
     NoReply,
 }
 
 impl Fault {
-    /// Whether the words are at fault, as those that the command line refuses are.
+    /// Whether the command line is invalid, as if its parser had refused it.
     pub fn is_in_words(&self) -> bool {
         matches!(self, Fault::UnknownDigest | Fault::NoOperatorPort)
     }
 
-    /// That the file of a path isn't opened.
+    /// The error that the file of a path can't be opened.
     pub fn unopened(alloc: Global, path: &str, reason: OpenFault) -> Fault {
         match String::from_str(alloc, path) {
             Ok(path) => Fault::Unopened { path, reason },
@@ -82,7 +86,7 @@ impl Fault {
         }
     }
 
-    /// That no backup is made under a path.
+    /// The error that the file of a path can't be created.
     pub fn unsaved(alloc: Global, path: &str, reason: BackupFault) -> Fault {
         match String::from_str(alloc, path) {
             Ok(path) => Fault::Unsaved { path, reason },
@@ -90,7 +94,15 @@ impl Fault {
         }
     }
 
-    /// That the file of a path gives no secret.
+    /// The error that another program's database stands where the file of a path is written first.
+    pub fn foreign(alloc: Global, path: &str) -> Fault {
+        match String::from_str(alloc, path) {
+            Ok(path) => Fault::Foreign { path },
+            Err(_) => Fault::Memory,
+        }
+    }
+
+    /// The error that the file of a path has no usable secret.
     pub fn secret(alloc: Global, path: &str, reason: SecretFault) -> Fault {
         match String::from_str(alloc, path) {
             Ok(path) => Fault::Secret { path, reason },
@@ -116,19 +128,26 @@ impl fmt::Display for Fault {
         match self {
             Fault::Memory => f.write_str("out of memory"),
             Fault::Unopened { path, reason } => write!(f, "unable to open {path}: {reason}"),
-            Fault::Unsaved { path, reason } => write!(f, "no backup in {path}: {reason}"),
+            Fault::Unsaved { path, reason } => write!(f, "unable to create {path}: {reason}"),
+            Fault::Foreign { path } => write!(
+                f,
+                "unable to create {path}: its .partial file is another program's database: remove it"
+            ),
             Fault::System(error) => write!(f, "{error}"),
             Fault::LongInput => f.write_str("standard input is too long"),
             Fault::UnknownDigest => f.write_str(
                 "error: invalid value for '--digest <digest>'\n  [possible values: sha256, fast]\n\nFor more information, try '--help'.\n",
             ),
-            Fault::Output => f.write_str("standard output can't be written"),
-            Fault::Secret { path, reason } => write!(f, "no secret in {path}: {reason}"),
+            Fault::Output => f.write_str("unable to write to standard output"),
+            Fault::Secret { path, reason } => write!(
+                f,
+                "unable to read a secret from {path}: {reason}"
+            ),
             Fault::NoOperatorPort => f.write_str(
                 "error: '--operator-secret-file <operator-secret-file>' needs '--operator-port <operator-port>'\n\nFor more information, try '--help'.\n",
             ),
-            Fault::LostHost => f.write_str("the host isn't open any more"),
-            Fault::NoReply => f.write_str("the host closed the connection without a reply"),
+            Fault::LostHost => f.write_str("the host is no longer open"),
+            Fault::NoReply => f.write_str("the server closed the connection without a reply"),
         }
     }
 }

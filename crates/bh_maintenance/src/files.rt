@@ -1,4 +1,4 @@
-//! What opening a file needs.
+//! Opening a file.
 
 ghost use Rattle.std.specs.Prelude.{◌≡◌, None, IfOk, MatchOption, MatchResult};
 ghost use Rattle.sqlite.specs.Files.{file_state, over_files};
@@ -25,7 +25,7 @@ use std::alloc::{AllocError, Global};
 use std::io::ErrorKind;
 use std::{fs, io};
 
-/// Whether a path names nothing, or a file of no bytes. Such a file holds no host, and stays as it is.
+/// Whether a file is missing or empty. Such a file has no host, and doesn't change.
 pub fn is_blank(rt: &HostRuntime, path: &str) -> io::Result<bool> {
     match fs::metadata(rt, path) {
         Ok(data) if data.is_file() && data.len() == 0 => {
@@ -41,7 +41,7 @@ pub fn is_blank(rt: &HostRuntime, path: &str) -> io::Result<bool> {
     }
 }
 
-/// What is printed where there is no host.
+/// The result if there is no host.
 pub fn without_files<D: Disk + Drop>(alloc: Global) -> Result<Ended<D>, AllocError>
     ensures { IfOk result (λ ended. (ended.files ≡ None) × IsRefusal refusal.NotAHostFile ended.printed) }
 {
@@ -51,7 +51,7 @@ pub fn without_files<D: Disk + Drop>(alloc: Global) -> Result<Ended<D>, AllocErr
     })
 }
 
-/// Opens files, or makes them. A fault names the path.
+/// Opens or creates files. An error names the path.
 pub fn open<S: Start>(rt: &HostRuntime, path: &str, start: S) -> Result<FileConnection<S>, Fault>
     ensures { IfOk result (λ connection. IsOpenedOn (image_at S.Start) (file_state connection)) }
 {
@@ -61,7 +61,7 @@ pub fn open<S: Start>(rt: &HostRuntime, path: &str, start: S) -> Result<FileConn
     }
 }
 
-/// The host of the connection of files, or what is printed where there is none, and the files, closed.
+/// The host of a connection to files, or the printed text if there is none, and the closed files.
 fn host_or_closed<D: Disk + Drop>(
     rt: &HostRuntime,
     path: &str,
@@ -83,8 +83,8 @@ fn host_or_closed<D: Disk + Drop>(
     }
 }
 
-/// The host of a file, brought over if it was of an earlier version, or what is printed where there is none, and its files, closed, if
-/// there are any. A fault names the path.
+/// The host of a file, upgraded if needed; or the printed text if there is none, and its closed
+/// files, if there are any. An error names the path.
 pub fn host_in<S: Start>(
     rt: &HostRuntime,
     path: &str,

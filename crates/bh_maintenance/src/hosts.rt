@@ -1,4 +1,4 @@
-//! The host of a file, found on its connection, whatever store that is over.
+//! Finds the host of a database on its connection, for any store.
 
 ghost use Rattle.std.specs.Prelude.{◌≡◌, IfOk, MatchResult};
 ghost use Rattle.sqlite.specs.Held.{state};
@@ -14,7 +14,7 @@ use bh_types::refusal::Refusal;
 use sqlite::{Alter, Connection, Error};
 use std::alloc::{AllocError, Global};
 
-/// A refusal of what the connection shows, which stays.
+/// A refusal of a database, which doesn't change.
 pub fn refused<S: Alter + Drop>(
     alloc: Global,
     connection: Connection<S>,
@@ -37,8 +37,7 @@ pub fn why_not_found(why: Option<NoHost>, cause: Option<Error>) -> Remark {
     }
 }
 
-/// The connection of a database that holds a host, which was brought over if it was of an earlier version, or the refusal of one
-/// that doesn't.
+/// The connection of a database with a host, upgraded if needed, or the refusal if there is none.
 pub fn found_host<S: Alter + Drop>(
     rt: &HostRuntime,
     path: &str,
@@ -56,7 +55,7 @@ pub fn found_host<S: Alter + Drop>(
     }
 }
 
-/// The host of a database, which was brought over if it was of an earlier version, or the refusal of one that holds none.
+/// The host of a database, upgraded if needed, or the refusal if there is none.
 pub fn opened_host<S: Alter + Drop>(
     rt: &HostRuntime,
     path: &str,

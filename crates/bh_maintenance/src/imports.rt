@@ -1,22 +1,24 @@
-//! The tenant of a file, added to the host of another.
+//! Adds the tenant of a file to the host of another.
 
-ghost use Rattle.std.specs.Prelude.{◌≡◌, ◌++◌, codes, IfOk, MatchResult, MatchOption};
+ghost use Rattle.std.specs.Prelude.{◌≡◌, ◌++◌, false, codes, IfOk, MatchResult, MatchOption};
 ghost use Rattle.std.specs.String.{string_bytes};
 ghost use Rattle.sqlite.specs.Files.{over_files};
 ghost use Rattle.sqlite_wal.specs.Files.{image_at};
 ghost use Rattle.bh_blocks.specs.Digests.{digest_by};
+ghost use Rattle.bh_maintenance.specs.Clocks.{is_beyond, moment_of};
 ghost use Rattle.bh_maintenance.specs.Files.{HoldsSoundHost};
 ghost use Rattle.bh_maintenance.specs.Found.{IsReadyByRow};
 ghost use Rattle.bh_maintenance.specs.Moves.{Stays, TellsName, HasNoName, IsOneName, Imports, IsImportedInto, ImportsTo, IsImportedOf};
 ghost use Rattle.bh_maintenance.specs.Moves.{IsImported};
 ghost use Rattle.bh_maintenance.specs.Printing.{IsLine};
 
+use crate::clocks::{ClockRead, is_beyond, moment_of};
 use crate::ending::{Done, Ended, close, leave, let_go};
 use crate::fault::Fault;
 use crate::files::host_in;
 use crate::moves::move_and_tell;
 use crate::printed::Printed;
-use crate::remarks::{Remark, tell};
+use crate::remarks::{Ahead, Remark, tell};
 use bh_moved::sole_tenant;
 use bh_open::Opened;
 use bh_types::refusal::Refusal;
@@ -24,18 +26,19 @@ use sqlite::{Alter, Error, FileFrom, FileStore, Files, Start};
 use sqlite_disk::Disk;
 use std::alloc::{AllocError, Global};
 
-/// What came of an import: what is printed, and the files of both hosts, of those that were opened, closed.
+/// The result of an import: the printed text, and the closed files of both hosts, as far as they
+/// were opened.
 #[derive(Drop)]
 pub struct Imported<D: Disk + Drop, E: Disk + Drop> {
     pub printed: Printed,
     /// The host's.
     pub files: Option<Files<D>>,
-    /// Those of the tenant.
+    /// The exported tenant's.
     pub given: Option<Files<E>>,
 }
 
 impl<D: Disk + Drop, E: Disk + Drop> Imported<D, E> {
-    /// What is printed. The files are let go of, so that another process may open them.
+    /// The printed text. The files are closed, so that another process may open them.
     pub fn into_printed(self) -> Printed
         ensures { result ≡ self.printed }
     {
@@ -48,7 +51,7 @@ impl<D: Disk + Drop, E: Disk + Drop> Imported<D, E> {
     }
 }
 
-/// The name that was read of the one tenant of a host, or what is printed where it has none or several.
+/// The name of a host's only tenant, or the printed text if it has none or several.
 fn name_or_told(
     rt: &HostRuntime,
     path: &str,
@@ -69,7 +72,7 @@ fn name_or_told(
     }
 }
 
-/// The name of the one tenant of a host, or what is printed where it has none or several.
+/// The name of a host's only tenant, or the printed text if it has none or several.
 fn name_in<S: Alter + Drop>(
     rt: &HostRuntime,
     path: &str,
@@ -86,7 +89,7 @@ fn name_in<S: Alter + Drop>(
     name_or_told(rt, path, found)
 }
 
-/// That a tenant came.
+/// The line for an imported tenant.
 fn tenant_line(alloc: Global, tenant: &str) -> Result<Printed, AllocError>
     ensures { IfOk result (IsLine (codes "tenant " ++ tenant.now)) }
 {
@@ -95,18 +98,20 @@ fn tenant_line(alloc: Global, tenant: &str) -> Result<Printed, AllocError>
     Printed::line(alloc, line.as_slice())
 }
 
-/// Moves the one tenant of a host into another, which prints `tenant` and its name.
+/// Moves the only tenant of a host into another, which prints `tenant` and its name.
 fn import_one<S: Alter + Drop, T: Alter + Drop>(
     rt: &HostRuntime,
     path: &str,
     from_path: &str,
     from: &mut Opened<S>,
     to: &mut Opened<T>,
+    clock: ClockRead,
 ) -> Result<Printed, AllocError>
     requires from { IsReadyByRow S.Store from.old }
     requires to { IsReadyByRow T.Store to.old }
     requires limits { from.old.limits ≡ to.old.limits }
-    ensures { IfOk result (Imports S.Store T.Store from.old to.old from.new.connection to.new.connection) }
+    requires in_time { is_beyond clock.leap (moment_of clock to.old.latest) from.old.latest ≡ false }
+    ensures { IfOk result (Imports clock S.Store T.Store from.old to.old from.new.connection to.new.connection) }
 {
     match name_in(rt, from_path, from)? {
         Ok(tenant) => {
@@ -118,39 +123,52 @@ fn import_one<S: Alter + Drop, T: Alter + Drop>(
     }
 }
 
-/// Imports the one tenant, if the limits of both hosts are the same.
+/// Imports the only tenant, if the limits of both hosts are the same, and the first one's last stamp
+/// isn't too far ahead of the clock and the second one's.
 fn import_from<S: Alter + Drop, T: Alter + Drop>(
     rt: &HostRuntime,
     path: &str,
     from_path: &str,
     from: &mut Opened<S>,
     to: &mut Opened<T>,
+    clock: ClockRead,
 ) -> Result<Printed, AllocError>
     requires from { IsReadyByRow S.Store from.old }
     requires to { IsReadyByRow T.Store to.old }
-    ensures { IfOk result (Imports S.Store T.Store from.old to.old from.new.connection to.new.connection) }
+    ensures { IfOk result (Imports clock S.Store T.Store from.old to.old from.new.connection to.new.connection) }
 {
     if from.limits != to.limits {
         tell(rt, from_path, &Remark::OtherLimits);
         return Printed::fault(rt.alloc());
     }
-    import_one(rt, path, from_path, from, to)
+    let moment = moment_of(clock, to.latest);
+    if is_beyond(clock.leap, moment, from.latest) {
+        let ahead = Ahead {
+            latest: moment,
+            reading: from.latest,
+        };
+        tell(rt, from_path, &Remark::StampLeaps(ahead));
+        return Printed::fault(rt.alloc());
+    }
+    import_one(rt, path, from_path, from, to, clock)
 }
 
-/// Imports the one tenant into the host of files, which are closed.
+/// Imports the only tenant into the host of files, and closes them.
 fn import_into<S: Alter + Drop, D: Disk + Drop>(
     rt: &HostRuntime,
     path: &str,
     from_path: &str,
     from: &mut Opened<S>,
     to: Opened<FileStore<D>>,
+    clock: ClockRead,
 ) -> Result<Ended<D>, AllocError>
     requires from { IsReadyByRow S.Store from.old }
     requires to { IsReadyByRow over_files to }
-    ensures { IfOk result (λ ended. MatchOption ended.files ⊥ (IsImportedInto S.Store from.old from.new.connection to ended.printed)) }
+    ensures { IfOk result (λ ended. MatchOption ended.files ⊥
+        (IsImportedInto clock S.Store from.old from.new.connection to ended.printed)) }
 {
     let mut to = to;
-    let printed = import_from(rt, path, from_path, from, &mut to)?;
+    let printed = import_from(rt, path, from_path, from, &mut to, clock)?;
     let (printed, left) = leave(Done {
         printed,
         connection: to.connection,
@@ -161,40 +179,42 @@ fn import_into<S: Alter + Drop, D: Disk + Drop>(
     })
 }
 
-/// Opens the host that the tenant of another is added to, adds it, and closes its files.
+/// Opens the host that the tenant is added to, adds it, and closes the host's files.
 fn import_to<F: Alter + Drop, S: Start>(
     rt: &HostRuntime,
     path: &str,
     start: S,
     from_path: &str,
     from: &mut Opened<F>,
+    clock: ClockRead,
 ) -> Result<Ended<FileFrom<S>>, Fault>
     requires host { HoldsSoundHost (image_at S.Start) }
     requires from { IsReadyByRow F.Store from.old }
-    ensures { IfOk result (λ ended. ImportsTo F.Store from.old from.new.connection ⟦<FileFrom<S> as Disk>⟧ (image_at S.Start)
+    ensures { IfOk result (λ ended. ImportsTo clock F.Store from.old from.new.connection ⟦<FileFrom<S> as Disk>⟧ (image_at S.Start)
         ended.printed ended.files) }
 {
     match host_in(rt, path, start)? {
-        Ok(to) => Ok(import_into(rt, path, from_path, from, to)?),
+        Ok(to) => Ok(import_into(rt, path, from_path, from, to, clock)?),
         Err(ended) => Ok(ended),
     }
 }
 
-/// Imports the one tenant of a host in files, which are closed.
+/// Imports the only tenant of a host in files, and closes them.
 fn import_given<E: Disk + Drop, S: Start>(
     rt: &HostRuntime,
     path: &str,
     start: S,
     from_path: &str,
     from: Opened<FileStore<E>>,
+    clock: ClockRead,
 ) -> Result<Imported<FileFrom<S>, E>, Fault>
     requires host { HoldsSoundHost (image_at S.Start) }
     requires from { IsReadyByRow over_files from }
-    ensures { IfOk result (λ it. MatchOption it.given ⊥ (IsImportedOf from ⟦<FileFrom<S> as Disk>⟧ (image_at S.Start)
+    ensures { IfOk result (λ it. MatchOption it.given ⊥ (IsImportedOf clock from ⟦<FileFrom<S> as Disk>⟧ (image_at S.Start)
         it.printed it.files)) }
 {
     let mut from = from;
-    let Ended { printed, files } = import_to(rt, path, start, from_path, &mut from)?;
+    let Ended { printed, files } = import_to(rt, path, start, from_path, &mut from, clock)?;
     Ok(Imported {
         printed,
         files,
@@ -202,25 +222,29 @@ fn import_given<E: Disk + Drop, S: Start>(
     })
 }
 
-/// Adds the tenant of a file that was exported to the host of another, with all that it has, and prints `tenant` and its name. No
-/// clock is read: the later one of the two last stamps becomes the host's. The file that was exported stays as it is.
+/// Adds the tenant of an exported file to another file's host, with all its contents, and prints
+/// `tenant` and its name. The host's last stamp becomes the later of the two. The exported file
+/// doesn't change.
 ///
-/// `41 TenantExists` where the host has a tenant of this name, `47 NotAHostFile` where either holds no host, or the second not
-/// exactly one tenant, `fault` where their limits differ. Then nothing is changed.
+/// `41 TenantExists` if the host has a tenant of this name; `47 NotAHostFile` if either file has no
+/// host, or the exported one not exactly one tenant. `fault` if their limits differ, or if the file's
+/// last stamp is too far ahead of the host's and the clock: it would end retention early. Then
+/// nothing is changed.
 pub fn import_file<S: Start, U: Start>(
     rt: &HostRuntime,
     path: &str,
     start: S,
     given: &str,
     given_start: U,
+    clock: ClockRead,
 ) -> Result<Imported<FileFrom<S>, FileFrom<U>>, Fault>
     requires host { HoldsSoundHost (image_at S.Start) }
     requires given { HoldsSoundHost (image_at U.Start) }
-    ensures { IfOk result (λ it. IsImported ⟦<FileFrom<S> as Disk>⟧ ⟦<FileFrom<U> as Disk>⟧ (image_at S.Start) (image_at U.Start)
+    ensures { IfOk result (λ it. IsImported clock ⟦<FileFrom<S> as Disk>⟧ ⟦<FileFrom<U> as Disk>⟧ (image_at S.Start) (image_at U.Start)
         it.printed it.files it.given) }
 {
     match host_in(rt, given, given_start)? {
-        Ok(from) => import_given(rt, path, start, given, from),
+        Ok(from) => import_given(rt, path, start, given, from, clock),
         Err(
             Ended {
                 printed,

@@ -1,19 +1,22 @@
-//! What an operator does to the file of a host that isn't served: a copy, a check, a tenant that moves.
+//! Work on the file of a host that isn't being served: copies, checks, and moves of tenants.
 #![tactic(auto)]
 
 mod backups;
 mod checks;
+mod clocks;
 pub mod ending;
 mod exports;
 pub mod fault;
 pub mod files;
 pub mod hosts;
 mod imports;
+mod leftovers;
 mod moves;
 pub mod printed;
 pub mod remarks;
 
 pub use backups::{BackedUp, backup_file};
 pub use checks::check_file;
+pub use clocks::ClockRead;
 pub use exports::{Exported, export_file};
 pub use imports::{Imported, import_file};

@@ -1,4 +1,4 @@
-//! A tenant of one host, moved to another, whatever stores they are over.
+//! Moves a tenant from one host to another, for any stores.
 
 ghost use Rattle.std.specs.Prelude.{IfOk};
 ghost use Rattle.bh_blocks.specs.Digests.{digest_by};
@@ -17,7 +17,7 @@ use bh_types::refusal::Refusal;
 use sqlite::{Alter, Error};
 use std::alloc::{AllocError, Global};
 
-/// Moves a tenant into a host whose blocks a digester names.
+/// Moves a tenant into a host, with the digester of its blocks.
 fn move_by<S: Alter + Drop, T: Alter + Drop, D: Digester>(
     from: &mut Opened<S>,
     to: &mut Opened<T>,
@@ -41,7 +41,7 @@ fn move_by<S: Alter + Drop, T: Alter + Drop, D: Digester>(
     )
 }
 
-/// Moves a tenant, by the digester of the function that the host's row tells.
+/// Moves a tenant, with the digester of the function in the host's row.
 fn move_by_digest<S: Alter + Drop, T: Alter + Drop>(
     from: &mut Opened<S>,
     to: &mut Opened<T>,
@@ -59,7 +59,8 @@ fn move_by_digest<S: Alter + Drop, T: Alter + Drop>(
     }
 }
 
-/// What is printed of a tenant that was moved, was refused, or wasn't moved for want of memory or the store.
+/// The printed text for a tenant that was moved, or refused, or not moved because memory or the
+/// store failed.
 fn told(
     rt: &HostRuntime,
     path: &str,
@@ -78,7 +79,7 @@ fn told(
     }
 }
 
-/// Moves a tenant into a host, and gives this line, or what is printed where it wasn't moved.
+/// Moves a tenant into a host, and returns this line, or the printed text if it was not moved.
 pub(crate) fn move_and_tell<S: Alter + Drop, T: Alter + Drop>(
     rt: &HostRuntime,
     path: &str,

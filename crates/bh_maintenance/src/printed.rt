@@ -5,16 +5,16 @@ ghost use Rattle.bh_maintenance.specs.Printing as spec;
 use bh_types::refusal::Refusal;
 use std::alloc::{AllocError, Global};
 
-/// What is left to write on standard output once a subcommand is done, and the status that it ends with.
+/// The text that a subcommand leaves to print on standard output, and its exit status.
 #[derive(Drop)]
 pub struct Printed {
-    /// A line and its line feed; of a script, whose answers are written as they come, nothing.
+    /// A line and its line feed; empty for a script, whose replies are written one by one.
     pub text: Vec<u8>,
-    /// 0, or 1 where the line is a refusal or `fault`, or a script's line tells no event.
+    /// 0; or 1 if the line is a refusal or `fault`, or if a line of a script is invalid.
     pub status: u8,
 }
 
-/// Whether a line tells a refusal: it begins with the refusal's number.
+/// Whether a line is a refusal: it begins with the refusal's number.
 fn is_refusal(line: &[u8]) -> bool
     ensures { result ≡ spec.is_refusal line.now }
 {
@@ -33,7 +33,7 @@ fn line_of(alloc: Global, line: &[u8]) -> Result<Vec<u8>, AllocError>
 }
 
 impl Printed {
-    /// A line that isn't a refusal, or is.
+    /// A line, with status 1 if it is a refusal.
     pub fn line(alloc: Global, line: &[u8]) -> Result<Printed, AllocError>
         ensures { IfOk result (IsLine line.now) }
     {
@@ -52,7 +52,7 @@ impl Printed {
         }
     }
 
-    /// That it can't be done, for a reason that no number tells.
+    /// `fault`: a failure without a number.
     pub fn fault(alloc: Global) -> Result<Printed, AllocError>
         ensures { IfOk result IsFault }
     {
@@ -61,7 +61,7 @@ impl Printed {
         Ok(printed)
     }
 
-    /// A reply of a host that serves to a line.
+    /// A server's reply to a line.
     pub fn told(alloc: Global, reply: &[u8]) -> Result<Printed, AllocError>
         ensures { IfOk result (IsReply reply.now) }
     {

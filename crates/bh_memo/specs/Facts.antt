@@ -1,4 +1,4 @@
--- What is remembered of a host's tables.
+-- Remembered facts of a host's tables.
 use Rattle.std.specs.Prelude.{ℕ, Bool, true, false, nat_eq, ◌&&◌, List, [], Option, None, option_and_then, is_none, is_ok}
 use Rattle.std.specs.List.{list_all}
 use Rattle.std.specs.Option.{option_map_or}
@@ -12,7 +12,7 @@ use Rattle.bh_view.specs.View.{view, latest_of}
 use Rattle.bh_memo.specs.declared.facts.KnownBucket.{KnownBucket}
 use Rattle.bh_memo.specs.declared.facts.KnownSecret.{KnownSecret}
 
--- the last stamp, tenants of which no bucket has a rule, the states of buckets, and the secrets of access keys
+-- the last stamp, tenants without a rule, the states of buckets, and the secrets of access keys
 pub record Facts : Type 0 where
   pub latest : Option ℕ
   pub quiet : List Octets
@@ -22,7 +22,7 @@ pub record Facts : Type 0 where
 abbrev pub nothing : Facts
 nothing = record { latest = None; quiet = []; buckets = []; secrets = [] }
 
--- ---- whether it is so
+-- ---- whether they are true
 
 -- no bucket of a tenant has a rule
 abbrev pub has_no_rule : Option State → Bool
@@ -37,7 +37,7 @@ has_state name state s = option_map_or (λ (b : Bucket). nat_eq (state_number b.
 abbrev pub is_accepted : KnownSecret → Option State → Bool
 is_accepted known s = is_ok (authenticate known.key known.secret s)
 
--- it is the last stamp, if it is one
+-- it is the last stamp, if there is one
 abbrev pub is_latest : Option ℕ → Tables → Bool
 is_latest latest tables = option_map_or (λ n. nat_eq n (latest_of tables)) latest true
 

@@ -40,7 +40,8 @@ pub struct KnownSecret {
 }
 
 impl KnownSecret {
-    /// With copies of both, or `None` where the key has no name, or the bytes are no secret. An error says that memory ran out.
+    /// Copies of both, or `None` if the key has no name, or the bytes are not a secret. Fails if
+    /// memory runs out.
     pub fn read(
         alloc: Global,
         key: &AccessKeyId,

@@ -1,4 +1,4 @@
-//! What a process remembers of a host's tables, so that it needn't ask for it again.
+//! Facts of a host's tables that a process remembers, so that it needn't query them again.
 #![tactic(auto)]
 
 pub mod facts;

@@ -13,15 +13,15 @@ use bh_types::names::{Secret, TenantName};
 use std::alloc::{AllocError, Global};
 use std::marker::Model;
 
-/// So many tenants without a rule are remembered, the states of so many buckets, and the secrets of so many keys. Each look-up
-/// reads them from the first to the last, so there are few.
+/// How many tenants without a rule, states of buckets and secrets of keys are remembered, of each.
+/// A look-up reads them one after another, so there are few.
 const MOST: usize = 64;
 
-/// What is remembered of a host's tables. A fact for which there is no memory isn't remembered.
+/// Remembered facts of a host's tables. If there is no memory for a fact, it isn't remembered.
 #[derive(Drop)]
 pub struct Memo {
     latest: Option<Moment>,
-    /// Tenants of which no bucket has a rule.
+    /// Tenants without any bucket's rule.
     quiet: Vec<TenantName>,
     buckets: Vec<KnownBucket>,
     /// Access keys that were accepted.
@@ -36,7 +36,8 @@ impl Model for Memo {
     ghost view = { λ m. record { latest = m.latest; quiet = m.quiet.items; buckets = m.buckets.items; secrets = m.secrets.items } };
 }
 
-/// Adds a fact, in place of all of them where they are so many. It isn't added where there is no memory.
+/// Adds a fact. If the list is full, the fact replaces all others. If there is no memory, it isn't
+/// added.
 fn add<T: Drop>(facts: &mut Vec<T>, fact: T)
     ensures { (x : T) → Contains facts.new.items x → Contains facts.old.items x ⊎ (x ≡ fact) }
 {
@@ -47,7 +48,7 @@ fn add<T: Drop>(facts: &mut Vec<T>, fact: T)
 }
 
 impl Memo {
-    /// Nothing is remembered yet.
+    /// A memo without facts.
     pub fn new(alloc: Global) -> Memo
         ensures { result ≡ nothing }
     {
@@ -59,7 +60,7 @@ impl Memo {
         }
     }
 
-    /// The last stamp, in seconds since 1970, where it is remembered.
+    /// The last stamp, in seconds since 1970, if it is remembered.
     pub fn latest(&self) -> Option<Moment>
         ensures { result ≡ self.now.latest }
     {
@@ -73,7 +74,7 @@ impl Memo {
         self.latest = Some(latest);
     }
 
-    /// Whether it is remembered of a tenant that none of its buckets has a rule.
+    /// Whether it is remembered that none of a tenant's buckets has a rule.
     pub fn is_quiet(&self, tenant: &TenantName) -> bool
         ensures { IsTrue result → Contains self.now.quiet tenant.now }
     {
@@ -85,7 +86,7 @@ impl Memo {
         false
     }
 
-    /// Remembers of a tenant that none of its buckets has a rule.
+    /// Remembers that none of a tenant's buckets has a rule.
     pub fn remember_quiet(&mut self, tenant: &TenantName)
         ensures latest { self.new.latest ≡ self.old.latest }
         ensures quiet { (t : Octets) → Contains self.new.quiet t → Contains self.old.quiet t ⊎ (t ≡ tenant.now) }
@@ -98,7 +99,7 @@ impl Memo {
         }
     }
 
-    /// The state of a tenant's bucket, where it is remembered.
+    /// The state of a tenant's bucket, if it is remembered.
     pub fn state(&self, tenant: &TenantName, bucket: &BucketName) -> Option<BucketState>
         ensures { IfSome result (λ state. Contains self.now.buckets (record { tenant = tenant.now; bucket = bucket.now; state = state })) }
     {
@@ -123,7 +124,7 @@ impl Memo {
         }
     }
 
-    /// The secret of an access key, where it is remembered.
+    /// The secret of an access key, if it is remembered.
     pub fn secret(&self, key: &AccessKeyId) -> Option<&Secret>
         ensures { IfSome result (λ secret. Contains self.now.secrets (record { key = key.now; secret = secret.now })) }
     {
@@ -148,7 +149,7 @@ impl Memo {
         }
     }
 
-    /// Forgets what is remembered of a tenant.
+    /// Forgets all facts about a tenant.
     pub fn forget(&mut self, tenant: &TenantName)
         ensures latest { self.new.latest ≡ self.old.latest }
         ensures quiet { (t : Octets) → Contains self.new.quiet t → Contains self.old.quiet t × (t ≢ tenant.now) }
@@ -162,7 +163,7 @@ impl Memo {
             .retain(|known| !same_tenant(&known.key.tenant, tenant));
     }
 
-    /// Forgets all.
+    /// Forgets all facts.
     pub fn clear(&mut self)
         ensures { self.new ≡ nothing }
     {

@@ -1,4 +1,4 @@
--- What brings the database of a host of version 1 or 2 over to version 3.
+-- Upgrading the database of a host of version 1 or 2 to version 3.
 use Rattle.std.specs.Prelude.{◌≡◌, ◌⊎◌, [], true, false}
 use Rattle.sqlite.specs.Effect.{Database}
 use Rattle.sqlite.specs.Schema.{Schema}
@@ -22,7 +22,7 @@ abbrev pub IsEarlierHost : Earlier → Database → Type 0
 IsEarlierHost First db = IsFirstHost db
 IsEarlierHost Second db = IsSecondHost db
 
--- whose row tells its version
+-- whose row has its version
 abbrev pub IsOfEarlier : Database → Type 0
 IsOfEarlier db = IsOfVersion1 db ⊎ IsOfVersion2 db
 
@@ -36,20 +36,21 @@ pub record IsBroughtOver (was : Tables) (new : Database) : Type 0 where
   pub host : IsHost new
   pub rows : tables_in new ≡ brought_over was
 
--- a database has become one with the tables of a host of version 3. Where its rows were those of a host of version 1 or 2 it is
--- brought over: they stay, no bucket is locked and no version has a date that had none, and the tallies are those counted
+-- a database got the tables of a host of version 3. If its rows were those of a host of version 1
+-- or 2, it is upgraded. Those rows are unchanged, no bucket is locked and no version has a date
+-- that had none, and the tallies are the right counts
 pub record IsChanged (old new : Database) : Type 0 where
   pub schema : new.schema ≡ host_schema
   pub first : IsFirstHost old → IsBroughtOver (first_tables_in old) new
   pub second : IsSecondHost old → IsBroughtOver (tables_in old) new
 
--- no transaction is open over a database that was changed so, and all is committed
+-- no transaction is open over a database that was upgraded so, and all is committed
 pub record Settles (old new : Standing) : Type 0 where
   pub outside : new.inside ≡ false
   pub committed : new.kept ≡ new.now
   pub changed : IsChanged old.now new.now
 
--- these trees are those of a database that was changed so
+-- these trees are those of a database that was upgraded so
 abbrev pub LeavesChanged : Database → Trees → Type 0
 LeavesChanged old db = (after : Database) × IsChanged old after × (db ≡ after.trees)
 
@@ -60,7 +61,7 @@ pub record HasSchema (its : Schema) (x : Standing) : Type 0 where
   pub inside : x.inside ≡ true
   pub schema : x.now.schema ≡ its
 
--- the table of locks is there and empty, and the others are as they were
+-- the table of locks exists and is empty, and the others are unchanged
 pub record HasLocks (old new : Standing) : Type 0 where
   pub inside : new.inside ≡ true
   pub schema : new.now.schema ≡ with_locks
@@ -75,14 +76,14 @@ pub record HasRetains (old new : Standing) : Type 0 where
   pub locks : new.now.trees 26 ≡ old.now.trees 26
   pub none : new.now.trees 28 ≡ []
 
--- the database has the tables of a host of version 2, with the rows of before
+-- the database has the tables of a host of version 2, with the same rows
 pub record HasSecond (old new : Standing) : Type 0 where
   pub inside : new.inside ≡ true
   pub schema : new.now.schema ≡ second_schema
   pub first : IsFirstHost old.now → IsSecondHost new.now × (tables_in new.now ≡ first_tables_in old.now)
   pub second : IsSecondHost old.now → IsSecondHost new.now × (tables_in new.now ≡ tables_in old.now)
 
--- the table of tallies is there and empty, and the others are as they were
+-- the table of tallies exists and is empty, and the others are unchanged
 pub record HasTallies (old new : Standing) : Type 0 where
   pub inside : new.inside ≡ true
   pub schema : new.now.schema ≡ host_schema

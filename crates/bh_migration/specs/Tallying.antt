@@ -1,4 +1,4 @@
--- What is counted of each tenant as a host is brought over.
+-- The counts of each tenant, for an upgrade.
 use Rattle.std.specs.Prelude.{ℕ, ◌<◌, ◌^◌, List, [], ◌∷◌, length, filter, codes}
 use Rattle.sqlite.specs.declared.types.Value.TheVariants.{Text}
 use Rattle.sqlite.specs.Order.{Row}
@@ -27,7 +27,7 @@ counted tenant tables = record {
   objects = how_many count.Objects tenant tables;
 }
 
--- each is a number of 63 bits
+-- each fits in 63 bits
 pub record IsSmall (tally : Tally) : Type 0 where
   pub versions : tally.versions < 2 ^ 63
   pub markers : tally.markers < 2 ^ 63

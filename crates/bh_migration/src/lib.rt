@@ -1,5 +1,5 @@
-//! Brings the database of a host of an older version over to the present one, in one commit: the tables that it lacks are made, and
-//! what the present version keeps of other rows is counted.
+//! Upgrades the database of an older host to the present version, in one commit. It creates the
+//! missing tables, and counts what the present version counts of other rows.
 #![tactic(auto)]
 
 mod making;
@@ -22,16 +22,16 @@ use crate::tallying::tally_tenants;
 use bh_schema::rows::transactions::{begin, commit, take_back};
 use sqlite::{Alter, Connection, Error};
 
-/// Of which older version a host is.
+/// The version of an older host.
 #[derive(Clone, Copy)]
 pub enum Earlier {
-    /// It has no table of locks, none of dates and none of tallies.
+    /// Its tables of locks, of dates and of tallies are missing.
     First,
-    /// It has no table of tallies.
+    /// Its table of tallies is missing.
     Second,
 }
 
-/// Makes the table of tallies, with those that are counted.
+/// Creates the table of tallies, and fills it.
 fn add_tallies<S: Alter>(connection: &mut Connection<S>) -> Result<(), Error>
     requires { IsClean S.Store connection.old → HasSchema second_schema (stands S.Store connection.old) }
     ensures within { StaysWithin S.Store connection.old connection.new }
@@ -92,9 +92,10 @@ fn commit_change<S: Alter>(connection: &mut Connection<S>, version: Earlier) -> 
     commit(connection)
 }
 
-/// Brings a database with the tables of a host of version 1 or 2 over to version 3, in one commit: the tables that it lacks are made,
-/// those of locks and of dates with no row and that of tallies with what the rows of each tenant come to, and the host's row tells
-/// the version 3. All that the host shows stays. After an error it is as it was.
+/// Upgrades a database with the tables of a host of version 1 or 2 to version 3, in one commit. It
+/// creates the missing tables: those of locks and of dates without rows, and that of tallies with
+/// the counts of each tenant's rows. Then it sets the host's version to 3. The host's contents
+/// don't change. After an error nothing has changed.
 pub fn bring_over<S: Alter>(connection: &mut Connection<S>, version: Earlier) -> Result<(), Error>
     requires { IsClean S.Store connection.old → IsEarlier version (stands S.Store connection.old) }
     ensures follows { KeepsDisk (state S.Store connection.old) (state S.Store connection.new) }

@@ -1,4 +1,4 @@
-//! The tables that a host of an older version lacks.
+//! Creates the tables that a host of an older version lacks.
 
 ghost use Rattle.std.specs.Prelude.{◌≡◌, true, IfErr, OnOk};
 ghost use Rattle.bh_rows.specs.Means.{is_trouble};
@@ -38,7 +38,7 @@ fn make_retains<S: Alter>(connection: &mut Connection<S>) -> Result<usize, Error
     )
 }
 
-/// The tables of a host of version 2.
+/// Creates the tables that version 2 added.
 pub fn make_second<S: Alter>(connection: &mut Connection<S>, version: Earlier) -> Result<(), Error>
     requires { IsClean S.Store connection.old → HasSchema (earlier_schema version) (stands S.Store connection.old) }
     ensures within { StaysWithin S.Store connection.old connection.new }
@@ -57,7 +57,7 @@ pub fn make_second<S: Alter>(connection: &mut Connection<S>, version: Earlier) -
     }
 }
 
-/// The table of tallies, with none yet.
+/// Creates the table of tallies, empty.
 pub fn make_tallies<S: Alter>(connection: &mut Connection<S>) -> Result<usize, Error>
     requires { IsClean S.Store connection.old → HasSchema second_schema (stands S.Store connection.old) }
     ensures within { StaysWithin S.Store connection.old connection.new }

@@ -1,4 +1,5 @@
-//! The tallies of all tenants, counted from their versions and markers. This runs once for a host, so each count is a text of its own.
+//! Counts the tallies of all tenants, from their versions and markers. This runs once for a host,
+//! so each count is a query of its own.
 
 ghost use Rattle.std.specs.Prelude.{◌≡◌, ◌++◌, ◌∷◌, [], List, ◌<◌, ◌^◌, true, map, IfOk, IfErr, OnOk};
 ghost use Rattle.sqlite.specs.Value.{owned};
@@ -19,7 +20,7 @@ use bh_schema::rows::writing::write;
 use sqlite::types::ValueRef;
 use sqlite::{Alter, Connection, Error, ErrorCode, Row};
 
-/// What a tally counts of a tenant.
+/// A count in a tenant's tally.
 #[derive(Clone, Copy)]
 enum Count {
     Versions,
@@ -43,7 +44,7 @@ impl Count {
     }
 }
 
-/// A count, which a column can hold.
+/// Checks that a column can have this count.
 fn in_range(n: u64) -> Result<u64, Error>
     ensures same { IfOk result (λ m. m ≡ n) }
     ensures small { IfOk result (λ m. m < 2 ^ 63) }
@@ -129,7 +130,7 @@ fn insert<S: Alter>(
     )
 }
 
-/// Adds the tally of the tenant whose name this row shows.
+/// Adds the tally of the tenant whose name is in this row.
 fn tally_one<S: Alter>(connection: &mut Connection<S>, row: &Row) -> Result<usize, Error>
     requires { IsClean S.Store connection.old → HasSchema host_schema (stands S.Store connection.old) }
     ensures within { StaysWithin S.Store connection.old connection.new }
@@ -182,7 +183,8 @@ fn tally_all<S: Alter>(connection: &mut Connection<S>) -> Result<(), Error>
     tally_each(connection, &rows)
 }
 
-/// An error as trouble. Another one comes of rows that no host has: a tenant who is there twice, or more entries than are counted.
+/// A host's failure for an error. Another error comes from rows that no host has: a repeated
+/// tenant, or more entries than a counter can count.
 fn as_trouble(error: Error) -> Error
     ensures trouble { is_trouble result ≡ true }
     ensures same { is_trouble error ≡ true → result ≡ error }
@@ -198,7 +200,7 @@ fn as_trouble(error: Error) -> Error
     }
 }
 
-/// The tally of each tenant, in a host's database that has none yet.
+/// Adds the tally of each tenant, in a host's database that has none yet.
 pub fn tally_tenants<S: Alter>(connection: &mut Connection<S>) -> Result<(), Error>
     requires { IsClean S.Store connection.old → HasSchema host_schema (stands S.Store connection.old) }
     ensures within { StaysWithin S.Store connection.old connection.new }

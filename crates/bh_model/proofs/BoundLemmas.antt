@@ -8,7 +8,7 @@ use Rattle.bh_types.specs.Names.{is_tenant_name, is_key_name, is_secret}
 use Rattle.bh_types.specs.declared.id.UploadId.{UploadId}
 use Rattle.bh_types.specs.declared.id.VersionId.{VersionId}
 use Rattle.bh_types.specs.declared.refusal.Refusal.TheVariants.{AccessDenied, InvalidName, InvalidQuota, TenantExists, KeyExists, NoSuchKeyName, BucketAlreadyOwnedByYou, BucketNotEmpty, InvalidBucketState, BadDigest, QuotaExceeded}
-use Rattle.bh_types.specs.Rejections.{plainly}
+use Rattle.bh_types.specs.Rejections.{plainly, for_date}
 use Rattle.bh_types.specs.declared.wanted.Wanted.{Wanted}
 use Rattle.bh_model.specs.FinMaps.{is_empty, total}
 use Rattle.bh_model.specs.State.{Octets, octets_cmp, Content, Part, Upload, Bucket, State, new_tenant, new_bucket, content_size, entry_size, part_size, upload_used, bucket_used, used}
@@ -94,7 +94,7 @@ changes_fit moment = record {
   object_copied = copy_object_fits;
   object_deleted = delete_object_fits;
   retention_put = λ name key wanted date s. of_plain_bucket FitsQuota name s _ (λ t b there.
-      whatever (found_version key wanted b) _ _ (λ v. whatever (plainly (may_retain (can_retain b.locked v.id) (date_of key v.id b) (Some date) moment)) _ _ (λ _.
+      whatever (for_date (found_version key wanted b)) _ _ (λ v. whatever (plainly (may_retain (can_retain b.locked v.id) (date_of key v.id b) (Some date) moment)) _ _ (λ _.
       (refl, smaller name b (with_date key v.id (Some date) b) t there (omega arith)))));
   upload_created = create_upload_fits;
   part_uploaded = upload_part_fits;

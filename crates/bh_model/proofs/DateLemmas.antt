@@ -9,7 +9,7 @@ use Rattle.std.proofs.lemmas.Bool.Decides.{nat_tests}
 use Rattle.std.proofs.lemmas.Cmp.{tied_itself}
 use Rattle.std.proofs.lemmas.Option.{none-some, same_Some}
 use Rattle.bh_types.specs.Outcomes.{◌>>=◌, require}
-use Rattle.bh_types.specs.Rejections.{plainly}
+use Rattle.bh_types.specs.Rejections.{plainly, for_date}
 use Rattle.bh_types.specs.declared.id.VersionId.{VersionId}
 use Rattle.bh_types.specs.declared.id.VersionId.TheVariants.{Null, Numbered}
 use Rattle.bh_types.specs.declared.refusal.Refusal.{Refusal}
@@ -130,7 +130,7 @@ module _ (moment : ℕ) (name key : Octets) (n date : ℕ) where
 
   -- what is asked of a tenant whose bucket this is
   abbrev shows : Option State → Result (Bucket × Version) Rejection → Result Outcome Rejection
-  shows s r = ◌>>=◌ {A = Bucket × Version} {B = Outcome} r (λ f. Ok (Retention (date_of key f.1.id f.0), s))
+  shows s r = ◌>>=◌ {A = Bucket × Version} {B = Outcome} (for_date r) (λ f. Ok (Retention (date_of key f.1.id f.0), s))
 
   abbrev told_of : State → Bucket → Result Version Rejection → Result Outcome Rejection
   told_of t b r = shows (Some t) (◌>>=◌ {B = Bucket × Version} r (λ v. Ok (b, v)))
@@ -167,16 +167,16 @@ module _ (moment : ℕ) (name key : Octets) (n date : ℕ) where
       go (Ok tt) is = retained t b v there found is
 
   in_bucket : (t : State) (b : Bucket) → get t.buckets name ≡ Some b
-      → IfOk (found_version key (Named (Numbered n)) b >>= (λ v. plainly (may_retain (can_retain b.locked v.id) (date_of key v.id b) (Some date) moment) >>= (λ _. Ok (Done, Some (with_bucket name (with_date key v.id (Some date) b) t))))) (IsTold (Some t))
+      → IfOk (for_date (found_version key (Named (Numbered n)) b) >>= (λ v. plainly (may_retain (can_retain b.locked v.id) (date_of key v.id b) (Some date) moment) >>= (λ _. Ok (Done, Some (with_bucket name (with_date key v.id (Some date) b) t))))) (IsTold (Some t))
   in_bucket t b there = go (found_version key (Named (Numbered n)) b) refl
     where
       go : (r : Result Version Rejection) → found_version key (Named (Numbered n)) b ≡ r
-          → IfOk (r >>= (λ v. plainly (may_retain (can_retain b.locked v.id) (date_of key v.id b) (Some date) moment) >>= (λ _. Ok (Done, Some (with_bucket name (with_date key v.id (Some date) b) t))))) (IsTold (Some t))
+          → IfOk (for_date r >>= (λ v. plainly (may_retain (can_retain b.locked v.id) (date_of key v.id b) (Some date) moment) >>= (λ _. Ok (Done, Some (with_bucket name (with_date key v.id (Some date) b) t))))) (IsTold (Some t))
       go (Err e) is = tt
       go (Ok v) is = allowed t b v there is
 
   in_tenant : (t : State) (o : Option Bucket) → get t.buckets name ≡ o
-      → IfOk (◌>>=◌ {A = State × Bucket} (plainly (ok_or (option_map (λ b. (t, b)) o) NoSuchBucket)) (λ f. found_version key (Named (Numbered n)) f.1 >>= (λ v. plainly (may_retain (can_retain f.1.locked v.id) (date_of key v.id f.1) (Some date) moment) >>= (λ _. Ok (Done, Some (with_bucket name (with_date key v.id (Some date) f.1) f.0)))))) (IsTold (Some t))
+      → IfOk (◌>>=◌ {A = State × Bucket} (plainly (ok_or (option_map (λ b. (t, b)) o) NoSuchBucket)) (λ f. for_date (found_version key (Named (Numbered n)) f.1) >>= (λ v. plainly (may_retain (can_retain f.1.locked v.id) (date_of key v.id f.1) (Some date) moment) >>= (λ _. Ok (Done, Some (with_bucket name (with_date key v.id (Some date) f.1) f.0)))))) (IsTold (Some t))
   in_tenant t None there = tt
   in_tenant t (Some b) there = in_bucket t b there
 

@@ -18,7 +18,7 @@ use Rattle.bh_types.specs.Checksums.{checksum_text}
 use Rattle.bh_types.specs.Outcomes.{◌>>=◌}
 use Rattle.bh_types.specs.declared.refusal.Refusal.{Refusal}
 use Rattle.bh_types.specs.declared.refusal.Refusal.TheVariants.{AccessDenied, InvalidName, InvalidQuota, TenantExists, KeyExists, NoSuchKeyName, BucketAlreadyOwnedByYou, BucketNotEmpty, InvalidBucketState, BadDigest, QuotaExceeded, CounterExhausted}
-use Rattle.bh_types.specs.Rejections.{plainly}
+use Rattle.bh_types.specs.Rejections.{plainly, for_date}
 use Rattle.bh_types.specs.declared.wanted.Wanted.{Wanted}
 use Rattle.bh_types.specs.declared.wanted.Wanted.TheVariants.{Current, Named, Unknown}
 use Rattle.bh_model.specs.FinMaps.{is_empty}
@@ -225,7 +225,7 @@ changes_keep_ids moment = record {
   object_copied = object_copied;
   object_deleted = object_deleted;
   retention_put = λ name key wanted date s. of_plain_bucket KeepsIds name s _ (λ t b there.
-      whatever (found_version key wanted b) _ _ (λ v. whatever (plainly (may_retain (can_retain b.locked v.id) (date_of key v.id b) (Some date) moment)) _ _ (λ _ all.
+      whatever (for_date (found_version key wanted b)) _ _ (λ v. whatever (plainly (may_retain (can_retain b.locked v.id) (date_of key v.id b) (Some date) moment)) _ _ (λ _ all.
       same_bucket name t (with_date key v.id (Some date) b) (all name b there) all)));
   upload_created = upload_created;
   part_uploaded = part_uploaded;

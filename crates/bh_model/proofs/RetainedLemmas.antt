@@ -10,7 +10,7 @@ use Rattle.std.proofs.lemmas.Option.{none-some, same_Some}
 use Rattle.bh_types.specs.Checksums.{checksum_text}
 use Rattle.bh_types.specs.Names.{is_tenant_name, is_key_name, is_secret}
 use Rattle.bh_types.specs.Outcomes.{◌>>=◌}
-use Rattle.bh_types.specs.Rejections.{plainly}
+use Rattle.bh_types.specs.Rejections.{plainly, for_date}
 use Rattle.bh_types.specs.declared.bucket_state.BucketState.{BucketState}
 use Rattle.bh_types.specs.declared.bucket_state.BucketState.TheVariants.{Unversioned, Enabled, Suspended}
 use Rattle.bh_types.specs.declared.id.UploadId.{UploadId}
@@ -320,7 +320,7 @@ module _ (r : Retained) where
 
         retention_put : (name key : Octets) (wanted : Wanted) (date : ℕ) → Always KeepsRetained (put_retention moment name key wanted date)
         retention_put name key wanted date s = of_plain_bucket KeepsRetained name s _ (λ t b there.
-            whatever (found_version key wanted b) _ _ (λ v. puts t b there v.id))
+            whatever (for_date (found_version key wanted b)) _ _ (λ v. puts t b there v.id))
           where
             puts : (t : State) (b : Bucket) → get t.buckets name ≡ Some b → (id : VersionId)
                 → IfOk {T = Outcome} (plainly (may_retain (can_retain b.locked id) (date_of key id b) (Some date) moment) >>= (λ _. Ok (Done, Some (with_bucket name (with_date key id (Some date) b) t)))) (λ o. KeepsRetained (Some t) o.1)

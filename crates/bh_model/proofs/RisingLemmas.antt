@@ -7,7 +7,7 @@ use Rattle.bh_types.specs.Names.{is_tenant_name, is_key_name, is_secret}
 use Rattle.bh_types.specs.declared.bucket_state.BucketState.{BucketState}
 use Rattle.bh_types.specs.declared.bucket_state.BucketState.TheVariants.{Unversioned, Enabled, Suspended}
 use Rattle.bh_types.specs.declared.id.UploadId.{UploadId}
-use Rattle.bh_types.specs.Rejections.{plainly}
+use Rattle.bh_types.specs.Rejections.{plainly, for_date}
 use Rattle.bh_types.specs.declared.refusal.Refusal.TheVariants.{AccessDenied, InvalidName, InvalidQuota, TenantExists, KeyExists, NoSuchKeyName, BucketAlreadyOwnedByYou, BucketNotEmpty, InvalidBucketState, BadDigest, QuotaExceeded, CounterExhausted}
 use Rattle.bh_types.specs.declared.wanted.Wanted.{Wanted}
 use Rattle.bh_types.specs.declared.wanted.Wanted.TheVariants.{Current, Named, Unknown}
@@ -70,7 +70,7 @@ changes_rise moment = record {
       tested (may_go (named_date key wanted b) moment) tt AccessDenied _ _ (λ _.
       and_then (after_delete b.mode wanted (counts t)) _ (AtMost (counts t)) _ (deleted_at_most b.mode wanted (counts t)) (λ d up. up)));
   retention_put = λ name key wanted date s. of_plain_bucket Rises name s _ (λ t b there.
-      whatever (found_version key wanted b) _ _ (λ v. whatever (plainly (may_retain (can_retain b.locked v.id) (date_of key v.id b) (Some date) moment)) _ _ (λ _. at_most_itself (counts t))));
+      whatever (for_date (found_version key wanted b)) _ _ (λ v. whatever (plainly (may_retain (can_retain b.locked v.id) (date_of key v.id b) (Some date) moment)) _ _ (λ _. at_most_itself (counts t))));
   upload_created = λ name key s. of_bucket Rises name s _ (λ t b there.
       tested (can_give t.next_upload) _ CounterExhausted _ _ (λ _. (omega arith, omega arith, omega arith)));
   part_uploaded = part_uploaded;

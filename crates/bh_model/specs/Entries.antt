@@ -1,4 +1,5 @@
--- The entries of one key, newest first: what a put and a delete make of them, and what a lookup finds.
+-- The entries of one key, newest first: the effect of a put and a delete, and the result of a
+-- lookup.
 use Rattle.std.specs.Prelude.{ℕ, Bool, true, false, not, ◌&&◌, ◌==◌, List, [], ◌∷◌, Option, Some, None, Result, Ok, Err}
 use Rattle.std.specs.List.{filter, find}
 use Rattle.bh_types.specs.declared.id.VersionId.{VersionId}
@@ -24,7 +25,7 @@ abbrev pub is_body : Content → Bool
 is_body Marker = false
 is_body (Body bytes checksum) = true
 
--- an entry that is no delete marker
+-- an entry that is not a delete marker
 abbrev pub is_version : Entry → Bool
 is_version e = is_body e.content
 
@@ -34,13 +35,13 @@ without id entries = filter (λ e. not (has_id id e)) entries
 abbrev pub without_null_version : List Entry → List Entry
 without_null_version entries = filter (λ e. not (has_id Null e && is_version e)) entries
 
--- the id of a new entry: the next version number where versions are numbered, and else `null`
+-- the id of a new entry: the next version number if versions are numbered, otherwise `null`
 abbrev pub new_id : BucketState → ℕ → VersionId
 new_id Unversioned next = Null
 new_id Enabled next = Numbered next
 new_id Suspended next = Null
 
--- the entries that a new one leaves: it replaces `null` where it is `null`
+-- the entries that a new one leaves: if it is `null`, it replaces the one that is `null`
 abbrev pub kept : BucketState → List Entry → List Entry
 kept Unversioned entries = without Null entries
 kept Enabled entries = entries
@@ -51,14 +52,14 @@ kept Suspended entries = without Null entries
 abbrev pub added : BucketState → ℕ → ℕ → Content → List Entry → List Entry
 added mode next moment content entries = record { id = new_id mode next; moment = moment; content = content } ∷ kept mode entries
 
--- a delete without id: where versions are or were numbered, a delete marker is put in front
+-- a delete without id: if versions are or were numbered, a delete marker is put in front
 -- Amazon S3 User Guide, "Deleting object versions from a versioning-enabled bucket" and "from versioning-suspended buckets"
 abbrev pub deleted_current : BucketState → ℕ → ℕ → List Entry → List Entry
 deleted_current Unversioned next moment entries = without_null_version entries
 deleted_current Enabled next moment entries = added Enabled next moment Marker entries
 deleted_current Suspended next moment entries = added Suspended next moment Marker entries
 
--- a delete with an id takes that entry out, and an id that no entry has changes nothing
+-- a delete with an id deletes that entry; an id that no entry has changes nothing
 -- Amazon S3 API Reference, DeleteObject: versionId
 abbrev pub deleted : BucketState → Wanted → ℕ → ℕ → List Entry → List Entry
 deleted mode Current next moment entries = deleted_current mode next moment entries
@@ -72,7 +73,7 @@ pub record Version : Type 0 where
   pub bytes : Octets
   pub checksum : Octets
 
--- why a lookup finds no version, and whether a delete marker was met
+-- why a lookup finds no version, and whether it found a delete marker
 pub record LookupFault : Type 0 where
   pub refusal : Refusal
   pub marker : Bool
@@ -81,7 +82,7 @@ pub record LookupFault : Type 0 where
 abbrev pub not_found : Refusal → Result Version LookupFault
 not_found refusal = Err (record { refusal = refusal; marker = false })
 
--- an entry that was found: a delete marker is refused, and the answer says that one was met
+-- an entry that was found: a delete marker is refused, and the answer shows that there is one
 abbrev pub opened : Refusal → Entry → Content → Result Version LookupFault
 opened refusal e Marker = Err (record { refusal = refusal; marker = true })
 opened refusal e (Body bytes checksum) = Ok (record { id = e.id; moment = e.moment; bytes = bytes; checksum = checksum })
@@ -94,7 +95,7 @@ abbrev pub found_named : Option Entry → Result Version LookupFault
 found_named None = not_found NoSuchVersion
 found_named (Some e) = opened MethodNotAllowed e e.content
 
--- the version that is wanted
+-- the version in the request
 -- Amazon S3 API Reference, GetObject: versionId; Amazon S3 User Guide, "Working with delete markers"
 abbrev pub lookup : Wanted → List Entry → Result Version LookupFault
 lookup Current entries = found_current entries

@@ -1,16 +1,17 @@
--- Finite maps: one key's value set or taken out, each value changed, and the sum of a size over the values.
+-- Finite maps: setting or deleting one key's value, changing each value, and the sum of a size over
+-- the values.
 use Rattle.std.specs.Prelude.{ℕ, Bool, ◌==◌, List, [], ◌∷◌, Option, Some, None, option_map, option_and_then}
 use Rattle.std.specs.List.{filter_map, sum_by}
 use Rattle.std.specs.declared.cmp.Ordering.{Ordering}
 use Rattle.std.specs.FinMap.{FinMap, from_entries, entries, get, insert, remove, len}
 
--- a list as the value of a key, where a key with an empty list is not in the map
+-- a list as the value of a key; a key with an empty list is not in the map
 abbrev pub non_empty : {X : Type 0} → List X → Option (List X)
 non_empty [] = None
 non_empty (x ∷ xs) = Some (x ∷ xs)
 
 module _ {K X : Type 0} (R : K → K → Ordering) where
-  -- the map of the keys that a list names: at each of them its value, where it has one
+  -- the map of the keys in a list: each has its value, if there is one
   abbrev pub tabulate : {T : Type 0} → (T → K) → (K → Option X) → List T → FinMap R X
   tabulate key value items = from_entries (filter_map (λ t. option_map (λ x. (key t, x)) (value (key t))) items)
 
@@ -24,7 +25,7 @@ module _ {K X : Type 0} {R : K → K → Ordering} where
   set_at m k None = remove m k
   set_at m k (Some x) = insert m k x
 
-  -- the map with each value changed, or taken out
+  -- the map with each value changed, or deleted
   unfoldable pub adjusted : {Y : Type 0} → (X → Option Y) → FinMap R X → FinMap R Y
   adjusted f m = tabulate R (λ e. e.0) (λ k. option_and_then f (get m k)) (entries m)
 

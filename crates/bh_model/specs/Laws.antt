@@ -1,4 +1,4 @@
--- What shows that the definitions are the intended ones.
+-- Evidence that the definitions are the intended ones.
 use Rattle.std.specs.Prelude.{◌≡◌, ◌≢◌, ◌++◌, ◌∷◌, Err, ℕ, ◌≤◌, false, ◌&&◌, List, length, drop, Option, Some, None, Result, Ok, IfOk}
 use Rattle.std.specs.List.{list_any}
 use Rattle.bh_types.specs.declared.id.VersionId.{VersionId}
@@ -20,15 +20,15 @@ use Rattle.bh_model.specs.Operations.{Answer.Stored, Answer.Copied, Answer.Objec
 use Rattle.bh_model.specs.Operations.{copy_object, get_object}
 use Rattle.bh_model.specs.Runs.{solo, solo_state, step, Follows}
 
--- to purge, and then at a later moment, is to purge at the later one
+-- purging, and then again at a later moment, is purging at the later one
 abbrev pub PurgedLater : Type 0
 PurgedLater = (s : State) (m n : ℕ) → m ≤ n → purged (purged s m) n ≡ purged s n
 
--- to purge twice at one moment is to purge once
+-- purging twice at one moment is purging once
 abbrev pub PurgedTwice : Type 0
 PurgedTwice = (s : State) (now : ℕ) → purged (purged s now) now ≡ purged s now
 
--- what was put is the current version, and the version of its id
+-- what was put is the current version, and its id finds it
 abbrev pub put_version : BucketState → ℕ → ℕ → Octets → Octets → Version
 put_version mode next moment bytes checksum = record { id = new_id mode next; moment = moment; bytes = bytes; checksum = checksum }
 
@@ -50,15 +50,16 @@ SuspendedDeleteClears = (next moment : ℕ) (entries : List Entry)
     → (list_any (λ e. has_id Null e && is_version e) (deleted Suspended Current next moment entries) ≡ false)
     × (lookup (Named Null) (without Null (deleted Suspended Current next moment entries)) ≡ not_found NoSuchVersion)
 
--- what was put is what a get without id reads, under the id that the put told, whatever the bucket's state is
+-- what was put is what a get without id reads, under the id that the put returned, whatever the
+-- bucket's state is
 abbrev pub PutIsRead : Type 0
 PutIsRead = (moment : ℕ) (name key bytes : Octets) (given : Option Octets) (date : Option (Option ℕ)) (s : Option State)
     → IfOk (put_object moment name key bytes given date s) (λ put.
     (id : Option VersionId) × (put.0 ≡ Stored id (checksum_text bytes))
     × (get_object name key Current None put.1 ≡ Ok (Object id (length bytes) Whole bytes (checksum_text bytes), put.1)))
 
--- what was copied is what a get without id reads, whatever the states of both buckets are, and also where a version is
--- copied onto its own key
+-- what was copied is what a get without id reads, whatever the states of both buckets are, and even
+-- if a version is copied to its own key
 abbrev pub CopyIsRead : Type 0
 CopyIsRead = (moment : ℕ) (name key source_name source_key : Octets) (wanted : Wanted) (date : Option (Option ℕ)) (s : Option State)
     → IfOk (copy_object moment name key source_name source_key wanted date s) (λ copy.
@@ -73,7 +74,7 @@ key_id tenant name = tenant ++ 36 ∷ name
 abbrev pub key_named : Octets → Octets → AccessKeyId
 key_named tenant name = record { tenant = tenant; name = Some name }
 
--- the id of a key that was added is read as that key, and it opens with its secret and no other
+-- the id of a key that was added is parsed as that key, and it opens with its secret and no other
 abbrev pub AddedKeyOpens : Type 0
 AddedKeyOpens = (tenant name secret : Octets) (s : Option State)
     → IfOk (add_key tenant name secret s) (λ added.
@@ -86,7 +87,7 @@ abbrev pub RemovedKeyIsUnknown : Type 0
 RemovedKeyIsUnknown = (tenant name secret : Octets) (s : Option State)
     → IfOk (remove_key tenant name s) (λ removed. authenticate (key_named tenant name) secret removed.1 ≡ Err InvalidAccessKeyId)
 
--- counters never go down, and a tenant never goes away
+-- counters never go down, and a tenant is never removed
 abbrev pub Rises : Option State → Option State → Type 0
 Rises None s = Unit {0}
 Rises (Some s) None = ⊥
@@ -97,7 +98,7 @@ abbrev pub FollowersStepAlike : Type 0 → Type 0 → Type 0 → Type 0
 FollowersStepAlike A X E = (change : ℕ → A → Option State → Result (X × Option State) E) (s seen : Option State) (last now : ℕ) (act : A)
     → Follows s seen last → last ≤ now → step change now act s ≡ step change now act seen
 
--- to run over two lists joined is to run over the second from the state after the first
+-- a run over two joined lists is the run over the second from the state after the first
 abbrev pub RunsJoin : Type 0 → Type 0 → Type 0
 RunsJoin A R = (step : ℕ → A → Option State → R × Option State) (s : Option State) (acts more : List (ℕ × A))
     → (solo step s (acts ++ more) ≡ solo step s acts ++ solo step (solo_state step s acts) more)

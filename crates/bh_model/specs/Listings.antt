@@ -1,4 +1,4 @@
--- What the listings of a bucket make of a tenant's state.
+-- The listings of a bucket, from a tenant's state.
 use Rattle.std.specs.Prelude.{ℕ, Option, Result, Ok}
 use Rattle.std.specs.FinMap.{entries}
 use Rattle.bh_types.specs.Outcomes.{◌>>=◌}
@@ -10,7 +10,7 @@ use Rattle.bh_model.specs.Pages.{PageAsked, ObjectsListed, objects_page, objects
 use Rattle.bh_model.specs.Pages.{versions_told, UploadPlace, UploadsListed, uploads_page, uploads_told, PartsListed, parts_page, parts_told}
 use Rattle.bh_model.specs.Uploads.{find_upload}
 
--- after the name that a token gives
+-- after the name in a token
 -- Amazon S3 API Reference, ListObjectsV2
 abbrev pub objects_listed : Octets → PageAsked → Option Octets → Option State → Result ObjectsListed Refusal
 objects_listed name asked token s = do

@@ -1,5 +1,5 @@
--- What each operation and each command of the operator makes of a tenant's state, and what it answers. The
--- refusals stand in their order. A state that is absent is that of a tenant that was not added.
+-- The effect of each operation and each operator's command on a tenant's state, and its answer.
+-- Refusals are checked in order. An absent state is that of a tenant that was not added.
 use Rattle.std.specs.Prelude.{ℕ, ◌^◌, Bool, true, false, not, ◌&&◌, nat_le, Option, Some, None, option_and_then, option_map, is_none}
 use Rattle.std.specs.Prelude.{is_some, unwrap_or, List, [], length, map, ok_or, Result, Ok, if◌then◌else◌}
 use Rattle.std.specs.List.{find}
@@ -27,7 +27,7 @@ use Rattle.bh_model.specs.State.{Octets, Content, Content.Body, Entry, Bucket, S
 use Rattle.bh_types.specs.Checksums.{checksum_text}
 use Rattle.bh_types.specs.Outcomes.{◌>>=◌, require}
 use Rattle.bh_types.specs.Ranges.{range_of, cut}
-use Rattle.bh_types.specs.Rejections.{plainly}
+use Rattle.bh_types.specs.Rejections.{plainly, for_date}
 use Rattle.bh_model.specs.Counting.{counts, with_counts, after_entry, after_delete}
 use Rattle.bh_model.specs.Entries.{Version, LookupFault, has_id, is_version, added, deleted, new_id, lookup}
 use Rattle.bh_model.specs.Pages.{ObjectsListed, VersionsListed, UploadsListed, PartsListed}
@@ -37,13 +37,14 @@ use Rattle.bh_model.specs.Retention.{keeps_versions, can_retain, date_of, named_
 use Rattle.bh_model.specs.Retention.{first_date}
 use Rattle.bh_model.specs.Usage.{Usage, usage_of}
 
--- what is told where nothing is refused. An id is told where the bucket is or was versioned. `Removed` says whether a
--- marker was made or taken out. `Head` and `Object` tell the whole object's size, `Object` with the bytes that its plan
--- names. `Copied` tells the moment of the copy. Buckets are told with their moments, in the order of their names,
--- and `Objects`, `Versions` and `Uploads` a page of a bucket's objects, of its versions and of its uploads; `Parts` a
--- page of an upload's parts. `Lifecycle` tells a bucket's rule, `Retention` a version's date, `Used` what a tenant uses, and
--- `Keys` the names of its access keys, to an operator alone. `Begun` and `Completed` name the object of an upload; `Begun`
--- tells when the upload will be stale, where its bucket has a rule
+-- the answer to what is not refused. It has an id if the bucket is or was versioned. `Removed` has
+-- whether a marker was made or deleted. `Head` and `Object` have the whole object's size, `Object`
+-- also the bytes of its plan. `Copied` has the moment of the copy. `Buckets` has the buckets with
+-- their moments, ordered by name. `Objects`, `Versions` and `Uploads` have a page of a bucket's
+-- objects, versions and uploads; `Parts` has a page of an upload's parts. `Lifecycle` has a
+-- bucket's rule, `Retention` a version's date, `Used` what a tenant uses. `Keys` has the names of
+-- its access keys, for operators alone. `Begun` and `Completed` name the object of an upload;
+-- `Begun` has the moment at which the upload becomes stale, if its bucket has a rule
 pub data Answer : Type 0 where
   Done : Answer
   Removed : (id : Option VersionId) (marker : Bool) → Answer
@@ -137,14 +138,14 @@ head_bucket name s = do
   _ ← tenant_bucket name s
   Ok (Done, s)
 
--- Amazon S3 API Reference, DeleteBucket; uploads keep a bucket too
+-- Amazon S3 API Reference, DeleteBucket; a bucket with uploads isn't empty either
 abbrev pub delete_bucket : Octets → Option State → Result Outcome Refusal
 delete_bucket name s = do
   (t, b) ← tenant_bucket name s
   _ ← require (is_empty b.objects && is_empty b.uploads) BucketNotEmpty
   Ok (Removed None false, Some (record t { buckets = remove t.buckets name }))
 
--- what a tenant uses, as it or the operator asks for it
+-- a tenant's usage, for itself or for the operator
 abbrev pub tell_usage : Option State → Result Outcome Refusal
 tell_usage s = do
   t ← added_tenant s
@@ -198,14 +199,14 @@ get_lifecycle name s = do
   days ← ok_or b.days NoSuchLifecycleConfiguration
   Ok (Lifecycle days, s)
 
--- the rule makes uploads stale that were begun before it, too
+-- the rule also applies to earlier uploads
 -- Amazon S3 API Reference, PutBucketLifecycleConfiguration
 abbrev pub put_lifecycle : Octets → ℕ → Option State → Result Outcome Refusal
 put_lifecycle name days s = do
   (t, b) ← tenant_bucket name s
   Ok (Done, Some (with_bucket name (record b { days = Some days }) t))
 
--- a bucket without a rule stays as it is
+-- a bucket without a rule doesn't change
 -- Amazon S3 API Reference, DeleteBucketLifecycle
 abbrev pub delete_lifecycle : Octets → Option State → Result Outcome Refusal
 delete_lifecycle name s = do
@@ -223,7 +224,7 @@ with_object moment key next bytes b = with_content moment key next (Body bytes (
 abbrev pub stored : Octets → ℕ → Bucket → Answer
 stored bytes next b = Stored (id_told b.mode (new_id b.mode next)) (checksum_text bytes)
 
--- a bucket is not changed where that takes its tenant above the quota
+-- a change of a bucket is refused if it takes its tenant above the quota
 abbrev pub require_quota : Octets → Bucket → State → Result (Unit {0}) Refusal
 require_quota name b t = require (keeps_quota t (with_bucket name b t)) QuotaExceeded
 
@@ -231,7 +232,8 @@ require_quota name b t = require (keeps_quota t (with_bucket name b t)) QuotaExc
 abbrev pub with_new_date : Octets → ℕ → Option ℕ → Bucket → Bucket
 with_new_date key next date b = with_date key (new_id b.mode next) date b
 
--- `given` is the checksum that the request says the bytes have, and `date` the date until which the version is kept, if it says one
+-- `given` is the checksum in the request, and `date` the date until which the version is retained,
+-- if the request has them
 -- Amazon S3 API Reference, PutObject
 abbrev pub put_object : ℕ → Octets → Octets → Octets → Option Octets → Option (Option ℕ) → Option State → Result Outcome Refusal
 put_object moment name key bytes given date s = do
@@ -246,16 +248,16 @@ put_object moment name key bytes given date s = do
         (with_object moment key t.next_version bytes b)) (with_counts c t)),
   )
 
--- which marker was met, by how its version was asked for
+-- which delete marker was found, by how the request names its version
 abbrev pub marker_met : Refusal → Detail
 marker_met MethodNotAllowed = NamedMarker
 marker_met refusal = CurrentMarker
 
--- a lookup that found no object tells whether it met a delete marker
+-- a lookup that found no object returns whether it met a delete marker
 abbrev pub not_found : LookupFault → Rejection
 not_found fault = record { refusal = fault.refusal; detail = if fault.marker then marker_met fault.refusal else Nothing }
 
--- the version of a key that is wanted
+-- the version of a key in the request
 abbrev pub found_version : Octets → Wanted → Bucket → Result Version Rejection
 found_version key wanted b = result_map_both (λ v. v) not_found (lookup wanted (listed key b))
 
@@ -266,12 +268,12 @@ wanted_version name key wanted s = do
   v ← found_version key wanted b
   Ok (b, v)
 
--- a delete marker is no source of a copy: where it is named by its id, the request is at fault
+-- a delete marker can't be the source of a copy: if it is named by its id, the request is invalid
 abbrev pub source_refusal : Refusal → Refusal
 source_refusal MethodNotAllowed = InvalidRequest
 source_refusal refusal = refusal
 
--- the version that a copy is made of
+-- the source version of a copy
 abbrev pub source_version : Octets → Octets → Wanted → Option State → Result Version Refusal
 source_version name key wanted s =
     result_map_both (λ (f : Bucket × Version). f.1) (λ (rejection : Rejection). source_refusal rejection.refusal)
@@ -284,8 +286,9 @@ with_copy moment key next v b = with_content moment key next (Body v.bytes v.che
 abbrev pub copied : ℕ → Version → ℕ → Bucket → Answer
 copied moment v next b = Copied (id_told b.mode (new_id b.mode next)) moment v.checksum
 
--- the bucket and the key that the copy goes to, and then those that it comes from. The moment and the id are those of
--- a new version of the first bucket, and so is the date: that of the source stays with the source
+-- the bucket and the key that the copy goes to, and then those that it comes from. The moment and
+-- the id are those of a new version of the first bucket, and so is the date: the source's date is
+-- not copied
 -- Amazon S3 API Reference, CopyObject
 abbrev pub copy_object : ℕ → Octets → Octets → Octets → Octets → Wanted → Option (Option ℕ) → Option State → Result Outcome Refusal
 copy_object moment name key source_name source_key wanted date s = do
@@ -300,7 +303,7 @@ copy_object moment name key source_name source_key wanted date s = do
         (with_copy moment key t.next_version v b)) (with_counts c t)),
   )
 
--- a range in which no byte is tells the object's size
+-- if a range has none of the object's bytes, the refusal has the object's size
 abbrev pub out_of_range : ℕ → Refusal → Rejection
 out_of_range size refusal = record { refusal = refusal; detail = ObjectSize size }
 
@@ -318,14 +321,15 @@ get_object name key wanted range s = do
   plan ← planned range (length v.bytes)
   Ok (shown b v plan, s)
 
--- a range is not looked at
+-- a range is ignored
 -- Amazon S3 API Reference, HeadObject
 abbrev pub head_object : Octets → Octets → Wanted → Option State → Result Outcome Rejection
 head_object name key wanted s = do
   (b, v) ← wanted_version name key wanted s
   Ok (Head (id_told b.mode v.id) (length v.bytes) v.checksum, s)
 
--- ---- what a delete tells: the id of the marker that it made, or of the entry that it took out by its id
+-- ---- the answer to a delete: the id of the marker that it made, or of the entry that it deleted
+-- by its id
 
 abbrev pub removed_current : BucketState → ℕ → Answer
 removed_current Unversioned next = Removed None false
@@ -341,7 +345,7 @@ removed mode Current next entries = removed_current mode next
 removed mode (Named id) next entries = removed_named mode (find (has_id id) entries)
 removed mode Unknown next entries = Removed None false
 
--- the bucket once a delete of a key is done
+-- the bucket after a delete of a key
 abbrev pub with_deleted : ℕ → Octets → Wanted → ℕ → Bucket → Bucket
 with_deleted moment key wanted next b = without_date key wanted (with_entries key (deleted b.mode wanted next moment (listed key b)) b)
 
@@ -359,17 +363,17 @@ delete_object moment name key wanted s = do
 
 -- ---- retention
 
--- a version without a date tells none, in a locked bucket or not
+-- a version without a date returns none, in a locked bucket or not
 -- Amazon S3 API Reference, GetObjectRetention
 abbrev pub get_retention : Octets → Octets → Wanted → Option State → Result Outcome Rejection
 get_retention name key wanted s = do
-  (b, v) ← wanted_version name key wanted s
+  (b, v) ← for_date (wanted_version name key wanted s)
   Ok (Retention (date_of key v.id b), s)
 
 -- Amazon S3 API Reference, PutObjectRetention
 abbrev pub put_retention : ℕ → Octets → Octets → Wanted → ℕ → Option State → Result Outcome Rejection
 put_retention moment name key wanted date s = do
   (t, b) ← plainly (tenant_bucket name s)
-  v ← found_version key wanted b
+  v ← for_date (found_version key wanted b)
   _ ← plainly (may_retain (can_retain b.locked v.id) (date_of key v.id b) (Some date) moment)
   Ok (Done, Some (with_bucket name (with_date key v.id (Some date) b) t))

@@ -1,4 +1,5 @@
--- Pages of a listing: keys under a prefix, where the keys that share a part up to a delimiter stand as one name.
+-- Pages of a listing: keys under a prefix; the keys that share a part up to a delimiter are listed
+-- as one name.
 use Rattle.std.specs.Prelude.{ℕ, Bool, true, false, ◌==◌, ◌&&◌, ◌||◌, nat_lt, List, [], ◌∷◌, ◌++◌, length, map, flat_map, take, drop}
 use Rattle.std.specs.Prelude.{Option, Some, None, option_map, if◌then◌else◌}
 use Rattle.std.specs.List.{filter, filter_map}
@@ -35,15 +36,15 @@ up_to_delimiter delimiter [] = None
 up_to_delimiter delimiter (b ∷ bs) =
     if begins delimiter (b ∷ bs) then Some delimiter else option_map (λ n. b ∷ n) (up_to_delimiter delimiter bs)
 
--- the name that a key is rolled up under: the part up to and including the first delimiter after the prefix.
--- An empty delimiter rolls up nothing
+-- the name under which a key is grouped: the part up to and including the first delimiter after the
+-- prefix. An empty delimiter groups nothing
 abbrev pub rolled : Octets → Octets → Octets → Option Octets
 rolled prefix [] key = None
 rolled prefix (d ∷ ds) key = option_map (λ n. prefix ++ n) (up_to_delimiter (d ∷ ds) (drop (length prefix) key))
 
 -- ---- entries
 
--- an entry of a listing: an item under its own key, or a rolled-up name for all items under it
+-- an entry of a listing: an item under its own key, or a grouped name for all items under it
 pub data Listed (T : Type 0) : Type 0 where
   Single : T → Listed T
   Common : Octets → Listed T
@@ -62,7 +63,8 @@ module _ {T : Type 0} where
   name_of key (Single x) = key x
   name_of key (Common name) = name
 
-  -- a rolled-up name that follows itself is one entry; `last` is the one that was listed last, if nothing came since
+  -- equal grouped names in a row are one entry; `last` is the one that was listed last, if nothing
+  -- came since
   abbrev pub merged : Option Octets → List (Listed T) → List (Listed T)
   merged last [] = []
   merged last (Single x ∷ es) = Single x ∷ merged None es
@@ -72,13 +74,13 @@ module _ {T : Type 0} where
     abbrev pub entry_of : T → Listed T
     entry_of x = as_listed x (rolled prefix delimiter (key x))
 
-    -- of items in the order of their keys, the entries that a marker lets through
+    -- of items in the order of their keys, the entries after a marker
     abbrev pub entries_after : (Listed T → Bool) → List T → List (Listed T)
     entries_after passes items = merged None (filter passes (map entry_of (filter (λ x. begins prefix (key x)) items)))
 
 -- ---- a page
 
--- which page is asked for: the keys under a prefix, rolled up at a delimiter, `max` entries at most
+-- the request for a page: the keys under a prefix, grouped at a delimiter, at most `max` entries
 pub record PageAsked : Type 0 where
   pub prefix : Octets
   pub delimiter : Octets
@@ -86,7 +88,7 @@ pub record PageAsked : Type 0 where
 
 pub record Paged (E : Type 0) : Type 0 where
   pub shown : List E
-  -- the last of them, where some are left over; the next page begins after it
+  -- the last of them, if some are left; the next page begins after it
   pub next : Option E
 
 module _ {E : Type 0} where
@@ -95,7 +97,7 @@ module _ {E : Type 0} where
   last_of (x ∷ []) = Some x
   last_of (x ∷ y ∷ l) = last_of (y ∷ l)
 
-  -- the first `max` entries. A page of none is not truncated
+  -- the first `max` entries. A page of no entries is not truncated
   abbrev pub paged : ℕ → List E → Paged E
   paged max entries = record { shown = take max entries; next = if nat_lt max (length entries) then last_of (take max entries) else None }
 
@@ -104,7 +106,7 @@ abbrev pub after_name : {T : Type 0} → (T → Octets) → Option Octets → Li
 after_name key None e = true
 after_name key (Some marker) e = is_before marker (name_of key e)
 
--- ---- ListObjectsV2: the keys whose newest entry is no delete marker
+-- ---- ListObjectsV2: the keys whose newest entry is not a delete marker
 -- Amazon S3 API Reference, ListObjectsV2; Amazon S3 User Guide, "Organizing objects using prefixes"
 
 -- an object; its moment is in seconds since 1970
@@ -126,15 +128,15 @@ current_object key (newest ∷ older) = object_of key newest.moment newest.conte
 abbrev pub objects_in : List (Octets × List Entry) → List ObjectItem
 objects_in keys = filter_map (λ k. current_object k.0 k.1) keys
 
--- after the name that a token gives
+-- after the name in a token
 abbrev pub objects_page : PageAsked → Option Octets → List (Octets × List Entry) → Paged (Listed ObjectItem)
 objects_page asked token keys =
     paged asked.max (entries_after asked.prefix asked.delimiter (λ o. o.key) (after_name (λ (o : ObjectItem). o.key) token)
     (objects_in keys))
 
--- ---- what a page of objects tells
+-- ---- the contents of a page of objects
 
--- CommonPrefixes and Contents, and the last name shown, where the page is truncated
+-- CommonPrefixes and Contents, and the last name listed, if the page is truncated
 pub record ObjectsListed : Type 0 where
   pub bucket : Octets
   pub prefix : Octets
@@ -165,13 +167,13 @@ objects_told bucket asked page = record {
 -- ---- ListObjectVersions: versions and delete markers, those of a key newest first
 -- Amazon S3 API Reference, ListObjectVersions
 
--- what a version stores
+-- a version's stored object
 pub record StoredItem : Type 0 where
   -- in bytes
   pub size : ℕ
   pub checksum : Octets
 
--- a version, or a delete marker, which stores nothing; its moment is in seconds since 1970
+-- a version, or a delete marker, which has no object; its moment is in seconds since 1970
 pub record VersionItem : Type 0 where
   pub key : Octets
   pub id : VersionId
@@ -196,7 +198,7 @@ pub record VersionPlace : Type 0 where
   pub key : Octets
   pub version : Wanted
 
--- the versions older than the one of this id, and none where no version has it
+-- the versions older than the one with this id; none if no version has it
 abbrev pub after_id : VersionId → List VersionItem → List VersionItem
 after_id id [] = []
 after_id id (v ∷ older) = if same_id v.id id then older else after_id id older
@@ -216,7 +218,7 @@ versions_after (Some marker) versions =
 abbrev pub all_versions : List (Octets × List Entry) → List VersionItem
 all_versions keys = flat_map (λ k. versions_of k.0 k.1) keys
 
--- a rolled-up name has to be greater than the marker's key
+-- a grouped name has to be greater than the marker's key
 abbrev pub passes_version : Option Octets → Listed VersionItem → Bool
 passes_version None e = true
 passes_version (Some marker) (Single v) = true
@@ -230,7 +232,7 @@ versions_page asked marker keys =
     paged asked.max (entries_after asked.prefix asked.delimiter (λ v. v.key) (passes_version (key_of marker))
     (versions_after marker (all_versions keys)))
 
--- where the page after a truncated one begins: after a version, or after all that is under a rolled-up name
+-- the position after which the next page begins: a version, or all keys under a grouped name
 pub record VersionNext : Type 0 where
   pub name : Octets
   pub id : Option VersionId
@@ -239,7 +241,7 @@ abbrev pub version_next : Listed VersionItem → VersionNext
 version_next (Single v) = record { name = v.key; id = Some v.id }
 version_next (Common name) = record { name = name; id = None }
 
--- CommonPrefixes and Versions, and where the next page begins, where this one is truncated
+-- CommonPrefixes and Versions, and the position of the next page, if this one is truncated
 pub record VersionsListed : Type 0 where
   pub bucket : Octets
   pub prefix : Octets
@@ -261,7 +263,7 @@ versions_told bucket asked page = record {
 -- ---- ListMultipartUploads: the uploads in the order of their keys, those of a key in the order of their numbers
 -- Amazon S3 API Reference, ListMultipartUploads
 
--- an upload that is neither completed nor aborted; it was begun so many seconds after 1970
+-- an upload that is neither completed nor aborted; it began that many seconds after 1970
 pub record UploadItem : Type 0 where
   pub key : Octets
   pub id : UploadId
@@ -294,7 +296,8 @@ abbrev pub is_later : Option UploadId → UploadItem → Bool
 is_later None u = false
 is_later (Some id) u = nat_lt id.number u.id.number
 
--- greater keys, and greater numbers of the marker's own key; a rolled-up name has to be greater than the marker's key
+-- greater keys, and greater numbers of the marker's own key; a grouped name has to be greater than
+-- the marker's key
 abbrev pub passes_upload : Option UploadPlace → Listed UploadItem → Bool
 passes_upload None e = true
 passes_upload (Some marker) (Single u) = is_before marker.key u.key || (same marker.key u.key && is_later marker.upload u)
@@ -304,7 +307,7 @@ abbrev pub uploads_page : PageAsked → Option UploadPlace → List (ℕ × Uplo
 uploads_page asked marker numbered =
     paged asked.max (entries_after asked.prefix asked.delimiter (λ u. u.key) (passes_upload marker) (all_uploads numbered))
 
--- where the page after a truncated one begins: after an upload, or after all that is under a rolled-up name
+-- the position after which the next page begins: an upload, or all keys under a grouped name
 pub record UploadNext : Type 0 where
   pub name : Octets
   pub id : Option UploadId
@@ -313,7 +316,7 @@ abbrev pub upload_next : Listed UploadItem → UploadNext
 upload_next (Single u) = record { name = u.key; id = Some u.id }
 upload_next (Common name) = record { name = name; id = None }
 
--- CommonPrefixes and Uploads, and where the next page begins, where this one is truncated
+-- CommonPrefixes and Uploads, and the position of the next page, if this one is truncated
 pub record UploadsListed : Type 0 where
   pub bucket : Octets
   pub prefix : Octets
@@ -353,7 +356,7 @@ parts_after marker parts = map part_item (filter (λ (p : ℕ × Part). nat_lt m
 abbrev pub parts_page : ℕ → ℕ → List (ℕ × Part) → Paged PartItem
 parts_page max marker parts = paged max (parts_after marker parts)
 
--- Parts, and the number of the last one, where the page is truncated
+-- Parts, and the number of the last one, if the page is truncated
 pub record PartsListed : Type 0 where
   pub bucket : Octets
   pub key : Octets

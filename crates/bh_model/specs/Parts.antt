@@ -1,4 +1,4 @@
--- The joining of an upload's parts.
+-- Joining an upload's parts.
 use Rattle.std.specs.Prelude.{ℕ, ◌-◌, Bool, true, ◌&&◌, List, [], ◌∷◌, map, length, take, nat_lt, nat_le, Option, Some, None}
 use Rattle.std.specs.Prelude.{option_and_then, ok_or, Result, Ok, bytes_eq, if◌then◌else◌}
 use Rattle.std.specs.List.{list_all, flat_map}
@@ -11,7 +11,8 @@ use Rattle.bh_types.specs.Checksums.{checksum_text, joined_text}
 use Rattle.bh_model.specs.State.{Octets, Content, Content.Body, Part}
 use Rattle.bh_types.specs.Outcomes.{◌>>=◌, require}
 
--- a part as the completion of its upload names it, with the checksum text that it must have if one is given
+-- a part in the request to complete its upload, with the checksum text that it must have if one is
+-- given
 pub record Naming : Type 0 where
   pub number : ℕ
   pub checksum : Option Octets
@@ -22,7 +23,7 @@ ascends [] = true
 ascends (n ∷ []) = true
 ascends (m ∷ n ∷ ns) = nat_lt m n && ascends (n ∷ ns)
 
--- whether a checksum that may be given is that of the bytes
+-- whether an optional checksum is that of the bytes
 abbrev pub is_checksum : Option Octets → Octets → Bool
 is_checksum None bytes = true
 is_checksum (Some given) bytes = bytes_eq given (checksum_text bytes)
@@ -30,7 +31,7 @@ is_checksum (Some given) bytes = bytes_eq given (checksum_text bytes)
 abbrev pub checked : Option Octets → Part → Option Part
 checked given p = if is_checksum given p.bytes then Some p else None
 
--- the part that is named, where it is there and has the checksum given
+-- the named part, if it exists and has the given checksum
 abbrev pub choice : FinMap nat_cmp Part → Naming → Result Part Refusal
 choice parts n = ok_or (option_and_then (checked n.checksum) (get parts n.number)) InvalidPart
 
@@ -41,15 +42,15 @@ chosen parts (n ∷ ns) = do
   ps ← chosen parts ns
   Ok (p ∷ ps)
 
--- all parts but the last have the least size
+-- all parts but the last have at least the minimum size
 abbrev pub are_large : ℕ → List Part → Bool
 are_large least ps = list_all (λ p. nat_le least (length p.bytes)) (take (length ps - 1) ps)
 
--- the object that parts make, one after another
+-- the object of parts, one after another
 abbrev pub joined : List Part → Content
 joined ps = Body (flat_map (λ p. p.bytes) ps) (joined_text (map (λ p. sha256 p.bytes) ps))
 
--- the object that an upload's parts make where these are named, or why they make none
+-- the object that an upload's named parts make, or why they make none
 -- Amazon S3 API Reference, CompleteMultipartUpload; the order of the refusals is this host's
 abbrev pub completed : ℕ → FinMap nat_cmp Part → List Naming → Result Content Refusal
 completed least parts names = do

@@ -1,4 +1,4 @@
--- Locked buckets, and the dates before which their versions may not be deleted: S3's Object Lock in compliance mode.
+-- Locked buckets, and their versions' retention dates: S3's Object Lock in compliance mode.
 -- Amazon S3 User Guide, "Locking objects with Object Lock"
 use Rattle.std.specs.Prelude.{ℕ, Bool, true, false, not, nat_lt, nat_le, Option, Some, None, unwrap_or, ok_or, Result, Ok}
 use Rattle.std.specs.FinMap.{get, insert, remove}
@@ -32,7 +32,7 @@ date_in key (Numbered n) dates = get dates (key, n)
 abbrev pub date_of : Octets → VersionId → Bucket → Option ℕ
 date_of key id b = date_in key id b.dates
 
--- the date of the version that a delete takes out by its id
+-- the date of the version that a delete deletes by its id
 abbrev pub named_date : Octets → Wanted → Bucket → Option ℕ
 named_date key Current b = None
 named_date key (Named id) b = date_of key id b
@@ -55,7 +55,7 @@ dated_if key id (Some date) dates = dated key id date dates
 abbrev pub with_date : Octets → VersionId → Option ℕ → Bucket → Bucket
 with_date key id date b = record b { dates = dated_if key id date b.dates }
 
--- a version's date goes with it
+-- a version's date is removed with it
 abbrev pub undated : Octets → VersionId → Dates → Dates
 undated key Null dates = dates
 undated key (Numbered n) dates = remove dates (key, n)
@@ -68,15 +68,15 @@ undated_by key Unknown dates = dates
 abbrev pub without_date : Octets → Wanted → Bucket → Bucket
 without_date key wanted b = record b { dates = undated_by key wanted b.dates }
 
--- ---- what a request may set
+-- ---- the dates that a request may set
 
 -- a version can have a date in a locked bucket, if it has a number
 abbrev pub can_retain : Bool → VersionId → Bool
 can_retain locked Null = false
 can_retain locked (Numbered n) = locked
 
--- whether a version that can have a date may have this one: it is after the moment, and not before the version's present date if
--- it has one. None stands for a date that isn't given as it should be
+-- whether a version that can have a date may have this one: it is after the moment, and not before
+-- the version's present date if it has one. None means that the date is invalid
 -- Amazon S3 API Reference, PutObjectRetention; Amazon S3 User Guide, "Compliance mode"
 abbrev pub may_retain : Bool → Option ℕ → Option ℕ → ℕ → Result (Unit {0}) Refusal
 may_retain able present date now = do
@@ -85,7 +85,7 @@ may_retain able present date now = do
   _ ← require (nat_lt now until) InvalidArgument
   require (nat_le (unwrap_or present 0) until) AccessDenied
 
--- the date of a new version, where its request gives one
+-- the date of a new version, if its request has one
 abbrev pub first_date : Bool → Option (Option ℕ) → ℕ → Result (Option ℕ) Refusal
 first_date locked None now = Ok None
 first_date locked (Some date) now = do

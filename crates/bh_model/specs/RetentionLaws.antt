@@ -1,4 +1,4 @@
--- What shows that the definitions of locked buckets are the intended ones.
+-- Evidence that the definitions of locked buckets are the intended ones.
 use Rattle.std.specs.Prelude.{◌≡◌, ℕ, ◌<◌, ◌≤◌, Option, Some, Ok, Err, IfOk}
 use Rattle.std.specs.FinMap.{get}
 use Rattle.bh_types.specs.declared.id.VersionId.{VersionId}
@@ -15,7 +15,8 @@ DatedVersionStays = (moment : ℕ) (name key : Octets) (id : VersionId) (t : Sta
     → get t.buckets name ≡ Some b → date_of key id b ≡ Some date → moment < date → delete_object moment name key (Named id) (Some t)
     ≡ Err AccessDenied
 
--- a date that was put is told from then on. It is after the moment, and not before the one that was told
+-- a date that was put is returned from then on. It is after the moment, and not before the date
+-- returned earlier
 abbrev pub PutDateIsTold : Type 0
 PutDateIsTold = (moment : ℕ) (name key : Octets) (n date : ℕ) (s : Option State)
     → IfOk (put_retention moment name key (Named (Numbered n)) date s) (λ put.

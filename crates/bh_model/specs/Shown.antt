@@ -1,4 +1,4 @@
--- The machine's values that those of the program show.
+-- The machine's values that correspond to the program's.
 use Rattle.std.specs.Prelude.{option_map}
 use Rattle.std.specs.String.{string_bytes}
 use Rattle.bh_types.specs.declared.wanted.Named.{Named}

@@ -1,4 +1,5 @@
--- The state of one tenant's private machine. It is made of finite maps, so two states that answer alike are equal values.
+-- The state of one tenant's private machine. It consists of finite maps, so two states that answer
+-- alike are equal values.
 use Rattle.std.specs.Prelude.{ℕ, ◌+◌, ◌-◌, ◌*◌, ◌/◌, Bool, false, nat_le, List, length, Option, Some, None, if◌then◌else◌}
 use Rattle.std.specs.List.{sum_by}
 use Rattle.std.specs.Ordering.{nat_cmp, ordering_then}
@@ -34,7 +35,7 @@ pub record Part : Type 0 where
   pub bytes : Octets
   pub moment : ℕ
 
--- a multipart upload that is neither completed nor aborted; its parts by number
+-- an unfinished multipart upload; its parts by number
 -- Amazon S3 API Reference, CreateMultipartUpload, UploadPart
 pub record Upload : Type 0 where
   pub key : Octets
@@ -45,13 +46,13 @@ pub record Upload : Type 0 where
 abbrev pub version_cmp : Octets × ℕ → Octets × ℕ → Ordering
 version_cmp a b = ordering_then (octets_cmp a.0 b.0) (nat_cmp a.1 b.1)
 
--- the moments before which versions may not be deleted, in seconds since 1970
+-- the versions' retention dates, in seconds since 1970
 abbrev pub Dates : Type 0
 Dates = FinMap version_cmp ℕ
 
--- `days` is the bucket's rule for uploads that are left unfinished, if it has one. The entries of a key are
--- newest first, and a key that has none is not in `objects`. Uploads stand by number. Only versions of a bucket that
--- is `locked` have dates
+-- `days` is the bucket's rule for unfinished uploads, if it has one. The entries of a key are
+-- newest first, and a key without entries is not in `objects`. Uploads are ordered by number. Only
+-- versions of a `locked` bucket have dates
 -- Amazon S3 API Reference, CreateBucket, PutBucketVersioning, PutBucketLifecycleConfiguration, PutObjectRetention
 pub record Bucket : Type 0 where
   pub created : ℕ
@@ -62,7 +63,7 @@ pub record Bucket : Type 0 where
   pub locked : Bool
   pub dates : Dates
 
--- `keys` has the secret of each access key's name. Each counter is the next number to give
+-- `keys` has the secret of each access key's name. Each counter is its next number
 pub record State : Type 0 where
   pub quota : ℕ
   pub keys : FinMap octets_cmp Octets
@@ -71,14 +72,15 @@ pub record State : Type 0 where
   pub next_entry : ℕ
   pub buckets : FinMap octets_cmp Bucket
 
--- a tenant that was not added has no state
+-- a tenant that doesn't exist has no state
 abbrev pub absent : Option State
 absent = None
 
 abbrev pub new_tenant : ℕ → State
 new_tenant quota = record { quota = quota; keys = empty; next_version = 1; next_upload = 1; next_entry = 1; buckets = empty }
 
--- Amazon S3 User Guide, "Object Lock considerations": a locked bucket is Enabled from its making on
+-- Amazon S3 User Guide, "Object Lock considerations": a locked bucket is Enabled from its creation
+-- on
 abbrev pub new_bucket : ℕ → Bool → Bucket
 new_bucket created locked = record {
   created = created;
@@ -111,14 +113,14 @@ bucket_used b = total (sum_by entry_size) b.objects + total upload_used b.upload
 abbrev pub used : State → ℕ
 used s = total bucket_used s.buckets
 
--- whether an upload is stale now: under a rule of d days, one that began on day n since 1970 is so from the
--- first second of day n + d + 1 on
+-- whether an upload is stale now. Under a rule of d days, one that began on day n since 1970 is
+-- stale from the first second of day n + d + 1 on
 -- Amazon S3 API Reference, AbortIncompleteMultipartUpload
 abbrev pub is_stale : Option ℕ → ℕ → ℕ → Bool
 is_stale None begun now = false
 is_stale (Some days) begun now = nat_le (abort_moment begun days) now
 
--- so what was begun before this moment is
+-- so an upload from before this moment is
 abbrev pub stale_before : ℕ → ℕ → ℕ
 stale_before days now = 86400 * (now / 86400 - days)
 
@@ -129,6 +131,6 @@ fresh days now u = if is_stale days u.begun now then None else Some u
 abbrev pub purged_bucket : ℕ → Bucket → Bucket
 purged_bucket now b = record b { uploads = adjusted (fresh b.days now) b.uploads }
 
--- the state without the uploads that are stale now; its counters stay
+-- the state without the uploads that are stale now; its counters don't change
 abbrev pub purged : State → ℕ → State
 purged s now = record s { buckets = adjusted (λ b. Some (purged_bucket now b)) s.buckets }

@@ -1,4 +1,4 @@
--- What shows that the definitions of multipart uploads are the intended ones.
+-- Evidence that the definitions of multipart uploads are the intended ones.
 use Rattle.std.specs.Prelude.{◌≡◌, ℕ, List, [], ◌∷◌, length, Option, Some, None, Result, Ok, Err, IfOk}
 use Rattle.std.specs.Result.{IfErr}
 use Rattle.sha2.specs.Sha256.{sha256}
@@ -14,18 +14,18 @@ use Rattle.bh_model.specs.Parts.{Naming}
 use Rattle.bh_model.specs.Operations.{Answer.Object, Answer.Begun, Answer.Completed, get_object}
 use Rattle.bh_model.specs.Uploads.{FoundUpload, find_upload, new_upload, create_upload, upload_part, complete_upload, abort_upload}
 
--- it is done, or a counter has given its last number
+-- it is done, or a counter is exhausted
 abbrev pub UnlessExhausted : {X : Type 0} → Result X Refusal → (X → Type 0) → Type 0
 UnlessExhausted r P = IfOk r P × IfErr r (λ e. e ≡ CounterExhausted)
 
--- an upload that was begun is found by the id that was told, and has no part yet
+-- an upload that was begun is found by the returned id, and has no part yet
 abbrev pub BegunIsFound : Type 0
 BegunIsFound = (moment : ℕ) (name key : Octets) (s : Option State)
     → IfOk (create_upload moment name key s) (λ begun.
     (id : UploadId) × (abort : Option ℕ) × (f : FoundUpload) × (begun.0 ≡ Begun name key id abort)
     × (find_upload name key (Some id) begun.1 ≡ Ok f) × (f.upload ≡ new_upload key moment))
 
--- the object of one part is what a get without id reads, under the id that the completion told
+-- an object of one part is what a get without id reads, under the id that the completion returned
 abbrev pub PartIsRead : Type 0
 PartIsRead = (moment later least number : ℕ) (name key bytes : Octets) (upload : Option UploadId) (given : Option Octets) (s : Option State)
     → IfOk (upload_part moment name key upload number bytes given s) (λ put.
@@ -33,7 +33,7 @@ PartIsRead = (moment later least number : ℕ) (name key bytes : Octets) (upload
     (id : Option VersionId) × (done.0 ≡ Completed name key id (joined_text (sha256 bytes ∷ [])))
     × (get_object name key Current None done.1 ≡ Ok (Object id (length bytes) Whole bytes (joined_text (sha256 bytes ∷ [])), done.1))))
 
--- an upload that is no more has no part put to it, and is neither completed nor aborted
+-- to an upload that is gone no part can be put, and it can be neither completed nor aborted
 pub record IsGone (name key : Octets) (upload : Option UploadId) (s : Option State) : Type 0 where
   pub not_found : find_upload name key upload s ≡ Err NoSuchUpload
   pub no_part : (moment number : ℕ) (bytes : Octets) (given : Option Octets) → upload_part moment name key upload number bytes given s

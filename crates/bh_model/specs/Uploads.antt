@@ -1,5 +1,5 @@
--- What each operation on a multipart upload makes of a tenant's state, and what it answers. The refusals stand in
--- their order.
+-- The effect of each operation on a multipart upload on a tenant's state, and its answer. Refusals
+-- are checked in order.
 use Rattle.std.specs.Prelude.{ℕ, ◌+◌, false, bytes_eq, Option, Some, None, option_and_then, option_map, List, [], ok_or, Result, Ok, Err}
 use Rattle.std.specs.Prelude.{if◌then◌else◌}
 use Rattle.std.specs.FinMap.{empty, get, insert, remove}
@@ -37,7 +37,7 @@ without_upload number b = record b { uploads = remove b.uploads number }
 abbrev pub with_part : ℕ → Part → Upload → Upload
 with_part number p u = record u { parts = insert u.parts number p }
 
--- an upload of a key of a bucket, with both and its number
+-- an upload with its bucket, key and number
 pub record FoundUpload : Type 0 where
   pub tenant : State
   pub bucket : Bucket
@@ -47,14 +47,14 @@ pub record FoundUpload : Type 0 where
 abbrev pub of_key : Octets → Upload → Option Upload
 of_key key u = if bytes_eq u.key key then Some u else None
 
--- an id belongs to the bucket and the key that its upload was begun for
+-- an id belongs to the bucket and the key of its upload
 abbrev pub found_upload : Octets → Option UploadId → State → Bucket → Option FoundUpload
 found_upload key None t b = None
 found_upload key (Some id) t b =
     option_map (λ u. record { tenant = t; bucket = b; number = id.number; upload = u })
     (option_and_then (of_key key) (get b.uploads id.number))
 
--- where the text that a request gives is no id, no upload has it
+-- if the request's text is not an id, no upload has it
 abbrev pub find_upload : Octets → Octets → Option UploadId → Option State → Result FoundUpload Refusal
 find_upload name key upload s = do
   (t, b) ← tenant_bucket name s
@@ -76,11 +76,11 @@ create_upload moment name key s = do
         (with_bucket name (with_upload t.next_upload (new_upload key moment) b) (with_counts c t)),
   )
 
--- the bucket of an upload with one more part in it, in place of one of the same number
+-- the bucket of an upload with one more part, in place of the one with the same number
 abbrev pub with_stored : FoundUpload → ℕ → Part → Bucket
 with_stored f number p = with_upload f.number (with_part number p f.upload) f.bucket
 
--- `given` is the checksum that the request says the bytes have, if it says one
+-- `given` is the checksum in the request, if it has one
 -- Amazon S3 API Reference, UploadPart
 abbrev pub upload_part : ℕ → Octets → Octets → Option UploadId → ℕ → Octets → Option Octets → Option State → Result Outcome Refusal
 upload_part moment name key upload number bytes given s = do
@@ -102,11 +102,12 @@ abbrev pub completion : Octets → Octets → FoundUpload → Content → Answer
 completion name key f content =
     Completed name key (id_told f.bucket.mode (new_id f.bucket.mode f.tenant.next_version)) (content_checksum content)
 
--- the bucket with the object as a new version, as a put in the bucket's state then makes it, and without the upload
+-- the bucket with the object as a new version, as after a put, and without the upload
 abbrev pub with_completed : ℕ → Octets → FoundUpload → Content → Bucket
 with_completed moment key f content = with_content moment key f.tenant.next_version content (without_upload f.number f.bucket)
 
--- the version has the moment of the completion; `least` is the least size of a part that isn't the last
+-- the version has the moment of the completion; `least` is the minimum size of a part that isn't
+-- the last
 -- Amazon S3 API Reference, CompleteMultipartUpload
 abbrev pub complete_upload : ℕ → ℕ → Octets → Octets → Option UploadId → List Naming → Option State → Result Outcome Refusal
 complete_upload moment least name key upload names s = do

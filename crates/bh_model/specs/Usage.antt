@@ -1,4 +1,4 @@
--- What a tenant uses, counted.
+-- A tenant's usage, counted.
 use Rattle.std.specs.Prelude.{ℕ, not, List, [], ◌∷◌, length, if◌then◌else◌}
 use Rattle.std.specs.List.{filter, sum_by}
 use Rattle.std.specs.FinMap.{len}
@@ -6,7 +6,8 @@ use Rattle.bh_model.specs.Entries.{is_version}
 use Rattle.bh_model.specs.FinMaps.{total}
 use Rattle.bh_model.specs.State.{Entry, State, entry_size, upload_used, used}
 
--- sizes in bytes; `objects` counts the keys whose newest entry is a version, and `versions` no delete markers
+-- sizes in bytes; `objects` counts the keys whose newest entry is a version, and `versions` leaves
+-- out delete markers
 pub record Usage : Type 0 where
   pub buckets : ℕ
   pub bytes : ℕ
@@ -18,7 +19,7 @@ pub record Usage : Type 0 where
   pub version_bytes : ℕ
   pub versions : ℕ
 
--- ---- of the entries of one key
+-- ---- for the entries of one key
 
 abbrev pub version_count : List Entry → ℕ
 version_count entries = length (filter is_version entries)
@@ -26,12 +27,12 @@ version_count entries = length (filter is_version entries)
 abbrev pub marker_count : List Entry → ℕ
 marker_count entries = length (filter (λ e. not (is_version e)) entries)
 
--- 1 where the newest is a version
+-- 1 if the newest is a version
 abbrev pub object_count : List Entry → ℕ
 object_count [] = 0
 object_count (newest ∷ older) = if is_version newest then 1 else 0
 
--- ---- of a tenant
+-- ---- for a tenant
 
 -- over all keys of all buckets
 abbrev pub of_keys : (List Entry → ℕ) → State → ℕ

@@ -5,9 +5,9 @@ use bh_types::bucket_state::BucketState;
 use bh_types::counters::{COUNTER_END, Counters};
 use bh_types::refusal::Refusal;
 
-/// The counters once a new version or delete marker in a bucket of this state has taken its numbers: an
-/// entry number, and where versions are numbered a version number. [`Refusal::CounterExhausted`] where
-/// one of these is used up.
+/// The counters after a new version or delete marker in a bucket of this state took its numbers: an
+/// entry number and, if versions are numbered, a version number. Fails with
+/// [`Refusal::CounterExhausted`] if one of these is exhausted.
 pub fn after_entry(state: BucketState, counters: Counters) -> Result<Counters, Refusal>
     ensures { result ≡ spec.after_entry state counters }
 {

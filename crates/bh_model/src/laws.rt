@@ -1,18 +1,18 @@
-//! Laws of the definitions, each the contract of a function that does nothing.
+//! Laws of the definitions, each as the contract of a function that does nothing.
 ghost use Rattle.bh_model.specs.Laws.{PurgedLater, PurgedTwice, PutIsFound, EnabledDeleteKeeps, SuspendedDeleteClears, PutIsRead};
 ghost use Rattle.bh_model.specs.Laws.{CopyIsRead, AddedKeyOpens, RemovedKeyIsUnknown, FollowersStepAlike, RunsJoin};
 
-/// To purge a tenant's state, and then at a later moment, is to purge it at the later one.
+/// Purging a tenant's state, and then again at a later moment, is purging it at the later one.
 pub fn purged_later()
     ensures { PurgedLater }
 {}
 
-/// To purge a tenant's state twice at one moment is to purge it once.
+/// Purging a tenant's state twice at one moment is purging it once.
 pub fn purged_twice()
     ensures { PurgedTwice }
 {}
 
-/// After a put the new version is the current one, and the one of its id.
+/// After a put the new version is the current one, and its id finds it.
 pub fn put_is_found()
     ensures { PutIsFound }
 {}
@@ -27,12 +27,12 @@ pub fn suspended_delete_clears()
     ensures { SuspendedDeleteClears }
 {}
 
-/// What was put is what a get without id reads from the state after the put.
+/// After a put, a get without id reads what was put.
 pub fn put_is_read()
     ensures { PutIsRead }
 {}
 
-/// What was copied is what a get without id reads from the state after the copy.
+/// After a copy, a get without id reads what was copied.
 pub fn copy_is_read()
     ensures { CopyIsRead }
 {}
@@ -52,7 +52,8 @@ pub fn followers_step_alike<Act, Answer, Fault>()
     ensures { FollowersStepAlike Act Answer Fault }
 {}
 
-/// The private run over two lists of acts joined is the run over the second, from the state after the first.
+/// The private run over two joined lists of acts is the run over the second, from the state after
+/// the first.
 pub fn runs_join<Act, Reply>()
     ensures { RunsJoin Act Reply }
 {}

@@ -1,4 +1,5 @@
-//! The private machine of one tenant: its definitions and their laws, and what a host asks of them where they name no bytes.
+//! The private machine of one tenant: its definitions and their laws, and the functions on it that
+//! need no bytes.
 #![tactic(auto)]
 
 pub mod counting;

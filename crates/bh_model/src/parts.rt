@@ -4,7 +4,7 @@ ghost use Rattle.bh_model.specs.Shown.{naming_of};
 
 use bh_types::wanted::Named;
 
-/// Whether each number named is above the one before it.
+/// Whether the numbers ascend.
 pub fn ascends(named: &[Named]) -> bool
     ensures { result ≡ spec.ascends (map (λ n. n.number) (map naming_of named.now)) }
 {

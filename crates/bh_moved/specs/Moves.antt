@@ -1,4 +1,5 @@
--- When a tenant may be moved between two connections, how that is refused, and what a commit leaves.
+-- Moving a tenant between two connections: its preconditions, its refusals, and the effect of its
+-- commit.
 use Rattle.std.specs.Prelude.{◌≡◌, true, false, Option, Some, None, is_some, Result, IfOk}
 use Rattle.sqlite.specs.Held.{Held}
 use Rattle.sqlite.specs.declared.error.Error.{Error}
@@ -17,13 +18,13 @@ pub record IsSettled (x : Standing) : Type 0 where
   pub outside : x.inside ≡ false
   pub host : IsHost x.now
 
--- how it is refused, by what the one host and the other have of the tenant; none where it is moved
+-- the refusal, given the tenant's state in the two hosts; none if it is moved
 abbrev pub move_refused : Option State → Option State → Option Refusal
 move_refused None there = Some NoSuchTenant
 move_refused (Some s) None = None
 move_refused (Some s) (Some there) = Some TenantExists
 
--- no transaction is open, and what stands was committed
+-- no transaction is open, and the database was committed
 pub record IsCommitted (x : Standing) : Type 0 where
   pub outside : x.inside ≡ false
   pub kept : x.kept ≡ x.now
@@ -35,7 +36,7 @@ module _ {S : Type 0} (g : Ghosts S) where
 
 module _ {S T : Type 0} (g : Ghosts S) (h : Ghosts T) (digest : Octets → Octets) (t : Octets)
     (from from_new : Held S) (to to_new : Held T) (outcome : Result (Option Refusal) Error) where
-  -- what is told of a tenant that was to be moved
+  -- the result for a tenant that was to be moved
   pub record Tells : Type 0 where
     pub moved : IfOk outcome (λ refused. refused ≡ None → IsClean g from_new → IsClean h to_new
         → IsMoved digest t (tables g from) (tables h to) (tables h to_new))

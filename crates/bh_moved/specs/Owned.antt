@@ -1,4 +1,5 @@
--- The tables in which a tenant has rows: a row of each, and the tables once it has come to the tenant from another host.
+-- The tables in which a tenant has rows: a row of each, and the tables after it was added to a
+-- tenant's from another host.
 use Rattle.std.specs.Prelude.{ℕ, if◌then◌else◌, List, [], ◌∷◌, Option, Some, None}
 use Rattle.sqlite.specs.Order.{Row}
 use Rattle.bh_tables.specs.Schema.{Octets}
@@ -41,7 +42,7 @@ rows_in owned.Uploads rows = rows.uploads
 rows_in owned.Parts rows = rows.parts
 rows_in owned.Retains rows = rows.retains
 
--- where a row's body is stored, if it has one
+-- the name of a row's body, if it has one
 abbrev pub body_in : (table : Owned) → RowIn table → Option ℕ
 body_in owned.Versions v = if same_number v.marker 0 then Some v.seq else None
 body_in owned.Parts p = Some p.body
@@ -61,7 +62,7 @@ IfBodied owned.Locks P = Unit {0}
 IfBodied owned.Uploads P = Unit {0}
 IfBodied owned.Retains P = Unit {0}
 
--- with a row of another tenant, whose body is there
+-- with a row of another tenant, whose body was stored
 abbrev pub row_after : Octets → (table : Owned) → RowIn table → Tables → Tables
 row_after t owned.Keys k = with_keys (key_of t k ∷ [])
 row_after t owned.Buckets b = with_buckets (bucket_of t b ∷ [])
@@ -71,7 +72,7 @@ row_after t owned.Uploads u = with_uploads (upload_of t u ∷ [])
 row_after t owned.Parts p = part_after (own_part t p)
 row_after t owned.Retains r = with_retains (retain_of t r ∷ [])
 
--- with a row and the body that it has in other tables, in blocks of this size that a digest names
+-- with a row and its body in other tables, in blocks of this size that a digest names
 abbrev pub row_added : (Octets → Octets) → ℕ → Octets → Tables → (table : Owned) → RowIn table → Tables → Tables
 row_added digest size t from owned.Keys k = with_keys (key_of t k ∷ [])
 row_added digest size t from owned.Buckets b = with_buckets (bucket_of t b ∷ [])

@@ -1,4 +1,4 @@
--- A part as it is read.
+-- A part's row with its bytes.
 use Rattle.std.specs.Prelude.{ℕ, [], ◌∷◌, ◌++◌}
 use Rattle.std.specs.String.{string_bytes}
 use Rattle.bh_tables.specs.Schema.{Octets}
@@ -6,7 +6,7 @@ use Rattle.bh_tables.specs.Bodies.{whole, resolved_part}
 use Rattle.bh_tables.specs.Typed.{PartRow, PartColumns, Tables}
 use Rattle.bh_moved.specs.declared.parts.ReadPart.{ReadPart}
 
--- with the bytes that its body has in the tables
+-- with the bytes of its body in the tables
 abbrev pub part_of : Octets → Tables → PartRow → PartRow
 part_of t tables p = record p { tenant = t; bytes = whole tables.refs tables.blocks (t, p.body) }
 

@@ -1,4 +1,4 @@
--- Rows as they are read: the tenant is known, and the bytes are those that the body has in the tables.
+-- Rows with their bytes: the tenant is known, and the bytes are those of the body in the tables.
 use Rattle.std.specs.Prelude.{ℕ, List, [], ◌∷◌}
 use Rattle.std.specs.String.{string_bytes}
 use Rattle.bh_tables.specs.Schema.{Octets}
@@ -7,7 +7,7 @@ use Rattle.bh_tables.specs.Typed.{TenantRow, KeyRow, BucketRow, VersionRow, Uplo
 use Rattle.bh_schema.specs.declared.rows.tenants.TenantNumbers.{TenantNumbers}
 use Rattle.bh_moved.specs.declared.versions.ReadVersion.{ReadVersion}
 
--- the tables once rows have come to them, one after another
+-- the tables after rows were added to them, one after another
 abbrev pub all_added : {R : Type 0} → (R → Tables → Tables) → List R → Tables → Tables
 all_added added [] tables = tables
 all_added added (r ∷ rs) tables = all_added added rs (added r tables)

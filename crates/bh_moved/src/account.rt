@@ -14,7 +14,7 @@ use bh_schema::rows::tenants::{
 };
 use sqlite::{Alter, Connection, Error};
 
-/// Adds a tenant with these numbers, where there is none of its name.
+/// Adds a tenant with these numbers, if there is none of its name.
 pub fn bring_account<T: Alter>(
     to: &mut Connection<T>,
     tenant: &str,

@@ -1,4 +1,4 @@
-//! A body, read of one host and stored in another.
+//! Copies a body from one host to another.
 
 ghost use Rattle.std.specs.Prelude.{◌<◌, ◌^◌, List, OnOk};
 ghost use Rattle.bh_tables.specs.Typed.{BlockRow};
@@ -18,7 +18,7 @@ use bh_types::limits::{DEFAULT_BLOCK_SIZE, Tuning};
 use bh_types::range::RangePlan;
 use sqlite::{Alter, Connection, Error};
 
-/// No block in memory, beside the rows of any host.
+/// An empty cache, which fits any host.
 fn no_blocks() -> BlockCache
     ensures agrees { (blocks : List BlockRow) → Agrees result blocks }
     ensures copies { (blocks : List BlockRow) → AreCopies result blocks }

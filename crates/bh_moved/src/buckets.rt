@@ -13,7 +13,8 @@ use bh_schema::rows::number::number;
 use sqlite::types::ToSql;
 use sqlite::{Alter, Connection, Error, Row};
 
-/// Adds a bucket without a rule, which was made at this second since 1970, in the state of this number.
+/// Adds a bucket without a rule, with this creation time in seconds since 1970 and the number of
+/// its state.
 fn insert_plain<T: Alter>(
     to: &mut Connection<T>,
     tenant: &str,
@@ -41,7 +42,7 @@ fn insert_plain<T: Alter>(
     )
 }
 
-/// Adds a bucket with a rule: after so many days an upload is stale.
+/// Adds a bucket with a rule: uploads become stale after `days` days.
 fn insert_ruled<T: Alter>(
     to: &mut Connection<T>,
     tenant: &str,
@@ -72,7 +73,7 @@ fn insert_ruled<T: Alter>(
     )
 }
 
-/// Adds a bucket with the rule that it has, if it has one.
+/// Adds a bucket with its rule, if it has one.
 fn insert_bucket<T: Alter>(
     to: &mut Connection<T>,
     tenant: &str,

@@ -19,7 +19,7 @@ pub fn number_at(row: &Row, at: usize) -> Result<u64, Error>
     }
 }
 
-/// A number that a column holds.
+/// Checks that a column can have this number.
 pub fn in_range(n: u64) -> Result<u64, Error>
     ensures same { IfOk result (λ m. m ≡ n) }
     ensures small { IfOk result (λ m. m < 2 ^ 63) }
@@ -31,7 +31,7 @@ pub fn in_range(n: u64) -> Result<u64, Error>
     }
 }
 
-/// The number that a column holds, which may be NULL.
+/// The number in a column, which may be NULL.
 pub fn maybe_number_at(row: &Row, at: usize) -> Result<Option<u64>, Error>
     ensures same { IfOk result (λ n. (m : Option ℕ) → column row.now at ≡ or_null number m → n ≡ m) }
     ensures small { IfOk result (λ n. IfSome n (λ m. m < 2 ^ 63)) }

@@ -1,4 +1,5 @@
-//! A tenant moved from one host's tables to another's: its rows, read of the one and written to the other, with their bodies.
+//! Moves a tenant from one host's tables to another's: reads its rows and bodies from the one and
+//! writes them to the other.
 #![tactic(auto)]
 
 mod account;

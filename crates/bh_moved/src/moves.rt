@@ -1,4 +1,4 @@
-//! A tenant moved in one transaction.
+//! Moves a tenant in one transaction.
 
 ghost use Rattle.std.specs.Prelude.{◌≡◌, ◌≢◌, ◌≤◌, true, false, Ok, Some, None, is_some, IfOk};
 ghost use Rattle.sqlite.specs.Held.{state};
@@ -17,7 +17,7 @@ use bh_types::refusal::Refusal;
 use sqlite::{Alter, Connection, Error};
 use std::alloc::Global;
 
-/// Brings a tenant to the second host, and commits it.
+/// Adds a tenant to the second host, and commits it.
 fn bring_and_commit<S: Alter, T: Alter, D: Digester>(
     from: &mut Connection<S>,
     to: &mut Connection<T>,
@@ -46,11 +46,11 @@ fn bring_and_commit<S: Alter, T: Alter, D: Digester>(
     Ok(refused)
 }
 
-/// Brings a tenant from one host to another, in one commit, in blocks of at most this size: what the other host has of all other
-/// tenants stays, and the host that it comes from stays as it is.
+/// Copies a tenant from one host to another, in one commit, in blocks of at most `block_size`
+/// bytes. Other tenants of the second host don't change, and neither does the first host.
 ///
-/// It is refused, with `NoSuchTenant` where the first host hasn't the tenant, with `TenantExists` where the second has it. Then, and
-/// after an error, nothing of it is there.
+/// Refuses with `NoSuchTenant` if the first host doesn't have the tenant, and with `TenantExists`
+/// if the second has it. Then, and after an error, nothing of it was added.
 pub fn move_tenant<S: Alter, T: Alter, D: Digester>(
     from: &mut Connection<S>,
     to: &mut Connection<T>,

@@ -43,7 +43,8 @@ fn read_part(row: &Row) -> Result<ReadPart, Error>
     })
 }
 
-/// Adds a part, whose body is there and of whose number there is none yet, under the next entry number that the tenant has already.
+/// Adds a part, whose body was stored and whose number is new, under the next entry number that the
+/// tenant has already.
 fn add_new_part<T: Alter>(
     to: &mut Connection<T>,
     part: &PartRecord<'_>,
@@ -66,7 +67,8 @@ fn add_new_part<T: Alter>(
     }
 }
 
-/// Adds the row of a part, whose body is there, under the next entry number that the tenant has already.
+/// Adds the row of a part, whose body was stored, under the next entry number that the tenant has
+/// already.
 pub fn add_part<T: Alter, D>(
     to: &mut Connection<T>,
     moving: &Moving<'_, D>,

@@ -1,4 +1,4 @@
-//! Rows that have no bodies, each added as another host has it.
+//! Adds rows without bodies, each as it is in another host.
 
 ghost use Rattle.std.specs.Prelude.{◌≡◌, ◌∷◌, [], OnOk};
 ghost use Rattle.bh_tables.specs.Typed.{KeyRow, LockRow, UploadRow, RetainRow};
@@ -28,7 +28,7 @@ pub fn add_key<T: Alter>(to: &mut Connection<T>, tenant: &str, row: &Row) -> Res
     Ok(())
 }
 
-/// Adds which bucket is locked.
+/// Adds a bucket's lock.
 pub fn add_lock<T: Alter>(to: &mut Connection<T>, tenant: &str, row: &Row) -> Result<(), Error>
     requires inside { InTransaction T.Store to.old }
     ensures writes { Writes T.Store to.old to.new result }

@@ -17,7 +17,7 @@ use bh_schema::host::Digester;
 use bh_tenant_rows::reads::Owned;
 use sqlite::{Alter, Connection, Error};
 
-/// Adds a tenant with its numbers, and the keys, buckets and locks that it has in another host.
+/// Adds a tenant with its numbers, and with its keys, buckets and locks in another host.
 fn bring_names<S: Alter, T: Alter, D: Digester>(
     from: &mut Connection<S>,
     to: &mut Connection<T>,
@@ -39,8 +39,8 @@ fn bring_names<S: Alter, T: Alter, D: Digester>(
     Ok(())
 }
 
-/// Adds the versions, uploads, parts and dates that a tenant has in another host, and the bodies, under the next entry number that
-/// it has already.
+/// Adds the versions, uploads, parts and dates that a tenant has in another host, with their
+/// bodies, under the next entry number that it has already.
 fn bring_contents<S: Alter, T: Alter, D: Digester>(
     from: &mut Connection<S>,
     to: &mut Connection<T>,
@@ -61,7 +61,7 @@ fn bring_contents<S: Alter, T: Alter, D: Digester>(
     Ok(())
 }
 
-/// Adds a tenant that there isn't, with all rows and bodies that it has in another host.
+/// Adds a tenant that doesn't exist, with all rows and bodies that it has in another host.
 pub fn bring_rows<S: Alter, T: Alter, D: Digester>(
     from: &mut Connection<S>,
     to: &mut Connection<T>,

@@ -1,4 +1,4 @@
-//! The one tenant of a host.
+//! The only tenant of a host.
 
 ghost use Rattle.std.specs.Prelude.{◌≡◌, ◌≢◌, ◌∷◌, [], List, None, map, length, IfOk, IfSome};
 ghost use Rattle.std.specs.String.{string_bytes};
@@ -26,7 +26,7 @@ fn begin_and_read<S: Alter>(connection: &mut Connection<S>) -> Result<Vec<Row>, 
     Ok(rows)
 }
 
-/// The name in the one row that there is.
+/// The name in the only row.
 fn one_name(rows: &[Row]) -> Result<Option<String>, Error>
     ensures sole { IfOk result (λ found. IfSome found (λ name. (ts : List TenantRow) → rows.now ≡ map shown_name ts
         → map (λ (t : TenantRow). t.tenant) ts ≡ string_bytes name ∷ [])) }
@@ -38,7 +38,7 @@ fn one_name(rows: &[Row]) -> Result<Option<String>, Error>
     }
 }
 
-/// The name of a host's tenant, where it has exactly one.
+/// The name of a host's tenant, if it has exactly one.
 pub fn sole_tenant<S: Alter>(connection: &mut Connection<S>) -> Result<Option<String>, Error>
     requires ready { IsReady S.Store connection.old }
     ensures follows { KeepsDisk (state S.Store connection.old) (state S.Store connection.new) }

@@ -9,7 +9,7 @@ use crate::cells::in_range;
 use bh_schema::rows::host::{find_latest, set_latest};
 use sqlite::{Alter, Connection, Error};
 
-/// Makes the later of two hosts' last stamps the one of the second.
+/// Sets the second host's last stamp to the later of the two hosts'.
 pub fn stamp_later<S: Alter, T: Alter>(
     from: &mut Connection<S>,
     to: &mut Connection<T>,

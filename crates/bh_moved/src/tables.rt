@@ -1,4 +1,4 @@
-//! The rows of a tenant in one table, brought from one host to another.
+//! Copies a tenant's rows of one table from one host to another.
 
 ghost use Rattle.std.specs.Prelude.{◌≡◌, ◌<◌, ◌^◌, List, map, IfOk, IfSome, OnOk};
 ghost use Rattle.bh_view.specs.Bodies.{HasBodies};
@@ -20,7 +20,8 @@ use bh_schema::host::Digester;
 use bh_tenant_rows::reads::{Owned, owned_rows};
 use sqlite::{Alter, Connection, Error, Row};
 
-/// The entry number under which the bytes of a row are stored: those of a version that is no delete marker, and of a part.
+/// The entry number under which a row's bytes are stored: those of a version that is not a delete
+/// marker, and of a part.
 fn find_body(table: Owned, row: &Row) -> Result<Option<u64>, Error>
     ensures body { IfOk result (λ body. (r : RowIn table) → row.now ≡ shown_row table r → body ≡ body_in table r) }
     ensures small { IfOk result (λ body. IfSome body (λ n. n < 2 ^ 63)) }
@@ -38,8 +39,8 @@ fn find_body(table: Owned, row: &Row) -> Result<Option<u64>, Error>
     }
 }
 
-/// Adds a row of this table to those of a tenant, a version or part under the next entry number that the tenant has already. The
-/// body of the row is there.
+/// Adds a row of this table to a tenant's. A version or part gets the next entry number that the
+/// tenant has already. The row's body was stored.
 fn add_row<T: Alter, D>(
     table: Owned,
     to: &mut Connection<T>,
@@ -63,7 +64,7 @@ fn add_row<T: Alter, D>(
     }
 }
 
-/// Adds a row of this table to those of a tenant with its body, if it has one.
+/// Adds a row of this table to a tenant's, with its body, if it has one.
 fn bring_row<S: Alter, T: Alter, D: Digester>(
     table: Owned,
     from: &mut Connection<S>,
@@ -114,8 +115,8 @@ fn bring_each<S: Alter, T: Alter, D: Digester>(
     Ok(())
 }
 
-/// Adds the rows of this table that a tenant has in another host with their bodies, versions and parts under the next entry number
-/// that the tenant has already.
+/// Adds the rows of this table that a tenant has in another host, with their bodies. Versions and
+/// parts get the next entry number that the tenant has already.
 pub fn bring_table<S: Alter, T: Alter, D: Digester>(
     table: Owned,
     from: &mut Connection<S>,

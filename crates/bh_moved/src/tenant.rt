@@ -1,4 +1,4 @@
-//! A tenant, with all that it has.
+//! A tenant with all its contents.
 
 ghost use Rattle.std.specs.Prelude.{◌≡◌, ◌≤◌, true, false, Some, None, find, is_some, IfOk, OnOk};
 ghost use Rattle.bh_types.specs.declared.refusal.Refusal.TheVariants.{NoSuchTenant, TenantExists};
@@ -20,7 +20,8 @@ use bh_types::refusal::Refusal;
 use sqlite::{Alter, Connection, Error};
 use std::alloc::Global;
 
-/// Adds a tenant that there isn't, with all that it has in another host, whose last stamp counts as well.
+/// Adds a tenant that doesn't exist, with all its contents in another host, and takes over that
+/// host's last stamp if it is later.
 fn bring_all<S: Alter, T: Alter, D: Digester>(
     from: &mut Connection<S>,
     to: &mut Connection<T>,
@@ -40,10 +41,12 @@ fn bring_all<S: Alter, T: Alter, D: Digester>(
     Ok(())
 }
 
-/// Adds a tenant with all that it has in another host: its quota, counters, keys, buckets, versions, markers, dates, uploads and
-/// parts, and the bytes of those, in blocks of at most this size. The later of the two last stamps becomes the host's.
+/// Adds a tenant with all its contents in another host: its quota, counters, keys, buckets,
+/// versions, markers, dates, uploads and parts. Their bytes are stored in blocks of at most
+/// `block_size` bytes. The host's last stamp becomes the later of the two.
 ///
-/// It is refused, and nothing is added: `NoSuchTenant` where the other host hasn't the tenant, `TenantExists` where this one has it.
+/// Refuses with `NoSuchTenant` if the other host doesn't have the tenant, and with `TenantExists`
+/// if this one has it. Then nothing is added.
 pub fn bring_tenant<S: Alter, T: Alter, D: Digester>(
     from: &mut Connection<S>,
     to: &mut Connection<T>,
@@ -73,7 +76,7 @@ pub fn bring_tenant<S: Alter, T: Alter, D: Digester>(
     if find_tenant(to, tenant)?.is_some() {
         return Ok(Some(Refusal::TenantExists));
     }
-    // No column holds a larger one.
+    // No column has a larger one.
     in_range(numbers.next_entry)?;
     let moving = Moving {
         alloc,

@@ -44,7 +44,8 @@ fn read_version(row: &Row) -> Result<ReadVersion, Error>
     })
 }
 
-/// Adds the row of a version, whose body is there, under the next entry number that the tenant has already.
+/// Adds the row of a version, whose body was stored, under the next entry number that the tenant
+/// has already.
 fn add_object<T: Alter, D>(
     to: &mut Connection<T>,
     moving: &Moving<'_, D>,
@@ -96,8 +97,8 @@ fn add_marker<T: Alter>(to: &mut Connection<T>, tenant: &str, row: &Row) -> Resu
     Ok(())
 }
 
-/// Adds the version or delete marker of a row, under the next entry number that the tenant has already. The body of a version is
-/// there.
+/// Adds the version or delete marker of a row, under the next entry number that the tenant has
+/// already. The body of a version was stored.
 pub fn add_entry<T: Alter, D>(
     to: &mut Connection<T>,
     moving: &Moving<'_, D>,

@@ -17,3 +17,4 @@ pub mod DatedPuts
 pub mod Undating
 pub mod Deleting
 pub mod Retaining
+pub mod Filling

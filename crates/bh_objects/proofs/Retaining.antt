@@ -5,7 +5,7 @@ use Rattle.std.specs.List.{AllByRecursion, list_any}
 use Rattle.std.proofs.lemmas.Bool.{and_parts}
 use Rattle.sqlite_typed.specs.Tests.{bytes_eq}
 use Rattle.bh_types.specs.Outcomes.{◌>>=◌}
-use Rattle.bh_types.specs.Rejections.{plain, plainly}
+use Rattle.bh_types.specs.Rejections.{plain, plainly, for_date}
 use Rattle.bh_types.specs.declared.bucket_state.BucketState.{BucketState}
 use Rattle.bh_types.specs.declared.refusal.Refusal.{Refusal}
 use Rattle.bh_types.specs.declared.rejection.Rejection.{Rejection}
@@ -68,6 +68,23 @@ opened_zero wanted (suc n) seen head e = absurd (true≢false (sym (ap is_ok e))
 no_marker : (wanted : Wanted) (o : Option VersionRow) (head : SeenHead) → head_looked wanted (option_map seen_head o) ≡ Ok head → (v : VersionRow) → o ≡ Some v → v.marker ≡ 0
 no_marker wanted o head e v there = opened_zero wanted v.marker (seen_head v) head (ap (λ p. head_looked wanted (option_map seen_head p)) (sym there) ∙ e)
 
+-- the refusal of an operation on a date
+abbrev rejection_in : {X : Type 0} → Result X Rejection → Rejection → Rejection
+rejection_in (Ok x) other = other
+rejection_in (Err y) other = y
+
+for_date_ok : {X : Type 0} (r : Result X Rejection) (x : X) → for_date r ≡ Ok x → r ≡ Ok x
+for_date_ok (Ok y) x e = e
+for_date_ok (Err y) x e = absurd (true≢false (sym (ap is_ok e)))
+
+for_date_err : {X Y : Type 0} (r : Result X Rejection) (l : Result Y Rejection) (x : Rejection) → ((y : Rejection) → r ≡ Err y → l ≡ Err y) → for_date r ≡ Err x → for_date l ≡ Err x
+for_date_err (Ok y) l x up e = absurd (true≢false (ap is_ok e))
+for_date_err (Err y) l x up e = ap for_date (up y refl) ∙ ap (λ r. Err (rejection_in r x)) e
+
+for_date_with : (B : Bucket) (r : Result Version Rejection) → for_date (◌>>=◌ {B = Bucket × Version} r (λ v. Ok (B, v))) ≡ ◌>>=◌ {B = Bucket × Version} (for_date r) (λ v. Ok (B, v))
+for_date_with B (Ok v) = refl
+for_date_with B (Err x) = refl
+
 abbrev fault_or : Result (Unit {0}) Refusal → Refusal → Refusal
 fault_or (Ok u) other = other
 fault_or (Err x) other = x
@@ -105,7 +122,7 @@ dated_then at b k until s B r = do
   _ ← plainly (may_retain (can_retain B.locked v.id) (date_of k v.id B) (Some until) at)
   Ok (Done, Some (with_bucket b (with_date k v.id (Some until) B) s))
 
-put_in : (b k : Octets) (wanted : Wanted) (at until : ℕ) (v : Option State) (s : State) (B : Bucket) → v ≡ Some s → get s.buckets b ≡ Some B → put_retention at b k wanted until v ≡ dated_then at b k until s B (told (lookup wanted (listed k B)))
+put_in : (b k : Octets) (wanted : Wanted) (at until : ℕ) (v : Option State) (s : State) (B : Bucket) → v ≡ Some s → get s.buckets b ≡ Some B → put_retention at b k wanted until v ≡ dated_then at b k until s B (for_date (told (lookup wanted (listed k B))))
 put_in b k wanted at until v s B is there = rw (is, there) refl
 
 abbrev told_date : Octets → Bucket → Option State → Result Version Rejection → Result Outcome Rejection
@@ -115,19 +132,24 @@ module _ (old : Tables) (t b k : Octets) (sound : IsSound old) (mode : BucketSta
   abbrev h : HasBucket b (view old t) mode
   h = has_bucket b (view old t) mode found
 
-  get_shape : get_retention b k wanted (view old t) ≡ told_date k h.bucket (view old t) (told (lookup wanted (listed k h.bucket)))
-  get_shape = ap (λ r. r >>= (λ (f : Bucket × Version). Ok (Retention (date_of k f.1.id f.0), view old t))) (version_in b k wanted (view old t) h.state h.bucket h.added h.there)
+  get_shape : get_retention b k wanted (view old t) ≡ told_date k h.bucket (view old t) (for_date (told (lookup wanted (listed k h.bucket))))
+  get_shape =
+      let shows : Result (Bucket × Version) Rejection → Result Outcome Rejection = λ r. r >>= (λ (f : Bucket × Version). Ok (Retention (date_of k f.1.id f.0), view old t)) in
+      ap (λ r. shows (for_date r)) (version_in b k wanted (view old t) h.state h.bucket h.added h.there) ∙ ap shows (for_date_with h.bucket (told (lookup wanted (listed k h.bucket))))
 
-  put_shape : (at until : ℕ) → put_retention at b k wanted until (view old t) ≡ dated_then at b k until h.state h.bucket (told (lookup wanted (listed k h.bucket)))
+  put_shape : (at until : ℕ) → put_retention at b k wanted until (view old t) ≡ dated_then at b k until h.state h.bucket (for_date (told (lookup wanted (listed k h.bucket))))
   put_shape at until = put_in b k wanted at until (view old t) h.state h.bucket h.added h.there
 
   -- a refusal of the lookup
-  module _ (x : Rejection) (e : head_looked wanted (option_map seen_head (wanted_row t b k wanted old.versions)) ≡ Err x) where
+  module _ (x : Rejection) (e : for_date (head_looked wanted (option_map seen_head (wanted_row t b k wanted old.versions))) ≡ Err x) where
+    refused_so : for_date (told (lookup wanted (listed k h.bucket))) ≡ Err x
+    refused_so = for_date_err _ (told (lookup wanted (listed k h.bucket))) x (λ y is. refused_up old t b k sound mode found wanted y is h) e
+
     pub get_is_refused : get_retention b k wanted (view old t) ≡ Err x
-    get_is_refused = get_shape ∙ ap (told_date k h.bucket (view old t)) (refused_up old t b k sound mode found wanted x e h)
+    get_is_refused = get_shape ∙ ap (told_date k h.bucket (view old t)) refused_so
 
     pub put_is_refused : (at until : ℕ) → put_retention at b k wanted until (view old t) ≡ Err x
-    put_is_refused at until = put_shape at until ∙ ap (dated_then at b k until h.state h.bucket) (refused_up old t b k sound mode found wanted x e h)
+    put_is_refused at until = put_shape at until ∙ ap (dated_then at b k until h.state h.bucket) refused_so
 
   -- a version
   module _ (head : SeenHead) (e : head_looked wanted (option_map seen_head (wanted_row t b k wanted old.versions)) ≡ Ok head) where
@@ -140,8 +162,8 @@ module _ (old : Tables) (t b k : Octets) (sound : IsSound old) (mode : BucketSta
     seen : seen_head row ≡ head
     seen = (its old t b k sound mode found wanted head e).seen
 
-    found_so : told (lookup wanted (listed k h.bucket)) ≡ Ok (version_of row)
-    found_so = found_up old t b k sound mode found wanted head e h
+    found_so : for_date (told (lookup wanted (listed k h.bucket))) ≡ Ok (version_of row)
+    found_so = ap for_date (found_up old t b k sound mode found wanted head e h)
 
     here : (row.bucket ≡ b) × (row.okey ≡ k)
     here = row_here t b k wanted old.versions row there
@@ -227,18 +249,21 @@ retains_alone t seq (Some present) until old new e = e ∙ ap (λ l. record old 
 
 module _ (old middle : Tables) (t b k : Octets) (sound : IsSound old) (mode : BucketState) (found : mode_in b (view old t) ≡ Ok mode) (wanted : Wanted) (one : middle ≡ old) where
   abbrev Looked : Result SeenHead Rejection → Type 0
-  Looked r = head_looked wanted (option_map seen_head (wanted_row t b k wanted middle.versions)) ≡ r
+  Looked r = for_date (head_looked wanted (option_map seen_head (wanted_row t b k wanted middle.versions))) ≡ r
 
-  looked_first : (r : Result SeenHead Rejection) → Looked r → head_looked wanted (option_map seen_head (wanted_row t b k wanted old.versions)) ≡ r
-  looked_first r e = ap (λ (x : Tables). head_looked wanted (option_map seen_head (wanted_row t b k wanted x.versions))) (sym one) ∙ e
+  looked_first : (r : Result SeenHead Rejection) → Looked r → for_date (head_looked wanted (option_map seen_head (wanted_row t b k wanted old.versions))) ≡ r
+  looked_first r e = ap (λ (x : Tables). for_date (head_looked wanted (option_map seen_head (wanted_row t b k wanted x.versions)))) (sym one) ∙ e
+
+  found_first : (head : SeenHead) → Looked (Ok head) → head_looked wanted (option_map seen_head (wanted_row t b k wanted old.versions)) ≡ Ok head
+  found_first head e = for_date_ok _ head (looked_first (Ok head) e)
 
   pub gets_failed : {X Y : Type 0} (view_head : X → SeenHead) (shows : Y → Answer) (new : Tables) (error : StepError Rejection)
-      → Decides view_head (head_looked wanted (option_map seen_head (wanted_row t b k wanted middle.versions))) middle new (Err error) → Carries shows t (get_retention b k wanted) old new (Err error)
+      → Decides view_head (for_date (head_looked wanted (option_map seen_head (wanted_row t b k wanted middle.versions)))) middle new (Err error) → Carries shows t (get_retention b k wanted) old new (Err error)
   gets_failed view_head shows new (Refused x) d = (get_is_refused old t b k sound mode found wanted x (looked_first (Err x) d.0), d.1 ∙ one)
   gets_failed view_head shows new (Failed trouble) d = tt
 
   pub puts_failed : {X Y : Type 0} (view_head : X → SeenHead) (shows : Y → Answer) (at until : ℕ) (new : Tables) (error : StepError Rejection)
-      → Decides view_head (head_looked wanted (option_map seen_head (wanted_row t b k wanted middle.versions))) middle new (Err error) → Carries shows t (put_retention at b k wanted until) old new (Err error)
+      → Decides view_head (for_date (head_looked wanted (option_map seen_head (wanted_row t b k wanted middle.versions)))) middle new (Err error) → Carries shows t (put_retention at b k wanted until) old new (Err error)
   puts_failed view_head shows at until new (Refused x) d = (put_is_refused old t b k sound mode found wanted x (looked_first (Err x) d.0) at until, d.1 ∙ one)
   puts_failed view_head shows at until new (Failed trouble) d = tt
 
@@ -247,7 +272,7 @@ module _ (old middle : Tables) (t b k : Octets) (sound : IsSound old) (mode : Bu
     gets new date is three =
         let same : new ≡ old = three ∙ two ∙ one in
         record {
-          gives = date_is_told old t b k sound mode found wanted head (looked_first (Ok head) e) ∙ ap (λ d. Ok (Retention d, view old t)) (sym (is ∙ ap (date_at t head.seq) (two ∙ one)))
+          gives = date_is_told old t b k sound mode found wanted head (found_first head e) ∙ ap (λ d. Ok (Retention d, view old t)) (sym (is ∙ ap (date_at t head.seq) (two ∙ one)))
               ∙ ap (λ (x : Tables). Ok (Retention date, view x t)) (sym same);
           others = λ u apart. ap (λ (x : Tables). view x u) same;
           latest = ap latest_of same;
@@ -256,7 +281,7 @@ module _ (old middle : Tables) (t b k : Octets) (sound : IsSound old) (mode : Bu
 
     pub puts_refused : (at until : ℕ) (new : Tables) (x : Refusal) → present_date_in t b head.id head.seq until at last ≡ Err x → new ≡ last → (put_retention at b k wanted until (view old t) ≡ Err (plain x)) × (new ≡ old)
     puts_refused at until new x refused three =
-        (date_is_refused old t b k sound mode found wanted head (looked_first (Ok head) e) at until x (ap (present_date_in t b head.id head.seq until at) (sym (two ∙ one)) ∙ refused), three ∙ two ∙ one)
+        (date_is_refused old t b k sound mode found wanted head (found_first head e) at until x (ap (present_date_in t b head.id head.seq until at) (sym (two ∙ one)) ∙ refused), three ∙ two ∙ one)
 
     pub puts_not_dated : {X Y : Type 0} (shows : X → Option ℕ) (tells : Y → Answer) (at until : ℕ) (new : Tables) (error : StepError Refusal) → Decides shows (present_date_in t b head.id head.seq until at last) last new (Err error)
         → Carries tells t (put_retention at b k wanted until) old new (Err (step_rejected error))
@@ -267,5 +292,5 @@ module _ (old middle : Tables) (t b k : Octets) (sound : IsSound old) (mode : Bu
         → GivesStep t (put_retention at b k wanted until) Done old new × IsSound new × (limits_in new ≡ limits_in old) × (new ≡ record old { retains = new.retains })
     puts at until near present may third new three is =
         let first : new ≡ with_date_row t head.seq present (Some until) old = is ∙ ap (with_date_row t head.seq present (Some until)) (three ∙ two ∙ one) in
-        let it = dates old t b k sound mode found wanted head (looked_first (Ok head) e) at until near present (ap (present_date_in t b head.id head.seq until at) (sym (two ∙ one)) ∙ may) new first in
+        let it = dates old t b k sound mode found wanted head (found_first head e) at until near present (ap (present_date_in t b head.id head.seq until at) (sym (two ∙ one)) ∙ may) new first in
         (it.0, it.1, it.2, retains_alone t head.seq present until old new first)

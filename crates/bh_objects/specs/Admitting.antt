@@ -1,4 +1,4 @@
--- What a put of so many bytes gets, before any of them comes.
+-- What is decided about a put of some size, before its bytes are received.
 use Rattle.std.specs.Prelude.{ℕ, Option, Result, Ok}
 use Rattle.bh_types.specs.Counts.{Counts}
 use Rattle.bh_types.specs.Outcomes.{◌>>=◌}
@@ -22,6 +22,6 @@ admitted_in mode name key date at size s = do
 abbrev pub numbers_admitted : Admitted → Option ℕ × (Counts × Counts)
 numbers_admitted it = (it.until, (it.entry.numbers.before, it.entry.numbers.after))
 
--- the machine's step of a put, by the bytes that come and the checksum that may be given
+-- the machine's step of a put, by the received bytes and the optional checksum
 abbrev pub put_step : NewObject → Option Octets → Octets → Option State → Result machine.Outcome Refusal
 put_step object given bytes = machine.put_object object.at object.bucket.now object.key.now bytes given object.date

@@ -1,6 +1,6 @@
--- What is answered of the rows that were found.
+-- Answers from the rows that were found.
 use Rattle.std.specs.Prelude.{ℕ, zero, suc, Bool, true, false, Option, Some, None, Result, Ok, Err}
-use Rattle.bh_types.specs.Rejections.{plain}
+use Rattle.bh_types.specs.Rejections.{plain, date_refused}
 use Rattle.bh_types.specs.declared.bucket_state.BucketState.{BucketState}
 use Rattle.bh_types.specs.declared.wanted.Wanted.{Wanted}
 use Rattle.bh_types.specs.declared.wanted.Wanted.TheVariants.{Current, Named, Unknown}
@@ -10,14 +10,16 @@ use Rattle.bh_types.specs.declared.rejection.Rejection.{Rejection}
 use Rattle.bh_model.specs.Operations.{Answer, Head, id_told}
 use Rattle.bh_view.specs.View.{id_of}
 use Rattle.bh_schema.specs.Rows.{SeenHead}
+use Rattle.bh_storage.specs.declared.error.StepError.{StepError}
+use Rattle.bh_storage.specs.declared.error.StepError.TheVariants.{Refused, Failed}
 
--- no entry is there
+-- there is no entry
 abbrev pub missing : Wanted → Rejection
 missing Current = plain NoSuchKey
 missing (Named id) = plain NoSuchVersion
 missing Unknown = plain NoSuchVersion
 
--- a delete marker is no object, and the refusal tells of it
+-- a delete marker is not an object, and the refusal carries its details
 abbrev pub marker_refused : Wanted → Rejection
 marker_refused Current = record { refusal = NoSuchKey; detail = CurrentMarker }
 marker_refused (Named id) = record { refusal = MethodNotAllowed; detail = NamedMarker }
@@ -31,6 +33,11 @@ head_opened wanted (suc n) head = Err (marker_refused wanted)
 abbrev pub head_looked : Wanted → Option SeenHead → Result SeenHead Rejection
 head_looked wanted None = Err (missing wanted)
 head_looked wanted (Some head) = head_opened wanted head.marker head
+
+-- the error of an operation on a date, if that of an operation on objects is this one
+abbrev pub date_step_refused : StepError Rejection → StepError Rejection
+date_step_refused (Refused rejection) = Refused (date_refused rejection)
+date_step_refused (Failed trouble) = Failed trouble
 
 abbrev pub head_told : BucketState → SeenHead → Answer
 head_told mode head = Head (id_told mode (id_of head.id)) head.size head.checksum

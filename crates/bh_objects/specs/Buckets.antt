@@ -1,4 +1,4 @@
--- What is read of a tenant's buckets, and the rows of one that comes or goes.
+-- What is read of a tenant's buckets, and the rows after one is created or deleted.
 use Rattle.std.specs.Prelude.{ℕ, Bool, true, false, not, ◌&&◌, ◌++◌, [], ◌∷◌, None, Result, if◌then◌else◌}
 use Rattle.std.specs.List.{list_any}
 use Rattle.sqlite_keyed.specs.Lists.{delete_where}
@@ -53,7 +53,7 @@ with_row tenant bucket at state tables =
 abbrev pub with_bucket : Octets → Octets → ℕ → Bool → Tables → Tables
 with_bucket tenant bucket at locked tables = with_lock tenant bucket locked (with_row tenant bucket at (first_state locked) tables)
 
--- ---- a bucket that goes
+-- ---- a bucket that is deleted
 
 abbrev pub without_lock : Octets → Octets → Tables → Tables
 without_lock tenant bucket tables = record tables { locks = delete_where (is_lock tenant bucket) tables.locks }

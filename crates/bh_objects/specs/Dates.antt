@@ -1,4 +1,4 @@
--- The dates of versions, as their rows have them, and what is written of them.
+-- The dates of versions, as their rows have them, and their writes.
 use Rattle.std.specs.Prelude.{◌≡◌, ℕ, Bool, ◌++◌, [], ◌∷◌, find, Option, Some, None, option_map, Result, Ok}
 use Rattle.std.specs.List.{list_any}
 use Rattle.sqlite_keyed.specs.Lists.{update_where, delete_where}
@@ -25,7 +25,7 @@ locked_at tenant bucket tables = list_any (is_lock tenant bucket) tables.locks
 abbrev pub new_date_at : Octets → Octets → Option (Option ℕ) → ℕ → Tables → Result (Option ℕ) Refusal
 new_date_at tenant bucket given at tables = first_date (locked_at tenant bucket tables) given at
 
--- that date in the words of the machine
+-- that date in the machine's terms
 abbrev pub new_date_in : Octets → Option (Option ℕ) → ℕ → Option State → Result (Option ℕ) Refusal
 new_date_in name given at s = do
   f ← tenant_bucket name s
@@ -62,9 +62,9 @@ pub record IsPlaced (t b k : Octets) (number entry : ℕ) (tables : Tables) : Ty
   pub body : row.marker ≡ 0
   pub undated : date_at t row.seq tables ≡ None
 
--- ---- what is written
+-- ---- the writes
 
--- the tables with the date of a version, which has this one at present or none, as it is to be
+-- the tables with a version's new date or none; at present it has this one or none
 abbrev pub with_date : Octets → ℕ → Option ℕ → Option ℕ → Tables → Tables
 with_date tenant seq None None tables = tables
 with_date tenant seq None (Some until) tables =

@@ -1,4 +1,5 @@
--- A refusal that is told once a body came, and what became of a body whose bytes were stored.
+-- A refusal that is returned after a body was received, and the outcome of a body whose bytes were
+-- stored.
 use Rattle.std.specs.Prelude.{◌≡◌, true, false, Option, Result, Ok, Err}
 use Rattle.std.specs.String.{string_bytes}
 use Rattle.std.specs.declared.alloc.Global.{Global}
@@ -19,13 +20,13 @@ abbrev pub IfRefused : StepError Refusal → (Refusal → Type 0) → Type 0
 IfRefused (Refused r) P = P r
 IfRefused (Failed trouble) P = Unit {0}
 
--- it is one of these, and all of the body came; or that broke off, or memory was wanting
+-- it is one of these, and the whole body was received; or the body broke off, or memory ran out
 abbrev pub RefusedBy : (Refusal → Type 0) → StepError Refusal → Coming → Type 0
 RefusedBy P (Refused r) body = P r × IsWhole body
 RefusedBy P (Failed trouble) body = MayBreak body
 
--- the bytes that came have the checksum that is given, if one is, and this is done with them; or have it not; or memory or the
--- store was wanting, or the body broke off
+-- the received bytes have the given checksum, if one is given, and this is done with them. Or they
+-- don't have it, or memory or the store failed, or the body broke off
 abbrev pub ReceivedAs : Octets → Option Octets → Type 0 → Coming → Result (Outcome (String Global) Refusal) Trouble → Type 0
 ReceivedAs bytes given Did after (Ok (Done text)) =
     IsWhole after × (is_checksum given bytes ≡ true) × (string_bytes text ≡ checksum_text bytes) × Did

@@ -1,6 +1,8 @@
--- What a call that stores the bytes of a body needs, and what it leaves.
-use Rattle.std.specs.Prelude.{◌≡◌, ◌≤◌, ◌<◌, ◌^◌, ℕ, [], None, Result, IfOk, IfErr, OnOk}
+-- The preconditions and the effect of a call that stores the bytes of a body.
+use Rattle.std.specs.Prelude.{◌≡◌, ◌≤◌, ◌<◌, ◌^◌, ℕ, [], length, None, Result, IfOk, IfErr, OnOk}
+use Rattle.sha2.specs.Hashers.{Holds256}
 use Rattle.sha2.specs.Sha256.{sha256}
+use Rattle.sha2.specs.declared.Sha256.{Sha256}
 use Rattle.sqlite.specs.Held.{Held}
 use Rattle.sqlite_trees.specs.declared.store.Store.{Ghosts}
 use Rattle.bh_http.specs.Bodies.{Coming, Gives, IsWhole, MayBreak}
@@ -13,9 +15,10 @@ use Rattle.bh_view.specs.View.{latest_of}
 use Rattle.bh_cache.specs.Kept.{KeptBlocks, AreCopies}
 use Rattle.bh_schema.specs.Connections.{IsClean, tables, InTransaction, StaysWithin, StaysOpen, Becomes}
 use Rattle.bh_schema.specs.Working.{Works}
+use Rattle.bh_blocks.specs.Drafts.{Goes, drafted}
 use Rattle.bh_blocks.specs.declared.drafts.Draft.{Draft}
 
--- nothing of a body is there yet
+-- the body has no rows yet
 pub record IsBegun (draft : Draft) : Type 0 where
   pub size : 1 ≤ draft.size
   pub body : draft.body < 2 ^ 63
@@ -23,20 +26,44 @@ pub record IsBegun (draft : Draft) : Type 0 where
   pub waiting : draft.waiting.items ≡ []
 
 module _ {S : Type 0} (g : Ghosts S) where
-  -- bytes of a body that comes may be stored, in blocks of a size
+  -- the received bytes of a body may be stored, in blocks of a size
   pub record MayStore (kept : KeptBlocks) (size : ℕ) (c : Held S) (body : Coming) : Type 0 where
     pub inside : InTransaction g c
     pub copies : IsClean g c → AreCopies kept (tables g c).blocks
     pub positive : 1 ≤ size
     pub going : body.broken ≡ None
 
-  -- all that came of a body is stored under this name, unless it broke off or the store was wanting, and its SHA-256 digest is told
+  -- the whole received body is stored under this name, and its SHA-256 digest returned, unless it
+  -- broke off or the store failed
   pub record Stores (digest : Octets → Octets) (size : ℕ) (name : Name) (before after : Coming) (old new : Held S)
       (result : Result Octets Trouble) : Type 0 where
     pub within : StaysWithin g old new
     pub opens : OnOk result (StaysOpen g old new)
     pub stored : IfOk result (λ sum. (given : Octets) × Gives before after given × IsWhole after × (sum ≡ sha256 given)
         × Becomes g old new (body_stored digest name 0 (pieces size given)))
+    pub stopped : IfErr result (λ _. (given : Octets) × Gives before after given × MayBreak after)
+
+  -- some of a body was received: it is hashed, and stored or waiting in the draft
+  pub record IsTaken (digest : Octets → Octets) (kept : KeptBlocks) (begun draft : Draft) (before after : Coming) (old new : Held S)
+      (hasher : Sha256) : Type 0 where
+    pub within : StaysWithin g old new
+    pub opens : StaysOpen g old new
+    pub inside : InTransaction g new
+    pub copies : IsClean g new → AreCopies kept (tables g new).blocks
+    pub of : drafted draft ≡ drafted begun
+    pub body : draft.body < 2 ^ 63
+    pub size : draft.size ≡ begun.size
+    pub place : draft.place < 2 ^ 63
+    pub fewer : length draft.waiting.items < draft.size
+    pub going : after.broken ≡ None
+    pub came : (given : Octets) × Gives before after given × Holds256 hasher given
+        × (IsClean g new → Goes digest draft (tables g new) given (tables g old))
+
+  -- the same of a call's result, unless the body broke off, or memory or the store failed
+  pub record Takes (digest : Octets → Octets) (kept : KeptBlocks) (begun draft : Draft) (before after : Coming) (old new : Held S)
+      (result : Result Sha256 Trouble) : Type 0 where
+    pub within : StaysWithin g old new
+    pub taken : IfOk result (IsTaken digest kept begun draft before after old new)
     pub stopped : IfErr result (λ _. (given : Octets) × Gives before after given × MayBreak after)
 
   -- a put at a moment may begin

@@ -1,4 +1,4 @@
--- What a put or a delete writes, one call after another.
+-- The writes of a put or a delete, one call after another.
 use Rattle.std.specs.Prelude.{ℕ, ◌++◌, [], ◌∷◌, Option, find, if◌then◌else◌}
 use Rattle.std.specs.Option.{option_map_or}
 use Rattle.sqlite_keyed.specs.Lists.{update_where, delete_where}
@@ -15,7 +15,7 @@ use Rattle.bh_view.specs.Put.{entry_row, row_number, counters_row}
 use Rattle.bh_objects.specs.Answers.{is_marked}
 use Rattle.bh_objects.specs.declared.quotas.Replaced.{Replaced}
 
--- the counters have gone on, as a new entry in a bucket of this state has them
+-- the counters advanced for a new entry in a bucket of this state
 abbrev pub with_counters : BucketState → Counts → Octets → Tables → Tables
 with_counters mode after tenant tables =
     record tables { tenants = update_where (is_tenant tenant) (counters_row mode after) tables.tenants }
@@ -29,7 +29,7 @@ without_row tenant bucket key number tables =
 abbrev pub without_entry : Octets → Octets → Octets → ℕ → ℕ → Tables → Tables
 without_entry tenant bucket key number seq tables = without_row tenant bucket key number (body_dropped (tenant, seq) tables)
 
--- without the entry `null` and its body, if it is there
+-- without the entry `null` and its body, if there is one
 abbrev pub without_null : Octets → Octets → Octets → Tables → Tables
 without_null tenant bucket key tables =
     option_map_or (λ v. without_entry tenant bucket key 0 v.seq tables) (find (is_version tenant bucket key 0) tables.versions) tables
@@ -46,7 +46,7 @@ with_room Unversioned tenant bucket key tables = without_null tenant bucket key 
 with_room Enabled tenant bucket key tables = tables
 with_room Suspended tenant bucket key tables = without_null tenant bucket key tables
 
--- the rows without the entry `null`, where it was found
+-- the rows without the entry `null`, if it was found
 abbrev pub without_replaced : Octets → Octets → Octets → Option Replaced → Tables → Tables
 without_replaced tenant bucket key replaced tables = option_map_or (λ r. without_entry tenant bucket key 0 r.seq tables) replaced tables
 
@@ -75,7 +75,7 @@ with_version mode before tenant bucket key moment size checksum tables = record 
 
 -- ---- a put
 
--- an object, whose body is stored before what it replaces goes, where that was found
+-- an object, whose body is stored before the replaced entry is removed, if there is one
 abbrev pub object_written : (Octets → Octets) → ℕ → BucketState → Counts → Counts → Option Replaced → Octets → Octets → Octets → ℕ → Octets
     → Tables → Tables
 object_written digest size mode before after replaced tenant bucket key moment bytes tables =

@@ -1,4 +1,4 @@
-//! A body that is stored as it comes.
+//! Storing a body while it is received.
 
 ghost use Rattle.std.specs.Prelude.{◌≡◌, ◌<◌, ◌≤◌, ◌^◌, Some, None, if◌then◌else◌, IfOk, IfErr, OnOk};
 ghost use Rattle.sha2.specs.Sha256.{sha256};
@@ -13,13 +13,13 @@ ghost use Rattle.bh_tables.specs.Schema.{Octets};
 ghost use Rattle.bh_view.specs.Bodies.{pieces, body_stored};
 ghost use Rattle.bh_schema.specs.Connections.{IsClean, tables, InTransaction, StaysWithin, StaysOpen, Becomes};
 ghost use Rattle.bh_cache.specs.Kept.{AreCopies};
-ghost use Rattle.bh_blocks.specs.Drafts.{drafted};
 ghost use Rattle.bh_objects.specs.Calls.{Changes};
 ghost use Rattle.bh_objects.specs.Refusing.{RefusedBy, IfRefused, IsReceived};
-ghost use Rattle.bh_objects.specs.Storing.{IsBegun, MayStore, Stores};
+ghost use Rattle.bh_objects.specs.Storing.{MayStore, Stores};
 
+use crate::coming::{buffer_size, take_all};
 use bh_blocks::bodies::store_body;
-use bh_blocks::drafts::{Draft, begin_body, end_body, push};
+use bh_blocks::drafts::{begin_body, end_body};
 use bh_cache::blocks::BlockCache;
 use bh_http::body::{Body, Break, PIECE, collect, drain};
 use bh_schema::host::Digester;
@@ -31,18 +31,19 @@ use sha2::{Digest, Sha256};
 use sqlite::{Alter, Connection};
 use std::alloc::Global;
 
-/// What the bytes of objects and of parts are stored by.
+/// The digester, the cache and the block size for storing bodies.
 #[derive(Drop)]
 pub struct Blocks<'c, 'd, D> {
-    /// The blocks that are kept in memory.
+    /// The cache of blocks that were read.
     pub cache: &'c BlockCache,
     /// Names blocks.
     pub digester: &'d D,
-    /// The most bytes of a block.
+    /// The maximum size of a block in bytes.
     pub size: u64,
 }
 
-/// Stores the bytes of a body, whose SHA-256 digest (FIPS 180-4) is told: those of one block are read once.
+/// Stores the bytes of a body, and returns their SHA-256 digest (FIPS 180-4). If they fit in one
+/// block, they are read once.
 fn store_bytes<S: Alter, D: Digester>(
     connection: &mut Connection<S>,
     alloc: Global,
@@ -67,35 +68,30 @@ fn store_bytes<S: Alter, D: Digester>(
     Ok(sum)
 }
 
-/// Stores what comes of a body as blocks of a draft of which nothing is there, and gives its SHA-256 digest (FIPS 180-4). Of
-/// its bytes those of a piece and of a block are held.
+/// Stores a body while it is received, and returns its SHA-256 digest (FIPS 180-4). It has eight
+/// blocks in memory, of at most 512 KiB, and one more.
 fn store_pieces<S: Alter, D: Digester, B: Body>(
     connection: &mut Connection<S>,
+    alloc: Global,
     blocks: &Blocks<'_, '_, D>,
-    mut draft: Draft<'_>,
+    tenant: &str,
+    number: u64,
     body: &mut B,
 ) -> Result<[u8; 32], Trouble>
-    requires inside { InTransaction S.Store connection.old }
-    requires copies { IsClean S.Store connection.old → AreCopies blocks.now.cache.now (tables S.Store connection.old).blocks }
-    requires begun { IsBegun draft }
-    requires going { (B.coming body.old).broken ≡ None }
-    ensures stores { Stores S.Store D.digest_of draft.entry.size (drafted draft.entry) (B.coming body.old) (B.coming body.new)
+    requires may { MayStore S.Store blocks.now.cache.now blocks.now.size connection.old (B.coming body.old) }
+    requires small { number < 2 ^ 63 }
+    ensures stores { Stores S.Store D.digest_of blocks.now.size (tenant.now, number) (B.coming body.old) (B.coming body.new)
         connection.old connection.new result }
 {
-    let mut room = [0u8; PIECE];
-    let mut hasher = Sha256::new();
-    'taking: while body.due() > 0 {
-        let count = body.next(&mut room)?;
-        let piece = &room[..count];
-        or_trouble(push(connection, blocks.cache, blocks.digester, &mut draft, piece))?;
-        hasher.update(piece);
-    }
+    let mut draft = begin_body(alloc, tenant, number, blocks.size);
+    let mut buffer = vec![in alloc; 0u8; buffer_size(blocks.size, body.due())]?;
+    let hasher = take_all(connection, blocks, &mut draft, body, &mut buffer)?;
     or_trouble(end_body(connection, blocks.cache, blocks.digester, draft))?;
     Ok(hasher.finalize())
 }
 
-/// Stores a body as it comes, in blocks of a size, and gives its SHA-256 digest (FIPS 180-4). After an error the
-/// transaction is to be taken back.
+/// Stores a body while it is received, in blocks of `size` bytes, and returns its SHA-256 digest
+/// (FIPS 180-4). After an error the transaction has to be rolled back.
 fn store_coming<S: Alter, D: Digester, B: Body>(
     connection: &mut Connection<S>,
     alloc: Global,
@@ -113,12 +109,11 @@ fn store_coming<S: Alter, D: Digester, B: Body>(
         let bytes = collect(alloc, body)?;
         store_bytes(connection, alloc, blocks, tenant, number, &bytes)
     } else {
-        let draft = begin_body(alloc, tenant, number, blocks.size);
-        store_pieces(connection, blocks, draft, body)
+        store_pieces(connection, alloc, blocks, tenant, number, body)
     }
 }
 
-/// Whether bytes of this checksum's text have the one that a request gives, if it gives one.
+/// Whether a checksum's text is the one that a request gives, if it gives one.
 fn is_given(given: Option<&[u8]>, text: &str) -> bool
     ensures { (bytes : Octets) → text.now ≡ checksum_text bytes → result ≡ is_checksum (option_copied given.entry) bytes }
 {
@@ -128,8 +123,8 @@ fn is_given(given: Option<&[u8]>, text: &str) -> bool
     }
 }
 
-/// Stores a body as it comes, in blocks of a size, and gives its checksum: BadDigest where another is given, with the blocks
-/// that were stored.
+/// Stores a body while it is received, in blocks of a size, and returns its checksum. It refuses
+/// with BadDigest, after the blocks were stored, if the request gives another checksum.
 pub fn store_checked<S: Alter, D: Digester, B: Body>(
     connection: &mut Connection<S>,
     alloc: Global,
@@ -155,7 +150,7 @@ pub fn store_checked<S: Alter, D: Digester, B: Body>(
     }
 }
 
-/// The SHA-256 digest (FIPS 180-4) of what is to come of a body, which is forgotten.
+/// The SHA-256 digest (FIPS 180-4) of the rest of a body, whose bytes are discarded.
 fn hash_coming<B: Body>(body: &mut B) -> Result<[u8; 32], Break>
     requires going { (B.coming body.old).broken ≡ None }
     ensures hashed { IfOk result (λ sum. (given : Octets) × Gives (B.coming body.old) (B.coming body.new) given
@@ -172,7 +167,8 @@ fn hash_coming<B: Body>(body: &mut B) -> Result<[u8; 32], Break>
     Ok(hasher.finalize())
 }
 
-/// What ended an operation before its body came: a refusal is told once all of the body came.
+/// The error of an operation that ended before its body was received. A refusal is returned only
+/// after the whole body was received.
 pub fn refused_whole<B: Body>(body: &mut B, error: StepError<Refusal>) -> StepError<Refusal>
     requires going { (B.coming body.old).broken ≡ None }
     ensures came { (given : Octets) × Gives (B.coming body.old) (B.coming body.new) given
@@ -187,7 +183,8 @@ pub fn refused_whole<B: Body>(body: &mut B, error: StepError<Refusal>) -> StepEr
     }
 }
 
-/// A refusal, told once all of the body came, unless a request gives another checksum than the body's: then it is BadDigest.
+/// A refusal, returned after the whole body was received. It is BadDigest if the request gives a
+/// checksum that isn't the body's.
 pub fn refused_checked<B: Body>(
     alloc: Global,
     body: &mut B,
@@ -211,7 +208,7 @@ pub fn refused_checked<B: Body>(
     }
 }
 
-/// A refusal, or BadDigest where the text is not that of a digest.
+/// A refusal, or BadDigest if the text isn't the digest's.
 fn refused_for(alloc: Global, sum: &[u8; 32], text: &[u8], refusal: Refusal) -> StepError<Refusal>
     ensures { (bytes : Octets) → sum.now ≡ sha256 bytes
         → IfRefused result (λ r. r ≡ (if is_checksum (Some text.now) bytes then refusal else BadDigest)) }

@@ -33,7 +33,7 @@ use bh_types::refusal::Refusal;
 use sqlite::{Alter, Connection, Error};
 use std::alloc::{AllocError, Global};
 
-/// The state of a new bucket: a locked one keeps its versions from its making on.
+/// The state of a new bucket: a locked one keeps its versions from the start.
 fn first_state(locked: bool) -> BucketState
     ensures { result ≡ spec.first_state locked }
 {
@@ -44,7 +44,7 @@ fn first_state(locked: bool) -> BucketState
     }
 }
 
-/// Locks a new bucket, if it is to be locked.
+/// Locks a new bucket, if the request asks for it.
 fn add_lock<S: Alter>(
     connection: &mut Connection<S>,
     tenant: &TenantName,
@@ -61,7 +61,7 @@ fn add_lock<S: Alter>(
     Ok(())
 }
 
-/// The rows of a new bucket: its own and then the lock, since a locked bucket is Enabled.
+/// Adds the rows of a new bucket: its own and then the lock, since a locked bucket is Enabled.
 fn add_bucket<S: Alter>(
     connection: &mut Connection<S>,
     tenant: &TenantName,
@@ -84,8 +84,8 @@ fn add_bucket<S: Alter>(
     add_lock(connection, tenant, bucket, locked)
 }
 
-/// S3's CreateBucket, locked or not, at a moment that is not after the last stamp: NoSuchTenant,
-/// BucketAlreadyOwnedByYou.
+/// S3's CreateBucket, locked or not, at a moment that is not after the last stamp. Refusals:
+/// NoSuchTenant, BucketAlreadyOwnedByYou.
 pub fn create_bucket<S: Alter>(
     connection: &mut Connection<S>,
     tenant: &TenantName,
@@ -134,7 +134,7 @@ pub fn versioning<S: Alter>(
     bucket_state(connection, tenant, bucket)
 }
 
-/// Whether a bucket, locked or not, keeps all its versions in this state as it has to.
+/// Whether this state keeps all versions of a bucket, if the bucket is locked.
 fn keeps_versions(locked: bool, state: BucketState) -> bool
     ensures { result ≡ retention.keeps_versions locked state }
 {
@@ -145,7 +145,8 @@ fn keeps_versions(locked: bool, state: BucketState) -> bool
     }
 }
 
-/// Whether a tenant's bucket may have this state: InvalidBucketState where it is locked and would not keep its versions.
+/// Fails with InvalidBucketState if a tenant's bucket is locked and would not keep its versions in
+/// this state.
 fn require_kept<S: Alter>(
     connection: &mut Connection<S>,
     tenant: &TenantName,
@@ -166,7 +167,8 @@ fn require_kept<S: Alter>(
     }
 }
 
-/// S3's PutBucketVersioning: NoSuchBucket, InvalidBucketState. No bucket goes back to the state that it was made in.
+/// S3's PutBucketVersioning. Refusals: NoSuchBucket, InvalidBucketState. No bucket returns to its
+/// first state, Unversioned.
 pub fn set_versioning<S: Alter>(
     connection: &mut Connection<S>,
     tenant: &TenantName,
@@ -185,7 +187,7 @@ pub fn set_versioning<S: Alter>(
     Ok(())
 }
 
-/// Whether no version, no marker and no upload is in a tenant's bucket.
+/// Whether a tenant's bucket has no version, no marker and no upload.
 fn has_nothing<S: Alter>(
     connection: &mut Connection<S>,
     tenant: &str,
@@ -202,7 +204,7 @@ fn has_nothing<S: Alter>(
     Ok(!bucket_has(connection, tenant, bucket, Content::Upload)?)
 }
 
-/// Whether no version, no marker and no upload is in a tenant's bucket: BucketNotEmpty.
+/// Fails with BucketNotEmpty if a tenant's bucket has a version, a marker or an upload.
 fn require_empty<S: Alter>(
     connection: &mut Connection<S>,
     tenant: &TenantName,
@@ -220,7 +222,7 @@ fn require_empty<S: Alter>(
     Ok(())
 }
 
-/// Takes the rows of an empty bucket away: the lock, if it is locked, and then its own.
+/// Deletes the rows of an empty bucket: the lock, if it is locked, and then its own.
 fn drop_bucket<S: Alter>(
     connection: &mut Connection<S>,
     tenant: &TenantName,
@@ -234,8 +236,8 @@ fn drop_bucket<S: Alter>(
     Ok(())
 }
 
-/// S3's DeleteBucket: NoSuchBucket, BucketNotEmpty. A version, a delete marker or an upload that is neither
-/// completed nor aborted keeps a bucket; a lock alone doesn't.
+/// S3's DeleteBucket. Refusals: NoSuchBucket, BucketNotEmpty. A bucket isn't empty if it has a
+/// version, a delete marker or an unfinished upload; a lock doesn't count.
 pub fn delete_bucket<S: Alter>(
     connection: &mut Connection<S>,
     tenant: &TenantName,
@@ -252,7 +254,7 @@ pub fn delete_bucket<S: Alter>(
     Ok(nothing_told())
 }
 
-/// A bucket of a listing, as it is told. A moment that is none can't be read.
+/// A bucket's entry in a listing. A row whose moment is out of range is a failure.
 fn bucket_entry(alloc: Global, bucket: &ListedBucket) -> Result<BucketEntry, Trouble>
     ensures { IfOk result (λ entry. bucket_view entry ≡ entry_seen bucket.now) }
 {
@@ -274,7 +276,7 @@ fn bucket_entries(alloc: Global, listed: &[ListedBucket]) -> Result<Vec<BucketEn
     Ok(entries)
 }
 
-/// S3's ListBuckets: all of a tenant's buckets, by name in byte order. A tenant that was not added
+/// S3's ListBuckets: all of a tenant's buckets, by name in byte order. A tenant that doesn't exist
 /// has none.
 pub fn list_buckets<S: Alter>(
     connection: &mut Connection<S>,

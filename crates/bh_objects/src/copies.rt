@@ -41,20 +41,21 @@ use sqlite::{Alter, Connection};
 #[derive(Clone, Copy)]
 pub struct NewCopy<'a> {
     pub tenant: &'a TenantName,
-    /// Where the copy goes.
+    /// The bucket that the copy goes to.
     pub bucket: &'a BucketName,
     pub key: &'a ObjectKey,
-    /// When it is made.
+    /// When the copy is made.
     pub at: Moment,
-    /// Where it comes from.
+    /// The source's bucket.
     pub source_bucket: &'a BucketName,
     pub source_key: &'a ObjectKey,
     pub version: Wanted,
-    /// Until when the copy is kept, where that is given; the inner `None` is a date that is not given as it should be.
+    /// The date until which the copy is retained, if one is given; the inner `None` is an invalid
+    /// date.
     pub date: Option<Option<Moment>>,
 }
 
-/// A delete marker is no source of a copy: where it is named by its id, the request is at fault.
+/// A delete marker can't be the source of a copy: if it is named by its id, the request is invalid.
 fn source_refused(rejection: Rejection) -> Refusal
     ensures { result ≡ machine.source_refusal rejection.refusal }
 {
@@ -64,7 +65,8 @@ fn source_refused(rejection: Rejection) -> Refusal
     }
 }
 
-/// The version that a copy is made of, without its bytes: NoSuchBucket, NoSuchKey, NoSuchVersion, InvalidRequest.
+/// The source of a copy, without its bytes. Refusals: NoSuchBucket, NoSuchKey, NoSuchVersion,
+/// InvalidRequest.
 fn source_head<S: Alter>(
     connection: &mut Connection<S>,
     copy: &NewCopy<'_>,
@@ -89,8 +91,9 @@ fn source_head<S: Alter>(
     }
 }
 
-/// Puts a copy of a version into a bucket of this state, as a new entry: its body, which has the source's blocks,
-/// before what it replaces goes, since that may be the source, and then its row with the counters.
+/// Puts a copy of a version into a bucket of this state, as a new entry. Its body, with the
+/// source's blocks, is written before the replaced entry is removed, since that may be the source.
+/// Then its row is written, with the counters.
 fn write_copy<S: Alter>(
     connection: &mut Connection<S>,
     copy: &NewCopy<'_>,
@@ -107,7 +110,7 @@ fn write_copy<S: Alter>(
     ensures key { OnOk result (IsKeyText copy.now.key.now) }
 {
     let source = head.seq;
-    // No counter gives such a number.
+    // No counter reaches this number.
     if source >= COUNTER_END {
         return Err(Trouble::Store);
     }
@@ -130,8 +133,8 @@ fn write_copy<S: Alter>(
     add_version(connection, &version, mode, numbers)
 }
 
-/// Stores a copy of a version that was found as a new version without a date, in a bucket of this state: QuotaExceeded,
-/// CounterExhausted.
+/// Stores a copy of a version that was found as a new version without a date, in a bucket of this
+/// state. Refusals: QuotaExceeded, CounterExhausted.
 fn store_copy<S: Alter>(
     connection: &mut Connection<S>,
     copy: &NewCopy<'_>,
@@ -176,9 +179,10 @@ fn store_copy<S: Alter>(
     Ok(numbers)
 }
 
-/// S3's CopyObject, at a moment that is not after the last stamp: NoSuchBucket of the copy's bucket and then of the
-/// source's, NoSuchKey, NoSuchVersion, InvalidRequest, InvalidArgument, QuotaExceeded, CounterExhausted. The source's date
-/// stays with the source. No byte is read.
+/// S3's CopyObject, at a moment that is not after the last stamp. Refusals: NoSuchBucket for the
+/// copy's bucket and then for the source's, NoSuchKey, NoSuchVersion, InvalidRequest,
+/// InvalidArgument, QuotaExceeded, CounterExhausted. The source's date is not copied. No byte is
+/// read.
 pub fn copy_object<S: Alter>(
     connection: &mut Connection<S>,
     copy: &NewCopy<'_>,

@@ -1,4 +1,4 @@
-//! The dates before which versions of locked buckets may not be deleted: read, decided and written.
+//! The retention dates of versions in locked buckets: reading, checking and writing them.
 ghost use Rattle.std.specs.Prelude.{◌≡◌, ◌<◌, ◌≤◌, ◌^◌, ℕ, Some, IfOk, OnOk};
 ghost use Rattle.bh_model.specs.Retention as machine;
 ghost use Rattle.bh_storage.specs.Calls.{Unless, Decides};
@@ -35,7 +35,7 @@ pub fn version_date<S: Alter>(
     ensures found { IfOk result (λ date. IsClean S.Store connection.new
         → date ≡ date_at tenant.now seq (tables S.Store connection.old)) }
 {
-    // No counter gives such a number.
+    // No counter reaches this number.
     if seq >= COUNTER_END {
         return Err(Trouble::Store);
     }
@@ -48,8 +48,8 @@ pub fn version_date<S: Alter>(
     }
 }
 
-/// The date that a new version in a tenant's bucket gets at a moment, where its request gives one: InvalidRequest,
-/// InvalidArgument. The inner `None` is a date that is not given as it should be.
+/// The date of a new version in a tenant's bucket at a moment, if its request has one. Refusals:
+/// InvalidRequest, InvalidArgument. The inner `None` is an invalid date.
 pub fn new_date<S: Alter>(
     connection: &mut Connection<S>,
     tenant: &TenantName,
@@ -72,7 +72,7 @@ pub fn new_date<S: Alter>(
     }
 }
 
-/// A version's date, if it has one, where that is not after a moment: AccessDenied.
+/// A version's date, if it has one. Fails with AccessDenied if it is after a moment.
 fn require_past(date: Option<Moment>, at: Moment) -> Result<Option<Moment>, Refusal>
     ensures { result ≡ past_by date at }
 {
@@ -88,7 +88,8 @@ fn require_past(date: Option<Moment>, at: Moment) -> Result<Option<Moment>, Refu
     }
 }
 
-/// The date of a tenant's version with this entry number, if it has one, where that is not after a moment: AccessDenied.
+/// The date of a tenant's version with this entry number, if it has one. Fails with AccessDenied if
+/// it is after a moment.
 pub fn past_date<S: Alter>(
     connection: &mut Connection<S>,
     tenant: &TenantName,
@@ -115,8 +116,8 @@ fn can_retain(locked: bool, number: u64) -> bool
     }
 }
 
-/// The date of a version that can have one or not, if it has one, where it may have this one from a moment on: InvalidRequest,
-/// InvalidArgument, AccessDenied.
+/// The date that a version has already, if any, given that it may get another one at a moment.
+/// Refusals: InvalidRequest, InvalidArgument, AccessDenied.
 fn require_later(
     able: bool,
     present: Option<Moment>,
@@ -137,8 +138,8 @@ fn require_later(
     }
 }
 
-/// The date of a version that was found in a tenant's bucket, if it has one, where it may have this one from a moment on:
-/// InvalidRequest, InvalidArgument, AccessDenied.
+/// The date that a version in a tenant's bucket has already, if any, given that it may get another
+/// one at a moment. Refusals: InvalidRequest, InvalidArgument, AccessDenied.
 pub fn present_date<S: Alter>(
     connection: &mut Connection<S>,
     tenant: &TenantName,
@@ -159,7 +160,7 @@ pub fn present_date<S: Alter>(
     Ok(require_later(able, present, until, at)?)
 }
 
-/// Writes a date in the place of another, or of none, or takes it away.
+/// Writes a date in place of another one or of none, or deletes it.
 fn write_date<S: Alter>(
     connection: &mut Connection<S>,
     tenant: &str,
@@ -188,7 +189,8 @@ fn write_date<S: Alter>(
     }
 }
 
-/// Gives a tenant's version with this entry number, which has the date `present` or none, another date, or none.
+/// Changes the date of a tenant's version with this entry number, which has the date `present` or
+/// none, to another one or none.
 pub fn set_date<S: Alter>(
     connection: &mut Connection<S>,
     tenant: &TenantName,
@@ -200,7 +202,7 @@ pub fn set_date<S: Alter>(
     ensures changes { Changes S.Store connection.old connection.new result (with_date tenant.now seq present next) }
     ensures near { OnOk result ((until : ℕ) → next ≡ Some until → until ≤ 251_000_000_000) }
 {
-    // No counter gives such a number.
+    // No counter reaches this number.
     if seq >= COUNTER_END {
         return Err(Trouble::Store);
     }

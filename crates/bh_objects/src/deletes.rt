@@ -36,7 +36,7 @@ use bh_types::refusal::Refusal;
 use bh_types::wanted::Wanted;
 use sqlite::{Alter, Connection};
 
-/// What is told where no delete marker is made, and no entry is taken out by its id.
+/// The answer if no delete marker was made, and no entry was deleted by its id.
 pub fn nothing_told() -> RemovedEntry
     ensures { removed_answer result ≡ machine.Removed None false }
 {
@@ -46,7 +46,7 @@ pub fn nothing_told() -> RemovedEntry
     }
 }
 
-/// A delete marker is made, in a bucket that has or had versions: CounterExhausted.
+/// Adds a delete marker, in a bucket that has or had versions. Refusal: CounterExhausted.
 fn make_marker<S: Alter>(
     connection: &mut Connection<S>,
     tenant: &TenantName,
@@ -73,8 +73,8 @@ fn make_marker<S: Alter>(
     })
 }
 
-/// The version `null` goes, in a bucket that never had versions. A delete marker stays: no operation leaves one there, but
-/// the file that was opened may have had it.
+/// Deletes the version `null` in a bucket that never had versions. A delete marker stays: no
+/// operation leaves one there, but the file that was opened may have one.
 fn delete_null<S: Alter>(
     connection: &mut Connection<S>,
     tenant: &TenantName,
@@ -94,7 +94,8 @@ fn delete_null<S: Alter>(
     Ok(nothing_told())
 }
 
-/// The entry of a key with this number in the column `id` goes, after its date, if it has one.
+/// Deletes the entry of a key with this number in the column `id`, and first its date, if it has
+/// one.
 fn drop_dated<S: Alter>(
     connection: &mut Connection<S>,
     tenant: &TenantName,
@@ -115,8 +116,8 @@ fn drop_dated<S: Alter>(
     drop_entry(connection, tenant, bucket, key, number, entry)
 }
 
-/// The entry that was found of a key with this id, and this number in the column `id`, is taken out: AccessDenied before its
-/// date.
+/// Deletes the entry that was found of a key with this id, and this number in the column `id`.
+/// Fails with AccessDenied before its date.
 fn delete_found<S: Alter>(
     connection: &mut Connection<S>,
     tenant: &TenantName,
@@ -148,8 +149,8 @@ fn delete_found<S: Alter>(
     })
 }
 
-/// The entry of a key with this id, and this number in the column `id`, is taken out, if it is there: AccessDenied before
-/// its date.
+/// Deletes the entry of a key with this id, and this number in the column `id`, if there is one.
+/// Fails with AccessDenied before its date.
 fn delete_numbered<S: Alter>(
     connection: &mut Connection<S>,
     tenant: &TenantName,
@@ -200,7 +201,7 @@ fn delete_current<S: Alter>(
     }
 }
 
-/// A delete with an id: AccessDenied before the version's date.
+/// A delete with an id. Fails with AccessDenied before the version's date.
 fn delete_named<S: Alter>(
     connection: &mut Connection<S>,
     tenant: &TenantName,
@@ -223,8 +224,9 @@ fn delete_named<S: Alter>(
     }
 }
 
-/// S3's DeleteObject, at a moment that is not after the last stamp: NoSuchBucket, AccessDenied where a version is named by
-/// its id before its date, and CounterExhausted where a delete marker is made.
+/// S3's DeleteObject, at a moment that is not after the last stamp. Refusals: NoSuchBucket;
+/// AccessDenied if a version is named by its id before its date; CounterExhausted if a delete
+/// marker is made.
 pub fn delete_object<S: Alter>(
     connection: &mut Connection<S>,
     tenant: &TenantName,

@@ -36,7 +36,8 @@ use bh_types::wanted::Wanted;
 use sqlite::{Alter, Connection};
 use std::alloc::Global;
 
-/// Which bytes are answered where the request has this Range field: InvalidRange, which tells the object's size.
+/// The bytes to return for the request's Range field. Fails with InvalidRange, which carries the
+/// object's size.
 fn planned(range: Option<&[u8]>, size: u64) -> Result<RangePlan, Rejection>
     ensures { result ≡ machine.planned (option_copied range.entry) size }
 {
@@ -49,13 +50,13 @@ fn planned(range: Option<&[u8]>, size: u64) -> Result<RangePlan, Rejection>
     }
 }
 
-/// The plan of the bytes that a range names, of a version with this entry number and so many bytes. No row is read.
+/// The plan of a range's bytes, in a version with this entry number and size. No row is read.
 fn version_plan(tenant: &TenantName, seq: u64, size: u64, range: RangePlan) -> Result<Plan, Trouble>
     ensures names { IfOk result (λ plan. (tables : Tables) → length (whole tables.refs tables.blocks (tenant.now, seq)) ≡ size
         → to_come plan tables ≡ cut range (whole tables.refs tables.blocks (tenant.now, seq))) }
     ensures left { IfOk result (λ plan. plan.left ≡ size_of range size) }
 {
-    // No counter gives such a number.
+    // No counter reaches this number.
     if seq >= COUNTER_END {
         return Err(Trouble::Store);
     }
@@ -69,8 +70,9 @@ fn version_plan(tenant: &TenantName, seq: u64, size: u64, range: RangePlan) -> R
     })
 }
 
-/// An object of a bucket in this state, where the request may have a Range field: NoSuchKey, NoSuchVersion,
-/// MethodNotAllowed, InvalidRange. No block is read: the answer plans the bytes.
+/// An object of a bucket in this state; the request may have a Range field. Refusals: NoSuchKey,
+/// NoSuchVersion, MethodNotAllowed, InvalidRange. No block is read: the answer has a plan of the
+/// bytes.
 pub fn find_object<S: Alter>(
     connection: &mut Connection<S>,
     tenant: &TenantName,
@@ -100,8 +102,8 @@ pub fn find_object<S: Alter>(
     })
 }
 
-/// S3's GetObject, where the request may have a Range field: NoSuchBucket, and what `find_object` refuses. No block is
-/// read: the answer plans the bytes.
+/// S3's GetObject; the request may have a Range field. Refusals: NoSuchBucket, and those of
+/// `find_object`. No block is read: the answer has a plan of the bytes.
 pub fn get_object<S: Alter>(
     connection: &mut Connection<S>,
     tenant: &TenantName,
@@ -122,8 +124,8 @@ pub fn get_object<S: Alter>(
     find_object(connection, tenant, bucket, key, wanted, range, mode)
 }
 
-/// The next bytes of a version, of one block at most: `None` where none are left. It may be called in a transaction, and
-/// outside. An error leaves the plan as it was. A block that is read is kept in memory.
+/// The next bytes of a version, of at most one block; `None` at the end. It may be called inside a
+/// transaction and outside. An error leaves the plan unchanged. A block that is read is cached.
 pub fn next_piece<S: Alter>(
     connection: &mut Connection<S>,
     cache: &mut BlockCache,
@@ -143,9 +145,9 @@ pub fn next_piece<S: Alter>(
     ensures falls { IfOk result (λ piece. IfSome piece (λ bytes. length bytes.items + plan.new.left ≤ plan.old.left)) }
     ensures kept { OnErr result (plan.new ≡ plan.old) }
 {
-    // Asked for what it ensures: outside a transaction what stands was committed.
+    // Called for its contract: outside a transaction the current tables are the committed ones.
     let _outside = connection.is_autocommit();
-    // No counter gives such numbers.
+    // No counter reaches these numbers.
     if plan.body >= COUNTER_END || plan.place >= COUNTER_END {
         return Err(Trouble::Store);
     }

@@ -29,7 +29,7 @@ use bh_types::rejection::{Detail, Rejection};
 use bh_types::wanted::Wanted;
 use sqlite::{Alter, Connection};
 
-/// Whether the column `marker` says that an entry is a delete marker.
+/// Whether the column `marker` is that of a delete marker.
 pub fn is_marker(marker: u64) -> bool
     ensures { result ≡ spec.is_marked marker }
 {
@@ -81,7 +81,7 @@ pub fn numbered_head<S: Alter>(
     ))
 }
 
-/// The version or delete marker that a request speaks of, if there is one.
+/// The version or delete marker that a request names, if there is one.
 fn find_head<S: Alter>(
     connection: &mut Connection<S>,
     tenant: &TenantName,
@@ -105,7 +105,7 @@ fn find_head<S: Alter>(
     }
 }
 
-/// The refusal where there is none.
+/// The refusal if there is no such version.
 fn missing(wanted: Wanted) -> Rejection
     ensures { result ≡ spec.missing wanted }
 {
@@ -116,7 +116,7 @@ fn missing(wanted: Wanted) -> Rejection
     }
 }
 
-/// The refusal where it is a delete marker, which tells of it.
+/// The refusal if it is a delete marker, with its details.
 fn marker_refused(wanted: Wanted) -> Rejection
     ensures { result ≡ spec.marker_refused wanted }
 {
@@ -133,7 +133,7 @@ fn marker_refused(wanted: Wanted) -> Rejection
     }
 }
 
-/// What is made of the version or delete marker that was found.
+/// The version that was found, or the refusal for a delete marker or for none.
 fn looked(wanted: Wanted, found: Option<VersionHead>) -> Result<VersionHead, Rejection>
     ensures { result_map_both head_seen (λ rejection. rejection) result ≡ head_looked wanted (option_map head_seen found) }
 {
@@ -149,7 +149,8 @@ fn looked(wanted: Wanted, found: Option<VersionHead>) -> Result<VersionHead, Rej
     }
 }
 
-/// The version that a request speaks of, without its bytes: NoSuchKey, NoSuchVersion, MethodNotAllowed.
+/// The version that a request names, without its bytes. Refusals: NoSuchKey, NoSuchVersion,
+/// MethodNotAllowed.
 pub fn wanted_head<S: Alter>(
     connection: &mut Connection<S>,
     tenant: &TenantName,
@@ -168,7 +169,7 @@ pub fn wanted_head<S: Alter>(
     Ok(looked(wanted, found)?)
 }
 
-/// What is told of a version in a bucket of this state.
+/// The metadata of a version in a bucket of this state.
 pub fn told_head(mode: BucketState, head: VersionHead) -> ObjectHead
     ensures { head_answer result ≡ head_told mode (head_seen head) }
 {

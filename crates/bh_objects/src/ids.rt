@@ -20,7 +20,7 @@ pub fn row_number(mode: BucketState, version: u64) -> u64
     }
 }
 
-/// The version id that the column `id` holds.
+/// The version id in the column `id`.
 pub fn id_of(number: u64) -> VersionId
     ensures { result ≡ view.id_of number }
 {
@@ -31,7 +31,7 @@ pub fn id_of(number: u64) -> VersionId
     }
 }
 
-/// The column `id` of rows with a version id, or `None` where no row can have it.
+/// The column `id` of rows with a version id, or `None` if no row can have it.
 pub fn number_of(id: VersionId) -> Option<u64>
     ensures some { IfSome result (λ n. (view.id_of n ≡ id) × (n < 2 ^ 62)) }
     ensures none { IfNone result ((n : ℕ) → n < 2 ^ 62 → view.id_of n ≢ id) }
@@ -48,7 +48,7 @@ pub fn number_of(id: VersionId) -> Option<u64>
     }
 }
 
-/// The id that is told of an entry: none where its bucket never had versions.
+/// The returned id of an entry; `None` if its bucket never had versions.
 pub fn told_id(mode: BucketState, id: VersionId) -> Option<VersionId>
     ensures { result ≡ machine.id_told mode id }
 {
@@ -59,7 +59,8 @@ pub fn told_id(mode: BucketState, id: VersionId) -> Option<VersionId>
     }
 }
 
-/// The id that is told of a new entry in a bucket of this state; `next` is the tenant's next version number.
+/// The returned id of a new entry in a bucket of this state; `next` is the tenant's next version
+/// number.
 pub fn new_id_told(mode: BucketState, next: u64) -> Option<VersionId>
     ensures { result ≡ machine.id_told mode (entries.new_id mode next) }
 {

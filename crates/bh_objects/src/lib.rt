@@ -3,6 +3,7 @@
 
 pub mod bodies;
 pub mod buckets;
+mod coming;
 pub mod copies;
 pub mod dates;
 pub mod deletes;

@@ -28,7 +28,8 @@ use bh_types::refusal::Refusal;
 use sqlite::{Alter, Connection};
 use std::alloc::Global;
 
-/// What a new version of so many bytes gets, where its request, its bucket and the tenant's quota let it in.
+/// The numbers and the date of an accepted new version. It was accepted by its request, its bucket
+/// and the tenant's quota.
 #[derive(Clone, Copy)]
 pub struct Admitted {
     /// The date before which it may not be deleted, if it gets one.
@@ -36,8 +37,8 @@ pub struct Admitted {
     pub entry: NewEntry,
 }
 
-/// What a new version of so many bytes gets in a bucket of this state: InvalidRequest, InvalidArgument, QuotaExceeded,
-/// CounterExhausted.
+/// Accepts a new version of `size` bytes in a bucket of this state. Refusals: InvalidRequest,
+/// InvalidArgument, QuotaExceeded, CounterExhausted.
 fn admit<S: Alter>(
     connection: &mut Connection<S>,
     object: &NewObject<'_>,
@@ -74,8 +75,9 @@ fn admit<S: Alter>(
     Ok(Admitted { until, entry })
 }
 
-/// Stores an object without a date as its bytes come, as an entry of a bucket of this state, and gives their checksum:
-/// BadDigest where another is given, with the rows that were written.
+/// Stores an object without a date while it is received, as an entry of a bucket of this state, and
+/// returns its checksum. It refuses with BadDigest, after rows were written, if the request gives
+/// another checksum.
 fn store_object<S: Alter, D: Digester, B: Body>(
     connection: &mut Connection<S>,
     alloc: Global,
@@ -109,7 +111,7 @@ fn store_object<S: Alter, D: Digester, B: Body>(
     }
 }
 
-/// Stores an object that is let in as its bytes come, and its date.
+/// Stores an accepted object while it is received, and its date.
 fn store_admitted<S: Alter, D: Digester, B: Body>(
     connection: &mut Connection<S>,
     alloc: Global,
@@ -177,9 +179,10 @@ fn put_into<S: Alter, D: Digester, B: Body>(
     }
 }
 
-/// S3's PutObject, at a moment that is not after the last stamp, where the request may say which checksum the bytes have:
-/// NoSuchBucket, BadDigest, InvalidRequest, InvalidArgument, QuotaExceeded, CounterExhausted. The bytes are stored as they
-/// come. Where the head alone decides a refusal they are only counted, and hashed if a checksum is given.
+/// S3's PutObject, at a moment that is not after the last stamp; the request may give the bytes'
+/// checksum. Refusals: NoSuchBucket, BadDigest, InvalidRequest, InvalidArgument, QuotaExceeded,
+/// CounterExhausted. The bytes are stored while they are received. If the head alone decides a
+/// refusal, they are only counted, and hashed if a checksum is given.
 pub fn put_object<S: Alter, D: Digester, B: Body>(
     connection: &mut Connection<S>,
     alloc: Global,

@@ -1,4 +1,4 @@
-//! Whether a tenant's quota has room.
+//! Checks of a tenant's quota.
 ghost use Rattle.std.specs.Prelude.{◌≡◌, ◌+◌, ◌-◌, Ok, IfOk};
 ghost use Rattle.bh_storage.specs.Calls.{Unless, Decides};
 ghost use Rattle.bh_view.specs.View.{view};
@@ -21,7 +21,7 @@ use bh_types::names::TenantName;
 use bh_types::refusal::Refusal;
 use sqlite::{Alter, Connection};
 
-/// What is used once so many bytes are replaced by so many.
+/// The bytes in use after `replaced` bytes were replaced by `added` bytes.
 fn used_after(before: u64, replaced: u64, added: u64) -> Result<u64, Trouble>
     ensures { IfOk result (λ after. after ≡ before + added - replaced) }
 {
@@ -34,7 +34,8 @@ fn used_after(before: u64, replaced: u64, added: u64) -> Result<u64, Trouble>
     }
 }
 
-/// Whether a tenant may replace so many bytes by so many, by what is used: QuotaExceeded.
+/// Fails with QuotaExceeded if a tenant may not replace `replaced` bytes by `added` bytes, given
+/// the bytes in use.
 fn require_sum(account: &Account, replaced: u64, added: u64) -> Result<(), StepError<Refusal>>
     ensures { Answers (λ _. tt) (room_under account.now.quota account.now.used replaced added) result }
 {
@@ -46,8 +47,8 @@ fn require_sum(account: &Account, replaced: u64, added: u64) -> Result<(), StepE
     }
 }
 
-/// Whether a tenant may replace so many bytes by so many: QuotaExceeded. What takes no more than it replaces is let
-/// through.
+/// Fails with QuotaExceeded if a tenant may not replace `replaced` bytes by `added` bytes. A change
+/// that adds no more than it replaces is accepted.
 pub fn require_room(account: &Account, replaced: u64, added: u64) -> Result<(), StepError<Refusal>>
     ensures { Answers (λ _. tt) (room_under account.now.quota account.now.used replaced added) result }
 {
@@ -61,13 +62,13 @@ pub fn require_room(account: &Account, replaced: u64, added: u64) -> Result<(), 
 /// The entry `null` that a new entry replaces.
 #[derive(Clone, Copy)]
 pub struct Replaced {
-    /// Its entry number, which its body has.
+    /// Its entry number, which is its body's name.
     pub seq: u64,
     /// In bytes.
     pub size: u64,
 }
 
-/// What is to be known of the version or marker that is found, for its place to be taken.
+/// The facts about a version or marker that are needed to replace it.
 pub fn as_replaced(head: &VersionHead) -> Replaced
     ensures seq { result.seq ≡ head.now.seq }
     ensures size { result.size ≡ head.now.size }
@@ -96,7 +97,7 @@ fn find_null<S: Alter>(
     }
 }
 
-/// What a new entry of a key replaces in a bucket of this state.
+/// The entry that a new one of a key replaces, in a bucket of this state.
 pub(crate) fn find_replaced<S: Alter>(
     connection: &mut Connection<S>,
     tenant: &TenantName,
@@ -125,16 +126,17 @@ fn replaced_bytes(replaced: Option<Replaced>) -> u64
     }
 }
 
-/// What a new entry takes.
+/// The numbers of a new entry, and what it replaces.
 #[derive(Clone, Copy)]
 pub struct NewEntry {
     pub numbers: Numbers,
-    /// The entry that it replaces, where there is one.
+    /// The entry that it replaces, if there is one.
     pub replaced: Option<Replaced>,
 }
 
-/// What a new entry of a key with so many bytes takes, in a bucket of this state: QuotaExceeded, CounterExhausted. Its
-/// rows are read once: what it replaces is found for its bytes and for its body.
+/// The numbers of a new entry of a key, of `size` bytes, in a bucket of this state. Refusals:
+/// QuotaExceeded, CounterExhausted. Its rows are read once, for the replaced entry's bytes and its
+/// body.
 pub fn new_entry<S: Alter>(
     connection: &mut Connection<S>,
     tenant: &TenantName,

@@ -55,7 +55,7 @@ pub fn bucket_locked<S: Alter>(
     or_trouble(bucket_has(connection, tenant.as_str(), bucket.as_str(), Content::Lock))
 }
 
-/// What a tenant may use, and the next numbers that its counters give.
+/// A tenant's quota and use, and the next numbers of its counters.
 #[derive(Clone, Copy)]
 pub struct Account {
     /// In bytes.
@@ -65,7 +65,7 @@ pub struct Account {
     pub counters: Counters,
 }
 
-/// A tenant's quota, what it uses of it, and its counters.
+/// A tenant's quota, its use, and its counters.
 pub fn tenant_account<S: Alter>(
     connection: &mut Connection<S>,
     tenant: &TenantName,
@@ -94,7 +94,7 @@ pub fn tenant_account<S: Alter>(
     }
 }
 
-/// The next numbers that a tenant's counters give.
+/// The next numbers of a tenant's counters.
 pub fn next_counters<S: Alter>(
     connection: &mut Connection<S>,
     tenant: &TenantName,
@@ -112,13 +112,13 @@ pub fn next_counters<S: Alter>(
 /// The numbers of a new entry.
 #[derive(Clone, Copy, PartialEq, Eq)]
 pub struct Numbers {
-    /// The tenant's counters, which give them.
+    /// The tenant's counters before that.
     pub before: Counters,
     /// The counters once they are given.
     pub after: Counters,
 }
 
-/// The numbers of a new entry in a bucket of this state: CounterExhausted.
+/// The numbers of a new entry in a bucket of this state. Refusal: CounterExhausted.
 pub fn new_numbers<S: Alter>(
     connection: &mut Connection<S>,
     tenant: &TenantName,
@@ -135,7 +135,7 @@ pub fn new_numbers<S: Alter>(
     Ok(Numbers { before, after })
 }
 
-/// Whether a tenant was added: NoSuchTenant.
+/// Fails with NoSuchTenant if a tenant doesn't exist.
 pub fn require_tenant<S: Alter>(
     connection: &mut Connection<S>,
     tenant: &TenantName,
@@ -152,7 +152,7 @@ pub fn require_tenant<S: Alter>(
     }
 }
 
-/// Whether a tenant has no bucket of a name yet: BucketAlreadyOwnedByYou.
+/// Fails with BucketAlreadyOwnedByYou if a tenant has a bucket of this name.
 pub fn require_free_name<S: Alter>(
     connection: &mut Connection<S>,
     tenant: &TenantName,

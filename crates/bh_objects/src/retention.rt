@@ -1,22 +1,83 @@
+ghost use Rattle.std.specs.Prelude.{◌≡◌, option_map};
+ghost use Rattle.bh_types.specs.Rejections as spec;
+ghost use Rattle.bh_types.specs.Rejections.{for_date};
 ghost use Rattle.bh_model.specs.Operations as machine;
-ghost use Rattle.bh_storage.specs.Calls.{Unless, Carries};
+ghost use Rattle.bh_storage.specs.Calls.{Unless, Carries, Decides};
+ghost use Rattle.bh_view.specs.Wanted.{wanted_row};
+ghost use Rattle.bh_schema.specs.Rows.{seen_head};
+ghost use Rattle.bh_schema.specs.Views.{head_seen};
 ghost use Rattle.bh_schema.specs.Connections.{IsClean, tables};
 ghost use Rattle.bh_schema.specs.Working.{Works, WorksOn};
+ghost use Rattle.bh_objects.specs.Answers.{head_looked};
+ghost use Rattle.bh_objects.specs.Answers as answers;
 
 use crate::dates::{present_date, set_date, version_date};
 use crate::heads::wanted_head;
 use crate::reads::bucket_state;
+use bh_schema::rows::versions::VersionHead;
 use bh_storage::error::StepError;
 use bh_types::bucket::BucketName;
 use bh_types::key::ObjectKey;
 use bh_types::moment::Moment;
 use bh_types::names::TenantName;
-use bh_types::rejection::Rejection;
+use bh_types::rejection::{Detail, Rejection};
 use bh_types::wanted::Wanted;
 use sqlite::{Alter, Connection};
 
-/// S3's GetObjectRetention, in a locked bucket or another: NoSuchBucket, NoSuchKey, NoSuchVersion, MethodNotAllowed. A
-/// version without a date tells none.
+/// The detail of an operation on a date, if that of an operation on objects is this one.
+fn undated(detail: Detail) -> Detail
+    ensures { result ≡ spec.undated detail }
+{
+    match detail {
+        Detail::CurrentMarker => Detail::Nothing,
+        Detail::NamedMarker => Detail::UndatedMarker,
+        _ => detail,
+    }
+}
+
+/// The refusal of an operation on a date, if that of an operation on objects is this one.
+fn date_refused(rejection: Rejection) -> Rejection
+    ensures { result ≡ spec.date_refused rejection }
+{
+    Rejection {
+        refusal: rejection.refusal,
+        detail: undated(rejection.detail),
+    }
+}
+
+fn date_step_refused(error: StepError<Rejection>) -> StepError<Rejection>
+    ensures { result ≡ answers.date_step_refused error }
+{
+    match error {
+        StepError::Refused(rejection) => StepError::Refused(date_refused(rejection)),
+        StepError::Failed(trouble) => StepError::Failed(trouble),
+    }
+}
+
+/// The version whose date a request reads or sets. Refusals: NoSuchKey, NoSuchVersion,
+/// MethodNotAllowed.
+fn dated_head<S: Alter>(
+    connection: &mut Connection<S>,
+    tenant: &TenantName,
+    bucket: &BucketName,
+    key: &ObjectKey,
+    wanted: Wanted,
+) -> Result<VersionHead, StepError<Rejection>>
+    requires { Works S.Store connection.old }
+    ensures works { WorksOn S.Store (Unless result) connection.old connection.new }
+    ensures decides { IsClean S.Store connection.new
+        → Decides head_seen (for_date (head_looked wanted (option_map seen_head
+        (wanted_row tenant.now bucket.now key.now wanted (tables S.Store connection.old).versions))))
+        (tables S.Store connection.old) (tables S.Store connection.new) result }
+{
+    match wanted_head(connection, tenant, bucket, key, wanted) {
+        Ok(head) => Ok(head),
+        Err(error) => Err(date_step_refused(error)),
+    }
+}
+
+/// S3's GetObjectRetention, in a locked bucket or another. Refusals: NoSuchBucket, NoSuchKey,
+/// NoSuchVersion, MethodNotAllowed. For a version without a date it returns `None`.
 pub fn retention<S: Alter>(
     connection: &mut Connection<S>,
     tenant: &TenantName,
@@ -31,7 +92,7 @@ pub fn retention<S: Alter>(
         (tables S.Store connection.old) (tables S.Store connection.new) result }
 {
     bucket_state(connection, tenant, bucket)?;
-    let head = wanted_head(connection, tenant, bucket, key, wanted)?;
+    let head = dated_head(connection, tenant, bucket, key, wanted)?;
     Ok(version_date(connection, tenant, head.seq)?)
 }
 
@@ -53,7 +114,7 @@ pub fn set_retention<S: Alter>(
         (tables S.Store connection.old) (tables S.Store connection.new) result }
 {
     bucket_state(connection, tenant, bucket)?;
-    let head = wanted_head(connection, tenant, bucket, key, wanted)?;
+    let head = dated_head(connection, tenant, bucket, key, wanted)?;
     let present = present_date(connection, tenant, bucket, &head, until, at)?;
     set_date(connection, tenant, head.seq, present, Some(until))?;
     Ok(())

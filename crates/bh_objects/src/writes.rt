@@ -27,10 +27,10 @@ use bh_types::moment::Moment;
 use bh_types::names::TenantName;
 use sqlite::{Alter, Connection, Error};
 
-/// No object and no part has so many bytes, so that a sum with those that are used is one of 64 bits.
+/// Objects and parts have fewer bytes than this, so that sums of sizes fit in 64 bits.
 pub const SIZE_END: u64 = 1 << 62;
 
-/// An object that is sent. Its bytes come beside it.
+/// An object to be stored. Its bytes are passed beside it.
 #[derive(Clone, Copy)]
 pub struct NewObject<'a> {
     pub tenant: &'a TenantName,
@@ -38,11 +38,11 @@ pub struct NewObject<'a> {
     pub key: &'a ObjectKey,
     /// When it is stored.
     pub at: Moment,
-    /// Until when it is kept, where that is given; the inner `None` is a date that is not given as it should be.
+    /// The date until which it is retained, if one is given; the inner `None` is an invalid date.
     pub date: Option<Option<Moment>>,
 }
 
-/// The counters go on, as a new version in a bucket of this state has them.
+/// Advances the counters for a new version in a bucket of this state.
 pub fn set_counters<S: Alter>(
     connection: &mut Connection<S>,
     tenant: &TenantName,
@@ -67,7 +67,7 @@ pub fn set_counters<S: Alter>(
     }
 }
 
-/// The entry counter goes on.
+/// Advances the entry counter.
 pub fn set_next_entry<S: Alter>(
     connection: &mut Connection<S>,
     tenant: &TenantName,
@@ -90,8 +90,8 @@ pub fn set_next_entry<S: Alter>(
     Ok(())
 }
 
-/// Takes the entry of a key with this number in the column `id` away, which has so many bytes, and its body, which has
-/// its entry number.
+/// Deletes the entry of a key with this number in the column `id`, and its body, whose name is its
+/// entry number. The tenant's use drops by its size.
 pub fn drop_entry<S: Alter>(
     connection: &mut Connection<S>,
     tenant: &TenantName,
@@ -106,7 +106,7 @@ pub fn drop_entry<S: Alter>(
         → bytes_of_id tenant.now bucket.now key.now number (tables S.Store connection.old) ≡ entry.size }
     ensures changes { Changes S.Store connection.old connection.new result (without_entry tenant.now bucket.now key.now number entry.seq) }
 {
-    // No counter gives such a number, and no object has so many bytes.
+    // No counter returns such a number, and no object has that size.
     if entry.seq >= COUNTER_END || entry.size >= SIZE_END {
         return Err(Trouble::Store);
     }
@@ -124,7 +124,8 @@ pub fn drop_entry<S: Alter>(
     Ok(())
 }
 
-/// Takes the version `null` of a key away, and its body, if it is there. A delete marker `null` stays.
+/// Deletes the version `null` of a key, and its body, if there is one. A delete marker `null`
+/// stays.
 pub fn drop_null_version<S: Alter>(
     connection: &mut Connection<S>,
     tenant: &TenantName,
@@ -146,7 +147,7 @@ pub fn drop_null_version<S: Alter>(
     }
 }
 
-/// What a new entry replaces is taken away, and its body: the entry `null`, where it was found.
+/// Deletes what a new entry replaces, with its body: the entry `null`, if there is one.
 pub fn drop_replaced<S: Alter>(
     connection: &mut Connection<S>,
     tenant: &TenantName,
@@ -165,8 +166,8 @@ pub fn drop_replaced<S: Alter>(
     }
 }
 
-/// What a new entry in a bucket of this state replaces is taken away: the entry `null`, unless versions are
-/// numbered.
+/// Deletes what a new entry in a bucket of this state replaces: the entry `null`, unless versions
+/// are numbered.
 pub fn make_room<S: Alter>(
     connection: &mut Connection<S>,
     tenant: &TenantName,
@@ -181,7 +182,7 @@ pub fn make_room<S: Alter>(
     drop_replaced(connection, tenant, bucket, key, replaced)
 }
 
-/// A version that is added to a key, whose body is stored.
+/// A version to be added to a key; its body is stored.
 #[derive(Clone, Copy)]
 pub struct AddedVersion<'a> {
     pub tenant: &'a TenantName,
@@ -191,11 +192,13 @@ pub struct AddedVersion<'a> {
     pub at: Moment,
     /// In bytes.
     pub size: u64,
-    /// The base64 (RFC 4648) of its SHA-256 digest (FIPS 180-4), or what is told of one joined from parts.
+    /// The base64 (RFC 4648) of its SHA-256 digest (FIPS 180-4), or the composite checksum of a
+    /// completed upload.
     pub checksum: &'a str,
 }
 
-/// The row of a version in a bucket of this state, whose counters go on and whose tenant uses its bytes.
+/// Adds the row of a version in a bucket of this state, advances the counters, and adds its bytes
+/// to the tenant's use.
 pub fn add_version<S: Alter>(
     connection: &mut Connection<S>,
     version: &AddedVersion<'_>,
@@ -208,7 +211,7 @@ pub fn add_version<S: Alter>(
         version.now.size version.now.checksum.now (with_counters mode numbers.after version.now.tenant.now rows)) }
     ensures key { OnOk result (IsKeyText version.now.key.now) }
 {
-    // No object has so many bytes.
+    // No object has that size.
     if version.size >= SIZE_END {
         return Err(Trouble::Store);
     }
@@ -225,7 +228,7 @@ pub fn add_version<S: Alter>(
     or_trouble(add_row(connection, &row, mode, numbers.after))
 }
 
-/// The row of a version, with the counters that go on in a bucket of this state.
+/// Adds the row of a version in a bucket of this state, and advances the counters.
 fn add_row<S: Alter>(
     connection: &mut Connection<S>,
     row: &NewVersion<'_>,
@@ -249,8 +252,8 @@ fn add_row<S: Alter>(
     }
 }
 
-/// Puts an object whose body is stored into a bucket of this state, as a new entry: what it replaces goes, and its row
-/// comes with the counters.
+/// Puts an object whose body is stored into a bucket of this state, as a new entry. It deletes what
+/// the entry replaces, and writes the row and the counters.
 pub fn write_object<S: Alter>(
     connection: &mut Connection<S>,
     object: &NewObject<'_>,
@@ -314,8 +317,8 @@ fn add_marker<S: Alter>(
     Ok(())
 }
 
-/// Puts a delete marker in front of a key's entries in a bucket of this state, under the tenant's next
-/// numbers.
+/// Adds a delete marker in front of a key's entries, in a bucket of this state, under the tenant's
+/// next numbers.
 pub fn write_marker<S: Alter>(
     connection: &mut Connection<S>,
     tenant: &TenantName,

@@ -1,4 +1,4 @@
--- What an open finds in a database, and what it makes of it.
+-- The results of opening a database.
 use Rattle.std.specs.Prelude.{◌≡◌, ◌⊎◌, ℕ, false, List, [], ◌∷◌, Result, MatchResult}
 use Rattle.std.specs.Option.{option_map_or}
 use Rattle.sqlite.specs.Order.{Row}
@@ -18,11 +18,11 @@ use Rattle.bh_open.specs.declared.found.HostVersion.{HostVersion}
 use Rattle.bh_open.specs.declared.found.NoHost.{NoHost}
 use Rattle.bh_schema.specs.Layer.{Standing, standing, IsIntact, IsOpen, IsStateClean, Leaves, KeepsDisk, LeavesNothingNew}
 
--- the number of the function that names the blocks of a host, as its row keeps it
+-- the number of the function that names a host's blocks, in the host's row
 unfoldable pub digest_in : Tables → ℕ
 digest_in tables = option_map_or (λ (r : HostRow). r.digest) (first tables.host) 0
 
--- the one row that a host of this version and these limits keeps of itself, with the number of a function that is known
+-- the only row of a host of this version and these limits, with the number of a known function
 pub record IsRowOf (version : ℕ) (limits : HostLimits) (rows : List HostRow) : Type 0 where
   pub row : HostRow
   pub alone : rows ≡ row ∷ []
@@ -52,16 +52,16 @@ abbrev pub Tells : HostVersion → List HostRow → FoundHost → Type 0
 Tells version rows found =
     (it : IsRowOf (number_of version) found.limits rows) × (found.latest ≡ it.row.latest) × (digest_number found.digest ≡ it.row.digest)
 
--- what was read of these rows: that, or that they are no such host's
+-- the result of reading these rows: those values, or that they are not such a host's
 abbrev pub Reads : HostVersion → List HostRow → Result FoundHost NoHost → Type 0
 Reads version rows found = MatchResult found (Tells version rows) (λ why. (limits : HostLimits) → ¬ IsRowOf (number_of version) limits rows)
 
--- what was found in a database: that, or no host of any version
+-- the result for a database: those values, or no host of any version
 abbrev pub Finds : Database → Result FoundHost NoHost → Type 0
 Finds db found = MatchResult found (λ f. IsHostWith f.version db → Tells f.version (tables_in db).host f)
     (λ why. (limits : HostLimits) → ¬ IsHostOf limits db)
 
--- no transaction is open, and what stands was committed
+-- no transaction is open, and the database was committed
 pub record IsSettled (s : State) : Type 0 where
   pub outside : (standing s).inside ≡ false
   pub committed : IsOpen s → (standing s).now ≡ (standing s).kept
@@ -72,7 +72,8 @@ pub record IsKept (old new : State) : Type 0 where
   pub kept : IsStateClean new → (standing new).kept ≡ (standing old).kept
   pub survives : IsOpen old → LeavesNothingNew old new
 
--- no transaction is open, all is committed, and the database is as it was, or brought over if it was of version 1 or 2
+-- no transaction is open, all is committed, and the database is unchanged, or upgraded if it was of
+-- version 1 or 2
 pub record Opens (version : HostVersion) (old new : Standing) : Type 0 where
   pub schema : old.now.schema ≡ schema_of version
   pub outside : new.inside ≡ false
@@ -80,12 +81,12 @@ pub record Opens (version : HostVersion) (old new : Standing) : Type 0 where
   pub same : old.now.schema ≡ host_schema → new ≡ old
   pub brought : IsEarlierSchema old.now.schema → Settles old new
 
--- these trees are those of the open connection's database, of version 1 or 2, brought over
+-- these trees are those of the open connection's database, of version 1 or 2, upgraded
 pub record IsLeftOver (old : State) (db : Trees) : Type 0 where
   pub is_open : IsOpen old
   pub schema : IsEarlierSchema (standing old).now.schema
   pub changed : LeavesChanged (standing old).now db
 
--- what a crash may leave from then on, it might have left before, or it is the database brought over
+-- what a crash may leave from then on was possible before, or is the upgraded database
 abbrev pub LeavesOver : State → State → Type 0
 LeavesOver old new = IsIntact new → (db : Trees) → Leaves new db → Leaves old db ⊎ IsLeftOver old db

@@ -1,4 +1,4 @@
--- The versions of a host that are known.
+-- The known versions of a host.
 use Rattle.std.specs.Prelude.{◌≡◌, ◌≢◌, ◌⊎◌, ℕ, Option, MatchOption}
 use Rattle.sqlite.specs.Schema.{Schema}
 use Rattle.sqlite.specs.Effect.{Database}
@@ -17,7 +17,7 @@ schema_of First = first_schema
 schema_of Second = second_schema
 schema_of Third = host_schema
 
--- of a host that is to be brought over, and of any
+-- of a host that is to be upgraded, and of any
 abbrev pub IsEarlierSchema : Schema → Type 0
 IsEarlierSchema schema = (schema ≡ first_schema) ⊎ (schema ≡ second_schema)
 

@@ -4,19 +4,19 @@ ghost use Rattle.bh_open.specs.Versions.{number_of};
 use bh_types::block_digest::BlockDigest;
 use bh_types::limits::Limits;
 
-/// Of which version a host is, by its tables.
+/// The version of a host, by its tables.
 #[derive(Clone, Copy)]
 pub enum HostVersion {
-    /// It has no table of locks, none of dates and none of tallies.
+    /// Its tables of locks, of dates and of tallies are missing.
     First,
-    /// It has no table of tallies.
+    /// Its table of tallies is missing.
     Second,
-    /// It has all of them.
+    /// It has all tables.
     Third,
 }
 
 impl HostVersion {
-    /// The number that the host's row tells.
+    /// The number in the host's row.
     pub fn number(self) -> u64
         ensures { result ≡ number_of self }
     {
@@ -28,29 +28,30 @@ impl HostVersion {
     }
 }
 
-/// What a host keeps of itself.
+/// The values in a host's row.
 #[derive(Clone, Copy)]
 pub struct FoundHost {
-    /// Of which version it was found.
+    /// The version that was found.
     pub version: HostVersion,
     pub limits: Limits,
-    /// Which function names its blocks.
+    /// The function that names its blocks.
     pub digest: BlockDigest,
-    /// The last stamp, in seconds since 1970; 0 where there was none.
+    /// The last stamp, in seconds since 1970; 0 if there is none.
     pub latest: u64,
 }
 
-/// Why a database is no host's.
+/// Why a database is not a host's.
 #[derive(Clone, Copy)]
 pub enum NoHost {
-    /// It has no table.
+    /// It has no tables.
     NoTable,
-    /// It has other tables than a host's.
+    /// Its tables are not a host's.
     OtherTables,
-    /// The host is of this version, which its tables are not: its row says so, or its tables do.
+    /// The host has this version by its row, and another by its tables; or it has version 0 by its
+    /// tables.
     OtherVersion(u64),
-    /// Its blocks are named by a function of this number, which this program doesn't know.
+    /// The number of its digest function is unknown to this program.
     OtherDigest(u64),
-    /// There isn't one row of the host, with limits in their ranges.
+    /// The host's row is missing or repeated, or its limits are out of range.
     NoRow,
 }

@@ -1,4 +1,4 @@
-//! Opens the host of buckets that a database holds.
+//! Opens the host of buckets in a database.
 #![tactic(auto)]
 
 mod found;

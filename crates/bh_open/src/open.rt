@@ -30,36 +30,37 @@ use bh_types::refusal::Refusal;
 use sqlite::{Alter, Connection, Error, ErrorCode};
 use std::alloc::Global;
 
-/// Why no host was opened, with what was given for it.
+/// Why no host was opened, and the arguments.
 #[derive(Drop)]
 pub struct OpenError<S: Alter + Drop> {
     /// `NotAHostFile` or `Unavailable`.
     pub refusal: Refusal,
-    /// Why it is no host's, where the refusal is `NotAHostFile`.
+    /// Why it is not a host's, if the refusal is `NotAHostFile`.
     pub why: Option<NoHost>,
-    /// The error of the database, where the refusal is `Unavailable`.
+    /// The error of the database, if the refusal is `Unavailable`.
     pub cause: Option<Error>,
     /// The database.
     pub connection: Connection<S>,
 }
 
-/// A host's database that was opened.
+/// The opened database of a host.
 #[derive(Drop)]
 pub struct Opened<S: Alter + Drop> {
     /// The database.
     pub connection: Connection<S>,
-    /// What the host was made with.
+    /// The limits that the host was created with.
     pub limits: Limits,
-    /// What this process is set to.
+    /// The settings of this process.
     pub tuning: Tuning,
-    /// Which function names its blocks.
+    /// The function that names its blocks.
     pub digest: BlockDigest,
-    /// Its last stamp, in seconds since 1970; 0 where there was none.
+    /// Its last stamp, in seconds since 1970; 0 if there is none.
     pub latest: u64,
 }
 
 impl<S: Alter + Drop> Opened<S> {
-    /// The host, which keeps no block in memory yet. The digester is to be of the function that names its blocks.
+    /// The host, with an empty cache. The digester must be that of the function that names its
+    /// blocks.
     pub fn into_host<D: Digester + Drop>(self, digester: D) -> Host<S, D>
         ensures { result ≡ record {
           connection = self.connection;
@@ -84,8 +85,8 @@ impl<S: Alter + Drop> Opened<S> {
     }
 }
 
-/// What the host's row tells, in a database that has the tables of a host of this version. A transaction is open afterwards, or was
-/// taken back.
+/// Reads the host's row, in a database with the tables of this version. Afterwards a transaction is
+/// open, or was rolled back.
 fn read_host<S: Alter>(
     connection: &mut Connection<S>,
     version: HostVersion,
@@ -103,7 +104,7 @@ fn read_host<S: Alter>(
     found_in(version, rows.as_slice())
 }
 
-/// What the host whose database this is keeps of itself, if it is one and no transaction is open.
+/// The values in the host's row, if the database is a host's and no transaction is open.
 fn find_host<S: Alter>(
     alloc: Global,
     connection: &mut Connection<S>,
@@ -124,8 +125,8 @@ fn find_host<S: Alter>(
     }
 }
 
-/// What a host, of either version, keeps of itself whose database this is, or why it is no host's. It stays as it is, and no
-/// transaction is open afterwards.
+/// Reads the row of a host of any version, or returns why the database is not a host's. It changes
+/// nothing, and no transaction is open afterwards.
 pub fn look<S: Alter>(
     alloc: Global,
     connection: &mut Connection<S>,
@@ -146,7 +147,7 @@ pub fn look<S: Alter>(
     found
 }
 
-/// Brings the database of a host of an older version over to the present one.
+/// Upgrades the database of an older host to the present version.
 fn bring<S: Alter>(connection: &mut Connection<S>, version: HostVersion) -> Result<(), Error>
     requires outside { IsClean S.Store connection.old → (stands S.Store connection.old).inside ≡ false }
     requires committed { IsClean S.Store connection.old → (stands S.Store connection.old).now ≡ (stands S.Store connection.old).kept }
@@ -167,7 +168,7 @@ fn bring<S: Alter>(connection: &mut Connection<S>, version: HostVersion) -> Resu
     }
 }
 
-/// What a host keeps of itself whose database this is. It is of the present version afterwards.
+/// The values in the row of a database's host. Afterwards it is of the present version.
 fn find_and_bring<S: Alter>(
     alloc: Global,
     connection: &mut Connection<S>,
@@ -196,13 +197,14 @@ fn find_and_bring<S: Alter>(
     }
 }
 
-/// The host that a database holds, brought over if it is of version 1 or 2, in one commit: all that it shows stays. One of the present
-/// version is as it was.
+/// Opens the host in a database. A host of version 1 or 2 is upgraded in one commit, with all its
+/// contents; one of the present version is unchanged.
 ///
-/// `NotAHostFile` where the database has other tables than a host's, an empty one too, or no row of a host of the version that
-/// its tables are of, with limits in their ranges and a digest function that is known. `Unavailable` where memory or the
-/// store was wanting, a row can't be read, a transaction was open, or a limit on the steps of a statement is set: an
-/// open transaction is taken back.
+/// Fails with `NotAHostFile` if the database's tables are not a host's, or if its row isn't one of
+/// their version with limits in range and a known digest function. An empty database has no tables,
+/// so it fails too. Fails with `Unavailable` if memory or the store failed, if a row can't be read,
+/// if a transaction was open, or if a limit on a statement's steps is set. An open transaction is
+/// rolled back.
 pub fn open_host<S: Alter + Drop>(
     alloc: Global,
     connection: Connection<S>,

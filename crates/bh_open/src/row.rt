@@ -12,7 +12,8 @@ use bh_types::limits::Limits;
 use sqlite::{Alter, Connection, Error, Row};
 
 #[tactic(auto, using(crate::proofs::Rows::other_version, crate::proofs::Rows::out_of_range, crate::proofs::Rows::other_digest))]
-/// What is told, if the number is this version's, the limits are in their ranges and the digest function has that number.
+/// A host's values, if the number is this version's, the limits are in range and the digest
+/// function is known.
 fn found_of(
     version: HostVersion,
     number: u64,
@@ -42,7 +43,8 @@ fn found_of(
     }
 }
 
-/// What the host's row tells, if it is of this version, its limits are in their ranges and its digest function is known.
+/// The values in the host's row, if it is of this version, its limits are in range and its digest
+/// function is known.
 fn read_row(version: HostVersion, row: &Row) -> Result<Result<FoundHost, NoHost>, Error>
     ensures of { IfOk result (λ found. IfOk found (λ f. f.version ≡ version)) }
     ensures read { IfOk result (λ found. (h : Stored) → row.now ≡ shown_row h → Reads version (h ∷ []) found) }
@@ -59,7 +61,7 @@ fn read_row(version: HostVersion, row: &Row) -> Result<Result<FoundHost, NoHost>
 }
 
 #[tactic(auto, using(crate::proofs::Rows::not_sole))]
-/// What these rows tell of a host, if they are the one row of a host of this version.
+/// A host's values in these rows, if they are the one row of a host of this version.
 pub fn found_in(version: HostVersion, rows: &[Row]) -> Result<Result<FoundHost, NoHost>, Error>
     ensures of { IfOk result (λ found. IfOk found (λ f. f.version ≡ version)) }
     ensures read { IfOk result (λ found. (hosts : _) → rows.now ≡ map shown_row hosts → Reads version hosts found) }

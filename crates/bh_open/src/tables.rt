@@ -71,7 +71,7 @@ fn is_first(alloc: Global, schema: &Schema) -> Result<bool, Error>
     Ok(same_schema(schema, connection.schema()))
 }
 
-/// Of which version the host is whose tables have this schema, if they are a host's.
+/// The version of the host whose tables have this schema, if they are a host's.
 pub(crate) fn version_of(alloc: Global, schema: &Schema) -> Result<Option<HostVersion>, Error>
     ensures is { IfOk result (λ found. IsVersionOf schema.now found) }
     ensures trouble { IfErr result (λ e. is_trouble e ≡ true) }
@@ -87,7 +87,7 @@ pub(crate) fn version_of(alloc: Global, schema: &Schema) -> Result<Option<HostVe
     }
 }
 
-/// Whether a schema is that of a host's tables, of any version.
+/// Whether a schema has a host's tables, of any version.
 pub fn is_hosts(alloc: Global, schema: &Schema) -> Result<bool, Error>
     ensures is { IfOk result (λ is. IsTrue is ↔ IsHostsSchema schema.now) }
     ensures trouble { IfErr result (λ e. is_trouble e ≡ true) }
@@ -111,7 +111,7 @@ fn is_of_version_0(schema: &Schema) -> bool {
         && host.column_named(b"max_body").is_some()
 }
 
-/// Why a schema that isn't a host's is none.
+/// Why a schema isn't a host's.
 pub(crate) fn why_none(schema: &Schema) -> NoHost {
     if is_of_version_0(schema) {
         NoHost::OtherVersion(0)

@@ -1,4 +1,4 @@
--- Which operation a method, a target and a selector ask for.
+-- The operation of a method, a target and a selector.
 use Rattle.std.specs.Prelude.{ℕ, Bool, true, false, List, codes, Option, Some, None, if◌then◌else◌, Result, Ok, Err}
 use Rattle.std.specs.Str.{bytes_eq}
 use Rattle.bh_types.specs.declared.refusal.Refusal.{Refusal}
@@ -22,7 +22,8 @@ method_of name =
     else if bytes_eq name (codes "DELETE") then method.Delete
     else method.Other
 
--- fifth step, for a bucket; a GET with no selector is the first version of ListObjects, which the host does not do
+-- fifth step, for a bucket; a GET with no selector is S3's ListObjects (version 1), which the host
+-- doesn't support
 -- Amazon S3 API Reference, each operation's page has its method and selector
 unfoldable pub bucket_action : Method → Option Selector → Result BucketAction Refusal
 bucket_action method.Put None = Ok bucket.Create
@@ -39,7 +40,8 @@ bucket_action method.Put (Some by.Lifecycle) = Ok bucket.PutLifecycle
 bucket_action method.Delete (Some by.Lifecycle) = Ok bucket.DeleteLifecycle
 bucket_action m s = Err MethodNotAllowed
 
--- for an object, with or without a part number and a copy source; a part from a copy source is not done
+-- for an object, with or without a part number and a copy source; S3's UploadPartCopy is not
+-- supported
 -- Amazon S3 API Reference, each operation's page has its method and selector
 unfoldable pub object_action : Method → Option Selector → Bool → Bool → Result ObjectAction Refusal
 object_action m None true copied = Err InvalidArgument

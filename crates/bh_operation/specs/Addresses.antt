@@ -26,7 +26,7 @@ bucket_name text = if is_bucket_name text then Ok text else Err InvalidBucketNam
 unfoldable pub object_key : List ℕ → Result (List ℕ) Refusal
 object_key text = if is_object_key text then Ok text else Err KeyTooLong
 
--- the caller's bucket that a text names, told from the text alone
+-- the caller's bucket that a text names, which depends on the text alone
 unfoldable pub bucket_named : List ℕ → List ℕ → Result (List ℕ) Refusal
 bucket_named caller text = do
   name ← own_part caller text

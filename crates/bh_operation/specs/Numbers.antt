@@ -1,4 +1,4 @@
--- The numbers and ids that parameters give.
+-- The numbers and ids in parameters.
 use Rattle.std.specs.Prelude.{ℕ, ◌^◌, ◌&&◌, min, nat_le, nat_lt, List, length, Option, Some, None, if◌then◌else◌, Result, Ok, Err}
 use Rattle.std.specs.Str.Parse.{digits_value}
 use Rattle.bh_types.specs.Ids.{version_of}
@@ -20,7 +20,7 @@ unfoldable pub short_number : List ℕ → Result ℕ Refusal
 short_number text =
     if is_number text && nat_le (length text) 10 then Ok (digits_value 10 text) else Err InvalidArgument
 
--- the number of entries of a page: 1,000 where none is given, and at most that
+-- the number of entries on a page: 1,000 by default and at most
 -- Amazon S3 API Reference, ListObjectsV2: max-keys, and its like of the other listings
 unfoldable pub page_size : Option (List ℕ) → Result ℕ Refusal
 page_size None = Ok 1000
@@ -28,7 +28,7 @@ page_size (Some text) = do
   n ← short_number text
   Ok (min n 1000)
 
--- the part after which a page of parts begins
+-- the number after which a page of parts begins
 -- Amazon S3 API Reference, ListParts: part-number-marker
 unfoldable pub part_marker : Option (List ℕ) → Result ℕ Refusal
 part_marker None = Ok 0
@@ -43,7 +43,7 @@ part_number (Some text) =
     then Ok (digits_value 10 text)
     else Err InvalidArgument
 
--- the version that an id speaks of; the numbers of versions begin at 1 and are below 2^63
+-- the version with an id; the numbers of versions begin at 1 and are below 2^63
 abbrev pub named_version : Option VersionId → Wanted
 named_version None = Unknown
 named_version (Some Null) = Named Null

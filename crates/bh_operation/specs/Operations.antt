@@ -1,4 +1,4 @@
--- The operation that a request asks for, or its first refusal.
+-- The operation of a request, or its first refusal.
 use Rattle.std.specs.Prelude.{ℕ, List, codes, Option, Some, None, option_and_then, Result, Ok, Err}
 use Rattle.bh_types.specs.Outcomes.{◌>>=◌}
 use Rattle.bh_types.specs.Ids.{upload_of}
@@ -48,11 +48,11 @@ Fields = List (List ℕ × List ℕ)
 abbrev pub Octets : Type 0
 Octets = List ℕ
 
--- the version that a request speaks of
+-- the version in a request
 abbrev pub version_in : List Parameter → Wanted
 version_in parameters = wanted (value_of (codes "versionId") parameters)
 
--- the upload that a request speaks of, if its id is one
+-- the upload in a request, if its id can be one
 abbrev pub upload_in : List Parameter → Option UploadId
 upload_in parameters = option_and_then upload_of (value_of (codes "uploadId") parameters)
 
@@ -63,7 +63,8 @@ host_operation method.Get None = Ok (Bare (Service ListBuckets))
 host_operation method.Get (Some by.Usage) = Ok (Bare (Service Usage))
 host_operation m selector = Err MethodNotAllowed
 
--- sixth and seventh step: first the parameters and fields that an operation reads, and then the names
+-- sixth and seventh step: first the parameters and fields that an operation needs, and then the
+-- names
 -- Amazon S3 API Reference, ListObjectsV2
 unfoldable pub list_objects : Octets → Octets → List Parameter → Result Operation Refusal
 list_objects caller text parameters = do
@@ -89,12 +90,12 @@ list_uploads caller text parameters = do
   name ← bucket_named caller text
   Ok (Bare (Listing (ListMultipartUploads name page after)))
 
--- an operation that reads nothing but a bucket's name, or an object's
+-- an operation that needs only a bucket's name, or an object's
 abbrev pub at_name : {A : Type 0} → (A → Operation) → Result A Refusal → Result Operation Refusal
 at_name make (Ok name) = Ok (make name)
 at_name make (Err refusal) = Err refusal
 
--- what an action that reads nothing but a bucket's name makes of it
+-- the operation of an action that needs only a bucket's name
 abbrev pub on_bucket : Octets → BucketAction → Option Operation
 on_bucket name bucket.Head = Some (Bare (Bucket (HeadBucket name)))
 on_bucket name bucket.Delete = Some (Bare (Bucket (DeleteBucket name)))
@@ -139,7 +140,7 @@ put_object caller text key fields = do
   name ← object_named caller text key
   Ok (Store (PutObject name checksum (date_in fields)))
 
--- a checksum of a copy is only counted; the names of the source come last
+-- of a copy's checksum only the number of fields is checked; the names of the source come last
 -- Amazon S3 API Reference, CopyObject
 unfoldable pub copy_object : Octets → Octets → Octets → Fields → Result Operation Refusal
 copy_object caller text key fields = do
@@ -171,7 +172,7 @@ list_parts caller text key parameters = do
   name ← object_named caller text key
   Ok (Bare (Upload (ListParts name (upload_in parameters) page)))
 
--- what an action that reads an object's name and no more than an id makes of it
+-- the operation of an action that needs only an object's name and an optional id
 abbrev pub on_object : ObjectName → List Parameter → ObjectAction → Option Operation
 on_object name parameters object.Head = Some (Bare (Object (HeadObject name (version_in parameters))))
 on_object name parameters object.Delete = Some (Bare (Object (DeleteObject name (version_in parameters))))
@@ -221,7 +222,7 @@ supported_operation caller method parameters fields target = do
   selector ← selected parameters
   operation_at caller (method_of method) parameters fields target selector
 
--- the operation that a request of a caller asks for, or the first refusal
+-- the operation of a caller's request, or the first refusal
 unfoldable pub operation : Octets → Taken → Result Operation Refusal
 operation caller request = do
   kind ← routed (path_of request.target)

@@ -1,4 +1,4 @@
--- Which page of a listing the parameters ask for.
+-- The page that the parameters request.
 use Rattle.std.specs.Prelude.{ℕ, Bool, false, List, [], codes, Option, Some, None, unwrap_or, if◌then◌else◌, Result, Ok, Err}
 use Rattle.std.specs.Str.{bytes_eq}
 use Rattle.bh_types.specs.Ids.{upload_of}
@@ -14,11 +14,11 @@ use Rattle.bh_operation.specs.declared.page.UploadMarker.{UploadMarker}
 use Rattle.bh_operation.specs.declared.page.VersionMarker.{VersionMarker}
 use Rattle.bh_operation.specs.declared.query.Parameter.{Parameter}
 
--- a text, empty where it is not given
+-- a text, empty by default
 abbrev pub text_or_empty : List ℕ → List Parameter → List ℕ
 text_or_empty name parameters = unwrap_or (value_of name parameters) []
 
--- a page of names, whose size the parameter of this name gives
+-- a page of names, whose size is in the parameter of this name
 unfoldable pub page_in : List ℕ → List Parameter → Result Page Refusal
 page_in size_name parameters = do
   size ← page_size (value_of size_name parameters)
@@ -64,7 +64,7 @@ token_from (Some text) = do
 unfoldable pub token_of : List Parameter → Result (Option (List ℕ)) Refusal
 token_of parameters = token_from (value_of (codes "continuation-token") parameters)
 
--- after a key, or after a version of it; a version asks for a key
+-- after a key, or after a version of it; a version needs a key
 abbrev pub version_marker_from : Option (List ℕ) → Option (List ℕ) → Result (Option VersionMarker) Refusal
 version_marker_from (Some key) id = Ok (Some (record { key = key; version = wanted id }))
 version_marker_from None None = Ok None
@@ -75,7 +75,7 @@ unfoldable pub version_marker : List Parameter → Result (Option VersionMarker)
 version_marker parameters =
     version_marker_from (value_of (codes "key-marker") parameters) (value_of (codes "version-id-marker") parameters)
 
--- after a key, or after an upload of it; with no key an upload is not looked at
+-- after a key, or after an upload of it; without a key an upload is ignored
 abbrev pub upload_marker_from : Option (List ℕ) → Option (List ℕ) → Result (Option UploadMarker) Refusal
 upload_marker_from None id = Ok None
 upload_marker_from (Some key) None = Ok (Some (record { key = key; upload = None }))

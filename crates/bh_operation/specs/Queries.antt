@@ -1,4 +1,4 @@
--- The parameters of a query, and which of them the host knows.
+-- The parameters of a query, and those that the host knows.
 use Rattle.std.specs.Prelude.{ℕ, ◌||◌, ◌&&◌, Bool, List, [], ◌∷◌, map, find, count_by, nat_lt, codes, Option, Some, None, option_map}
 use Rattle.std.specs.Prelude.{option_and_then, is_some, if◌then◌else◌, Result, Ok, Err}
 use Rattle.std.specs.List.{list_any}
@@ -12,7 +12,7 @@ use Rattle.bh_operation.specs.declared.query.Selector.{Selector}
 use Rattle.bh_operation.specs.declared.query.Selector.TheVariants.{ListType, Versions, Uploads, Versioning, Lifecycle, Usage, UploadId}
 use Rattle.bh_operation.specs.declared.query.Selector.TheVariants.{Retention}
 
--- the text that an encoded name or value stands for
+-- the text that an encoded name or value encodes
 abbrev pub form_text : List ℕ → List ℕ
 form_text bytes = utf8_lossy (decode bytes)
 
@@ -27,7 +27,7 @@ parameters_of query = map decoded_pair (raw_pairs query)
 abbrev pub is_among : List (List ℕ) → List ℕ → Bool
 is_among names name = list_any (λ n. bytes_eq n name) names
 
--- parameters of operations that the host does not do
+-- parameters of operations that the host doesn't support
 unfoldable pub is_unsupported : List ℕ → Bool
 is_unsupported =
     is_among (codes "accelerate" ∷ codes "acl" ∷ codes "analytics" ∷ codes "attributes" ∷ codes "cors" ∷ codes "delete"
@@ -37,7 +37,7 @@ is_unsupported =
     ∷ codes "requestPayment" ∷ codes "restore" ∷ codes "select" ∷ codes "start-after"
     ∷ codes "tagging" ∷ codes "torrent" ∷ codes "website" ∷ [])
 
--- parameters that tell operations apart
+-- parameters that select the operation
 unfoldable pub selector_of : List ℕ → Option Selector
 selector_of name =
     if bytes_eq name (codes "list-type") then Some ListType
@@ -53,7 +53,7 @@ selector_of name =
 abbrev pub is_selector : List ℕ → Bool
 is_selector name = is_some (selector_of name)
 
--- parameters that operations read
+-- parameters that operations use
 unfoldable pub is_argument : List ℕ → Bool
 is_argument =
     is_among (codes "partNumber" ∷ codes "max-keys" ∷ codes "max-uploads" ∷ codes "max-parts"
@@ -63,15 +63,15 @@ is_argument =
 abbrev pub is_known : List ℕ → Bool
 is_known name = is_unsupported name || is_selector name || is_argument name
 
--- how many parameters have a name
+-- the number of parameters with a name
 abbrev pub count_named : List ℕ → List Parameter → ℕ
 count_named name parameters = count_by (λ p. bytes_eq p.name name) parameters
 
--- a parameter that the host knows stands with another of its name
+-- a parameter that the host knows is repeated
 abbrev pub is_repeated : List Parameter → Parameter → Bool
 is_repeated parameters p = is_known p.name && nat_lt 1 (count_named p.name parameters)
 
--- third step: no parameter that the host knows is given twice
+-- third step: no parameter that the host knows is repeated
 unfoldable pub given_once : List Parameter → Result (List Parameter) Refusal
 given_once parameters =
     if list_any (is_repeated parameters) parameters then Err InvalidArgument else Ok parameters
@@ -93,7 +93,7 @@ abbrev pub first_selector : List Parameter → Option Selector
 first_selector parameters =
     option_and_then (λ p. selector_of p.name) (find (λ p. is_selector p.name) parameters)
 
--- fifth step, its beginning: at most one selector is given
+-- fifth step, its beginning: there is at most one selector
 unfoldable pub selected : List Parameter → Result (Option Selector) Refusal
 selected parameters =
     if nat_lt 1 (count_selectors parameters) then Err InvalidArgument else Ok (first_selector parameters)

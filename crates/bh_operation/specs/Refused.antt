@@ -1,4 +1,4 @@
--- How a request's operation may be refused.
+-- The refusals of a request's operation.
 use Rattle.std.specs.Prelude.{ℕ, Bool, true, false, List}
 use Rattle.bh_types.specs.Refusing.{RefusedOnly}
 use Rattle.bh_types.specs.declared.refusal.Refusal.{Refusal}
@@ -17,6 +17,6 @@ is_operation_refusal InvalidArgument = true
 is_operation_refusal MethodNotAllowed = true
 is_operation_refusal refusal = false
 
--- whoever asks, and whatever is asked
+-- whoever the caller is, and whatever the request is
 abbrev pub OperationRefusals : Type 0
 OperationRefusals = (caller : List ℕ) (request : Taken) → RefusedOnly is_operation_refusal (operation caller request)

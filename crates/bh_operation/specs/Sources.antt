@@ -1,5 +1,5 @@
--- What the header field x-amz-copy-source names: `bucket/key` or `/bucket/key`, percent-encoded, and then perhaps
--- `?versionId=` and an id.
+-- The header field x-amz-copy-source: `bucket/key` or `/bucket/key`, percent-encoded, with an
+-- optional `?versionId=` and an id.
 use Rattle.std.specs.Prelude.{ℕ, ◌==◌, List, [], ◌∷◌, length, take, drop, codes, Option, Some, None, is_none, position, if◌then◌else◌}
 use Rattle.std.specs.Prelude.{Result, Ok, Err}
 use Rattle.std.specs.List.{before_first, after_first}
@@ -19,7 +19,7 @@ abbrev pub without_slash : List ℕ → List ℕ
 without_slash [] = []
 without_slash (b ∷ rest) = if is_slash b then rest else b ∷ rest
 
--- an id is taken as it stands; one that is no text is unknown
+-- an id is taken as it is; one that is not a text is unknown
 abbrev pub named_by : Option (List ℕ) → Wanted
 named_by None = Unknown
 named_by (Some text) = wanted (Some text)
@@ -48,7 +48,7 @@ source_of value = do
   key ← source_part (after_first is_slash (source_path value))
   Ok (record { bucket = bucket; key = key; version = version })
 
--- the source of a field that stands just once
+-- the source in a field that occurs exactly once
 unfoldable pub source_in : Occurrence → Result Source Refusal
 source_in Missing = Err InvalidArgument
 source_in (Once value) = source_of value

@@ -42,11 +42,11 @@ abbrev pub has_whole_escapes : List ℕ → Bool
 has_whole_escapes [] = true
 has_whole_escapes (b ∷ rest) = (not (is_percent b) || begins_with_digits rest) && has_whole_escapes rest
 
--- the text that bytes are, if they are UTF-8
+-- the text of bytes, if they are UTF-8
 abbrev pub text_of : List ℕ → Option (List ℕ)
 text_of bytes = if is_utf8 bytes then Some bytes else None
 
--- the text that percent-encoded bytes stand for, if they do
+-- the text that percent-encoded bytes encode, if they do
 -- RFC 3986, section 2.1
 abbrev pub decoded : List ℕ → Option (List ℕ)
 decoded bytes = if has_whole_escapes bytes then text_of (percent_decode bytes) else None
@@ -57,18 +57,18 @@ kind_with [] key = None
 kind_with (b ∷ bucket) [] = Some kind.Bucket
 kind_with (b ∷ bucket) (k ∷ key) = Some kind.Object
 
--- after the first slash of a path stands nothing, a bucket, or a bucket, a slash and what follows it
+-- after a path's first slash there is nothing, a bucket, or a bucket, a slash and a key
 abbrev pub kind_in : List ℕ → Option Kind
 kind_in [] = Some kind.Host
 kind_in (b ∷ rest) = kind_with (before_first is_slash (b ∷ rest)) (after_first is_slash (b ∷ rest))
 
--- what kind of target a path is: `/`, `/bucket`, `/bucket/` or `/bucket/key`
+-- the kind of a path's target: `/`, `/bucket`, `/bucket/` or `/bucket/key`
 -- Amazon S3 User Guide, "Path-style requests"
 abbrev pub kind_at : List ℕ → Option Kind
 kind_at [] = None
 kind_at (b ∷ rest) = if is_slash b then kind_in rest else None
 
--- the kind of a path, if it is a text that has one
+-- the kind of a path, if it has one
 abbrev pub kind_of : List ℕ → Option Kind
 kind_of path = option_and_then kind_at (text_of path)
 
@@ -76,11 +76,11 @@ abbrev pub or_invalid_uri : {A : Type 0} → Option A → Result A Refusal
 or_invalid_uri None = Err InvalidUri
 or_invalid_uri (Some x) = Ok x
 
--- first step: the path is of a kind
+-- first step: the path has a kind
 unfoldable pub routed : List ℕ → Result Kind Refusal
 routed path = or_invalid_uri (kind_of path)
 
--- what stands between the first slash and the next, and all that stands after that
+-- the bytes between the first slash and the next, and all bytes after that
 abbrev pub bucket_part : List ℕ → List ℕ
 bucket_part path = before_first is_slash (drop 1 path)
 

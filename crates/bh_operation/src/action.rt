@@ -4,7 +4,7 @@ ghost use Rattle.bh_operation.specs.Actions as spec;
 use crate::query::Selector;
 use bh_types::refusal::Refusal;
 
-/// A request's method (RFC 9110, section 9), which is compared with case.
+/// A request's method (RFC 9110, section 9). Methods are case-sensitive.
 #[derive(Clone, Copy)]
 pub enum Method {
     Get,
@@ -12,11 +12,11 @@ pub enum Method {
     Put,
     Post,
     Delete,
-    /// A method that no operation has.
+    /// A method without operations.
     Other,
 }
 
-/// What is asked of a bucket.
+/// The action that a request asks for on a bucket.
 #[derive(Clone, Copy)]
 pub enum BucketAction {
     Create,
@@ -32,7 +32,7 @@ pub enum BucketAction {
     DeleteLifecycle,
 }
 
-/// What is asked of an object.
+/// The action that a request asks for on an object.
 #[derive(Clone, Copy)]
 pub enum ObjectAction {
     Put,
@@ -68,8 +68,8 @@ pub fn method_of(name: &[u8]) -> Method
     }
 }
 
-/// What a method and a selector ask of a bucket: NotImplemented for the first version of S3's ListObjects,
-/// MethodNotAllowed where they ask nothing.
+/// The action that a method and a selector request of a bucket. Fails with NotImplemented for S3's
+/// ListObjects (version 1), and with MethodNotAllowed if they request none.
 #[tactic(auto, unfolding(crate::specs::Actions::bucket_action))]
 pub fn bucket_action(method: Method, selector: Option<Selector>) -> Result<BucketAction, Refusal>
     ensures { result ≡ spec.bucket_action method selector }
@@ -91,9 +91,9 @@ pub fn bucket_action(method: Method, selector: Option<Selector>) -> Result<Bucke
     }
 }
 
-/// What a method and a selector ask of an object, where the query has a part number or not and the header a
-/// copy source or not: InvalidArgument for a part number that nothing reads or that is missing, NotImplemented
-/// for S3's UploadPartCopy, MethodNotAllowed where they ask nothing.
+/// The action that a method and a selector request of an object, given whether there are a part
+/// number and a copy source. Fails with InvalidArgument if a part number is missing or has no use,
+/// with NotImplemented for S3's UploadPartCopy, and with MethodNotAllowed if they request none.
 #[tactic(auto, unfolding(crate::specs::Actions::object_action))]
 pub fn object_action(
     method: Method,

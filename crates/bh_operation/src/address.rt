@@ -9,14 +9,15 @@ use bh_types::names::TenantName;
 use bh_types::refusal::Refusal;
 use std::alloc::Global;
 
-/// An object of the caller's, by its bucket's name and its key.
+/// An object of the caller, by its bucket's name and its key.
 #[derive(Drop)]
 pub struct ObjectName {
     pub bucket: BucketName,
     pub key: ObjectKey,
 }
 
-/// The name in `tenant:bucket`, copied, or a text with no colon as it is: AccessDenied where the tenant is another one.
+/// The name in `tenant:bucket`, or a whole text without a colon, copied. Fails with AccessDenied if
+/// the tenant is another one.
 #[tactic(auto, unfolding(crate::specs::Addresses::own_part))]
 fn own_part(alloc: Global, caller: &TenantName, text: Text) -> Result<Text, RequestError>
     ensures { Gives (λ x. x) result (spec.own_part caller.now text) }
@@ -45,8 +46,8 @@ fn object_key(text: Text) -> Result<ObjectKey, RequestError>
     ObjectKey::from_string(text.into_string()).ok_or(RequestError::Refused(Refusal::KeyTooLong))
 }
 
-/// The caller's bucket that a text names, told from the text alone: AccessDenied where it names another tenant,
-/// InvalidBucketName where it is no name.
+/// The caller's bucket that a text names, which depends on the text alone. Fails with AccessDenied
+/// if it names another tenant, and with InvalidBucketName if it is not a name.
 #[tactic(auto, unfolding(crate::specs::Addresses::bucket_named))]
 pub(crate) fn bucket_named(
     alloc: Global,
@@ -59,7 +60,8 @@ pub(crate) fn bucket_named(
     bucket_name(name)
 }
 
-/// The caller's object that two texts name: as for its bucket, and then KeyTooLong where the key is too long.
+/// The caller's object that two texts name. Fails as for its bucket, and then with KeyTooLong if
+/// the key is too long.
 #[tactic(auto, unfolding(crate::specs::Addresses::object_named))]
 pub(crate) fn object_named(
     alloc: Global,

@@ -15,8 +15,8 @@ fn allow_at(kind: Kind) -> Allow
     }
 }
 
-/// The methods that a target takes (RFC 9110, section 10.2.1), as an answer of MethodNotAllowed tells them: `None`
-/// where its path is of no kind.
+/// The methods that a target supports, for the Allow field of a 405 response (RFC 9110, section
+/// 10.2.1). `None` if its path is of no kind.
 pub fn allow_of(routes: &Routes, target: &[u8]) -> Option<Allow>
     ensures { result ≡ spec.allow_of target.now }
 {

@@ -17,7 +17,7 @@ use bh_types::moment::Moment;
 use bh_types::refusal::Refusal;
 use std::alloc::{AllocError, Global};
 
-/// Whether a field stands in a request, once or more.
+/// Whether a request has a field, once or more.
 pub fn stands(given: Given) -> bool
     ensures { result ≡ spec.stands (given_view given.entry) }
 {
@@ -36,7 +36,7 @@ fn lock_date<'a>(fields: &[Field<'a>]) -> Given<'a>
     field_named(fields, b"x-amz-object-lock-retain-until-date")
 }
 
-/// Whether a date is given for the object of an upload, which the host does not do.
+/// Whether a date is given for the object of an upload, which the host doesn't support.
 fn dates_upload(method: Method, fields: &[Field<'_>]) -> bool
     ensures { result ≡ spec.dates_upload method (pairs_of fields.now) }
 {
@@ -52,7 +52,8 @@ fn any_unsupported(parameters: &[Parameter]) -> bool
     parameters.iter().any(|p| is_unsupported(p.name.as_str()))
 }
 
-/// NotImplemented where a parameter or a header field asks for what the host does not do.
+/// Fails with NotImplemented if a parameter or a header field requests a feature that the host
+/// doesn't have.
 #[tactic(auto, unfolding(crate::specs::Headers::supported))]
 pub fn supported(
     method: Method,
@@ -67,8 +68,9 @@ pub fn supported(
     Ok(())
 }
 
-/// Whether a new bucket is to be locked (Amazon S3 API Reference, CreateBucket: `x-amz-bucket-object-lock-enabled`):
-/// InvalidArgument where the field has another value than `true` or `false`, or stands twice.
+/// Whether a new bucket is to be locked (Amazon S3 API Reference, CreateBucket:
+/// `x-amz-bucket-object-lock-enabled`). Fails with InvalidArgument if the field is repeated, or
+/// isn't `true` or `false`.
 #[tactic(auto, unfolding(crate::specs::Headers::lock_in))]
 pub fn lock_in(fields: &[Field<'_>]) -> Result<bool, Refusal>
     ensures { result ≡ spec.lock_in (pairs_of fields.now) }
@@ -92,9 +94,10 @@ fn lock_told(value: &[u8]) -> Result<bool, Refusal>
     }
 }
 
-/// The date until which a new version is to be kept (Amazon S3 API Reference, PutObject: `x-amz-object-lock-mode` and
-/// `x-amz-object-lock-retain-until-date`), if the request gives one. The inner `None` is a fault of the two fields: one
-/// without the other, one that stands twice, another mode than `COMPLIANCE`, or no moment.
+/// The date until which a new version is to be retained, if the request has one (Amazon S3 API
+/// Reference, PutObject: `x-amz-object-lock-mode` and `x-amz-object-lock-retain-until-date`). The
+/// inner `None` means that the two fields are invalid: one without the other, a repeated one, a
+/// mode other than `COMPLIANCE`, or a date that can't be read.
 pub fn date_in(fields: &[Field<'_>]) -> Option<Option<Moment>>
     ensures { result ≡ spec.date_in (pairs_of fields.now) }
 {
@@ -124,8 +127,8 @@ pub fn copy_source<'a>(fields: &[Field<'a>]) -> Given<'a>
     field_named(fields, b"x-amz-copy-source")
 }
 
-/// The checksum that a body must have (Amazon S3 API Reference, PutObject: `x-amz-checksum-sha256`), if one is given:
-/// InvalidArgument where two are.
+/// The checksum that a body must have, if the request has one (Amazon S3 API Reference, PutObject:
+/// `x-amz-checksum-sha256`). Fails with InvalidArgument if it has two.
 #[tactic(auto, unfolding(crate::specs::Headers::checksum_in))]
 pub fn checksum_in(alloc: Global, fields: &[Field<'_>]) -> Result<Option<Bytes>, RequestError>
     ensures { Gives (λ x. x) result (spec.checksum_in (pairs_of fields.now)) }
@@ -137,8 +140,8 @@ pub fn checksum_in(alloc: Global, fields: &[Field<'_>]) -> Result<Option<Bytes>,
     }
 }
 
-/// The text of the range that is asked for, if there is just one (RFC 9110, section 14.2). An error says that
-/// memory ran out.
+/// The text of the requested range, if there is exactly one (RFC 9110, section 14.2). Fails if
+/// memory runs out.
 pub fn range_in(alloc: Global, fields: &[Field<'_>]) -> Result<Option<Bytes>, AllocError>
     ensures { IfOk result (λ range. range ≡ spec.range_in (pairs_of fields.now)) }
 {

@@ -1,5 +1,5 @@
-//! Which operation of the host a request asks for, told from its method, target, query and header fields with one
-//! order of refusals.
+//! Finds the operation that a request asks for, from its method, target, query and header fields.
+//! Refusals have one fixed order.
 #![tactic(auto)]
 
 mod action;

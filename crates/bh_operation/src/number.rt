@@ -13,13 +13,13 @@ use bh_types::token::read_token;
 use bh_types::wanted::Wanted;
 use std::alloc::Global;
 
-/// The entries of a page where a request does not say how many, and the most that it gets.
+/// The maximum number of entries on a page, and the default.
 const MAX_PAGE: u32 = 1000;
 
 /// The greatest number of a part.
 const MAX_PART: u64 = 10_000;
 
-/// The number of 1 to 10 digits: InvalidArgument for another text.
+/// The number of 1 to 10 digits. Fails with InvalidArgument for another text.
 #[tactic(auto, unfolding(crate::specs::Numbers::short_number))]
 fn short_number(text: &str) -> Result<u64, Refusal>
     ensures { result ≡ spec.short_number text.now }
@@ -34,8 +34,8 @@ fn short_number(text: &str) -> Result<u64, Refusal>
     }
 }
 
-/// The number of entries of a page, 1,000 where none is given and at most that: InvalidArgument for a text that
-/// is not 1 to 10 digits.
+/// The number of entries on a page: 1,000 by default and at most. Fails with InvalidArgument for a
+/// text that is not 1 to 10 digits.
 #[tactic(auto, unfolding(crate::specs::Numbers::page_size))]
 pub fn page_size(text: Option<&str>) -> Result<u32, Refusal>
     ensures { result ≡ spec.page_size (option_copied text.entry) }
@@ -46,8 +46,8 @@ pub fn page_size(text: Option<&str>) -> Result<u32, Refusal>
     }
 }
 
-/// The number of the part after which a page of parts begins, 0 where none is given: InvalidArgument for a text
-/// that is not 1 to 10 digits.
+/// The number of the part after which a page of parts begins, 0 by default. Fails with
+/// InvalidArgument for a text that is not 1 to 10 digits.
 #[tactic(auto, unfolding(crate::specs::Numbers::part_marker))]
 pub fn part_marker(text: Option<&str>) -> Result<u64, Refusal>
     ensures { result ≡ spec.part_marker (option_copied text.entry) }
@@ -58,7 +58,8 @@ pub fn part_marker(text: Option<&str>) -> Result<u64, Refusal>
     }
 }
 
-/// The number of a part (Amazon S3 API Reference, UploadPart), 1 to 10,000: InvalidArgument for another text or none.
+/// The number of a part (Amazon S3 API Reference, UploadPart), 1 to 10,000. Fails with
+/// InvalidArgument for another text or none.
 #[tactic(auto, unfolding(crate::specs::Numbers::part_number))]
 pub fn part_number(text: Option<&str>) -> Result<u32, Refusal>
     ensures { result ≡ spec.part_number (option_copied text.entry) }
@@ -72,16 +73,16 @@ pub fn part_number(text: Option<&str>) -> Result<u32, Refusal>
     }
 }
 
-/// The bytes that pairs of hexadecimal digits write (RFC 4648, section 8, in either case): InvalidArgument for
-/// another text.
+/// The bytes of pairs of hexadecimal digits (RFC 4648, section 8, in either case). Fails with
+/// InvalidArgument for another text.
 pub fn token_in(alloc: Global, text: &str) -> Result<Bytes, RequestError>
     ensures { Gives (λ x. x) result (token_of text.now) }
 {
     Ok(Bytes::new(read_token(alloc, text)?))
 }
 
-/// The version that a request speaks of by the text of an id, or by none. No version has a number that is 0, or
-/// is 2^63 or more.
+/// The version that a request names by the text of an id, or by none. No version has the number 0,
+/// or a number from 2^63 on.
 #[tactic(auto, unfolding(crate::specs::Numbers::wanted))]
 pub fn wanted(text: Option<&str>) -> Wanted
     ensures { result ≡ spec.wanted (option_copied text.entry) }

@@ -28,25 +28,26 @@ use bh_types::refusal::Refusal;
 use bh_types::wanted::Wanted;
 use std::alloc::Global;
 
-/// What an object is copied from.
+/// The source of a copy.
 #[derive(Drop)]
 pub struct CopySource {
     pub object: ObjectName,
     pub version: Wanted,
 }
 
-/// What a request asks of the host, by the names of the Amazon S3 API Reference, and by what the host does with the
-/// request's body and with an object's bytes. An upload is `None` where the given id is none.
+/// A request's operation, named as in the Amazon S3 API Reference, and grouped by what the host
+/// does with the request's body and with an object's bytes. An upload is `None` if the given id
+/// can't be one.
 #[derive(Drop)]
 pub enum Operation {
-    /// Nothing is read of the body, and no object's bytes are answered.
+    /// The body isn't needed, and the answer has no object's bytes.
     Bare(BareOperation),
-    /// The body is a document that says what is to be done.
+    /// The body is a document with the operation's arguments.
     ByDocument(DocumentOperation),
     /// The body's bytes are stored.
     Store(StoreOperation),
-    /// `GET /bucket/key`, with the text of the header field Range, if just one stands. The object's bytes are answered, and
-    /// nothing is read of the body.
+    /// `GET /bucket/key`, with the text of the header field Range if there is exactly one. The
+    /// answer is the object's bytes; the request's body is ignored.
     GetObject {
         object: ObjectName,
         version: Wanted,
@@ -54,14 +55,14 @@ pub enum Operation {
     },
 }
 
-/// An operation that reads nothing of its request's body and answers no object's bytes, by what it is about.
+/// An operation that needs no request body and returns no object's bytes, by its subject.
 #[derive(Drop)]
 pub enum BareOperation {
     /// All buckets of the caller.
     Service(ServiceOperation),
     /// A bucket itself.
     Bucket(BucketOperation),
-    /// What a bucket has, a page at a time.
+    /// A page of a bucket's contents.
     Listing(ListingOperation),
     /// A bucket's rule.
     Lifecycle(LifecycleOperation),
@@ -71,16 +72,16 @@ pub enum BareOperation {
     Object(ObjectOperation),
 }
 
-/// What is asked of all buckets of the caller.
+/// An operation on all buckets of the caller.
 #[derive(Drop)]
 pub enum ServiceOperation {
     /// `GET /`
     ListBuckets,
-    /// `GET /?usage`, which S3 has not.
+    /// `GET /?usage`, which S3 doesn't have.
     Usage,
 }
 
-/// What is asked of a bucket itself.
+/// An operation on a bucket itself.
 #[derive(Drop)]
 pub enum BucketOperation {
     /// `PUT /bucket`, and whether the bucket is to be locked.
@@ -93,7 +94,7 @@ pub enum BucketOperation {
     GetBucketVersioning(BucketName),
 }
 
-/// A page of what a bucket has.
+/// A page of a bucket's contents.
 #[derive(Drop)]
 pub enum ListingOperation {
     /// `GET /bucket?list-type=2`, the names greater than the token's.
@@ -116,7 +117,7 @@ pub enum ListingOperation {
     },
 }
 
-/// What is asked of a bucket's rule with no document.
+/// An operation on a bucket's rule, without a document.
 #[derive(Drop)]
 pub enum LifecycleOperation {
     /// `GET /bucket?lifecycle`
@@ -125,7 +126,7 @@ pub enum LifecycleOperation {
     DeleteLifecycle(BucketName),
 }
 
-/// What is asked of a multipart upload with no document and no part's bytes.
+/// An operation on a multipart upload, without a document or a part's bytes.
 #[derive(Drop)]
 pub enum UploadOperation {
     /// `POST /bucket/key?uploads`
@@ -143,7 +144,7 @@ pub enum UploadOperation {
     },
 }
 
-/// What is asked of an object that neither takes nor gives its bytes, with no document.
+/// An operation on an object, without its bytes or a document.
 #[derive(Drop)]
 pub enum ObjectOperation {
     /// `PUT /bucket/key` with `x-amz-copy-source`, and a date as for `PutObject`.
@@ -169,7 +170,7 @@ pub enum ObjectOperation {
     },
 }
 
-/// An operation by the document that comes with its request.
+/// An operation whose arguments are in the request's document.
 #[derive(Drop)]
 pub enum DocumentOperation {
     /// `PUT /bucket?versioning`
@@ -188,11 +189,12 @@ pub enum DocumentOperation {
     },
 }
 
-/// An operation that stores the bytes that come with its request, with the checksum that they must have, if one is given.
+/// An operation that stores the request's bytes, with the checksum that they must have, if one is
+/// given.
 #[derive(Drop)]
 pub enum StoreOperation {
-    /// `PUT /bucket/key`, and the date until which the version is to be kept, if one is given. The inner `None` is a date
-    /// that is not given as it should be.
+    /// `PUT /bucket/key`, and the date until which the version is to be retained, if one is given.
+    /// The inner `None` is an invalid date.
     PutObject {
         object: ObjectName,
         checksum: Option<Bytes>,
@@ -207,7 +209,7 @@ pub enum StoreOperation {
     },
 }
 
-/// What an operation reads of a request, and who asks.
+/// The parts of a request that an operation depends on, and the caller.
 #[derive(Drop)]
 struct RequestParts<'a> {
     alloc: Global,
@@ -293,7 +295,8 @@ fn create_bucket(asked: &RequestParts, text: Text) -> Result<Operation, RequestE
     Ok(Bare(Bucket(BucketOperation::CreateBucket { bucket, locked })))
 }
 
-/// The operation on the bucket that a text names: first the parameters that it reads are looked at, and then the text.
+/// The operation on the bucket that a text names. The parameters that it needs are checked first,
+/// and then the text.
 #[tactic(auto, unfolding(crate::specs::Operations::bucket_operation))]
 fn bucket_operation(
     asked: &RequestParts,
@@ -315,7 +318,7 @@ fn bucket_operation(
     }
 }
 
-/// The operation on a bucket of an action that reads nothing but its name.
+/// The operation of an action that needs only the bucket's name.
 fn on_bucket(bucket: BucketName, action: BucketAction) -> Operation
     requires { is_some (spec.on_bucket bucket action) ≡ true }
     ensures { Some result ≡ spec.on_bucket bucket action }
@@ -351,7 +354,8 @@ fn put_object(asked: &RequestParts, text: Text, key: Text) -> Result<Operation, 
     }))
 }
 
-/// A copy: the names of its source are looked at last. Its checksum is only counted.
+/// A copy. The names of its source are checked last. Of its checksum only the number of fields is
+/// checked.
 #[tactic(auto, unfolding(crate::specs::Operations::copy_object))]
 fn copy_object(asked: &RequestParts, text: Text, key: Text) -> Result<Operation, RequestError>
     ensures { Gives (λ x. x) result
@@ -426,8 +430,8 @@ fn list_parts(asked: &RequestParts, text: Text, key: Text) -> Result<Operation, 
     })))
 }
 
-/// The operation on the object that two texts name: first the parameters and header fields that it reads are looked
-/// at, and then the texts.
+/// The operation on the object that two texts name. The parameters and header fields that it needs
+/// are checked first, and then the texts.
 #[tactic(auto, unfolding(crate::specs::Operations::object_operation))]
 fn object_operation(
     asked: &RequestParts,
@@ -451,7 +455,7 @@ fn object_operation(
     }
 }
 
-/// The operation on an object of an action that reads its name and no more than an id.
+/// The operation of an action that needs only the object's name and an optional id.
 fn on_object(object: ObjectName, parameters: &[Parameter], action: ObjectAction) -> Operation
     requires { is_some (spec.on_object object parameters.now action) ≡ true }
     ensures { Some result ≡ spec.on_object object parameters.now action }
@@ -508,7 +512,7 @@ fn operation_at(
     }
 }
 
-/// The operation on a target, if the host does what the parameters and header fields ask for.
+/// The operation on a target, if the host supports all parameters and header fields.
 fn supported_operation(
     asked: &RequestParts,
     method: &[u8],
@@ -523,13 +527,15 @@ fn supported_operation(
     operation_at(asked, method, target, selector)
 }
 
-/// The operation that a request of a caller asks for by its head, whatever its body, or its first refusal, in this order:
+/// The operation in the head of a caller's request, whatever its body, or its first refusal, in
+/// this order:
 ///
-/// - InvalidUri for a path that has no route or does not decode,
-/// - InvalidArgument for a parameter that the host knows and that is given twice,
-/// - NotImplemented for a parameter of what the host does not do, and for a retention date on POST,
-/// - InvalidArgument, NotImplemented or MethodNotAllowed where method, target and parameters make no operation,
-/// - InvalidArgument for a value that is not of its form,
+/// - InvalidUri for a path that has no route or can't be decoded,
+/// - InvalidArgument for a repeated parameter that the host knows,
+/// - NotImplemented for a parameter of an unsupported feature, and for a retention date on POST,
+/// - InvalidArgument, NotImplemented or MethodNotAllowed if method, target and parameters are not
+///   an operation,
+/// - InvalidArgument for a value in a wrong form,
 /// - AccessDenied, InvalidBucketName and KeyTooLong for the names, those of a copy's source last.
 #[tactic(auto, unfolding(crate::specs::Operations::operation))]
 pub fn operation_of(

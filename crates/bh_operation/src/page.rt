@@ -11,41 +11,41 @@ use bh_types::refusal::Refusal;
 use bh_types::wanted::Wanted;
 use std::alloc::{AllocError, Global};
 
-/// The names that a listing of a bucket asks for.
+/// The parameters of a page of a bucket's listing.
 #[derive(Drop)]
 pub struct Page {
-    /// What the listed keys begin with.
+    /// The prefix of the listed keys.
     pub prefix: Text,
-    /// Where keys are rolled up to one name, after the prefix; empty for nowhere.
+    /// After the prefix, keys are grouped up to this text; empty for no grouping.
     pub delimiter: Text,
-    /// How many entries the page has at most: 0 to 1,000.
+    /// The maximum number of entries on the page: 0 to 1,000.
     pub size: u32,
 }
 
-/// The parts that a listing of an upload asks for.
+/// The parameters of a page of an upload's parts.
 #[derive(Clone, Copy, PartialEq, Eq)]
 pub struct PartPage {
-    /// How many parts the page has at most: 0 to 1,000.
+    /// The maximum number of parts on the page: 0 to 1,000.
     pub size: u32,
-    /// The part after whose number it begins, 0 for the first.
+    /// The number after which it begins, 0 for the first page.
     pub after: u64,
 }
 
 /// The entry after which a page of versions begins.
 #[derive(Drop)]
 pub struct VersionMarker {
-    /// The name; it may be that of no key.
+    /// A name, which may not be any key's.
     pub key: Text,
-    /// `Current` for after all versions of that name.
+    /// `Current` means after all versions of that name.
     pub version: Wanted,
 }
 
 /// The entry after which a page of uploads begins.
 #[derive(Drop)]
 pub struct UploadMarker {
-    /// The name; it may be that of no key.
+    /// A name, which may not be any key's.
     pub key: Text,
-    /// `None` for after all uploads of that name.
+    /// `None` means after all uploads of that name.
     pub upload: Option<UploadId>,
 }
 
@@ -55,8 +55,8 @@ fn text_or_empty(alloc: Global, name: &str, parameters: &[Parameter]) -> Result<
     Text::copy_of(alloc, value_of(name, parameters).unwrap_or(""))
 }
 
-/// The page that the parameters ask for, its size given by the one of this name: InvalidArgument where that is not 1
-/// to 10 digits. A size above 1,000 is taken as that, and so is none.
+/// The page that the parameters request; its size is in the parameter `size_name`. Fails with
+/// InvalidArgument if the size is not 1 to 10 digits. The default and maximum is 1,000.
 #[tactic(auto, unfolding(crate::specs::Pages::page_in))]
 pub(crate) fn page_in(
     alloc: Global,
@@ -75,7 +75,7 @@ pub(crate) fn page_in(
     })
 }
 
-/// The page of uploads that the parameters ask for, as [`page_in`].
+/// The page of uploads that the parameters request, as for [`page_in`].
 #[tactic(auto, unfolding(crate::specs::Pages::upload_page))]
 pub(crate) fn upload_page(alloc: Global, parameters: &[Parameter]) -> Result<Page, RequestError>
     ensures { Gives (λ x. x) result (spec.upload_page parameters.now) }
@@ -83,8 +83,8 @@ pub(crate) fn upload_page(alloc: Global, parameters: &[Parameter]) -> Result<Pag
     page_in(alloc, "max-uploads", parameters)
 }
 
-/// The page of parts that the parameters ask for: InvalidArgument where its size or its marker is not 1 to 10
-/// digits.
+/// The page of parts that the parameters request. Fails with InvalidArgument if its size or its
+/// marker is not 1 to 10 digits.
 #[tactic(auto, unfolding(crate::specs::Pages::part_page))]
 pub(crate) fn part_page(parameters: &[Parameter]) -> Result<PartPage, Refusal>
     ensures { result ≡ spec.part_page parameters.now }
@@ -94,7 +94,7 @@ pub(crate) fn part_page(parameters: &[Parameter]) -> Result<PartPage, Refusal>
     Ok(PartPage { size, after })
 }
 
-/// InvalidArgument unless `list-type` is `2`, as S3's ListObjectsV2 has it.
+/// Fails with InvalidArgument unless `list-type` is `2`, for S3's ListObjectsV2.
 #[tactic(auto, unfolding(crate::specs::Pages::second_version))]
 pub(crate) fn second_version(parameters: &[Parameter]) -> Result<(), Refusal>
     ensures { result ≡ spec.second_version parameters.now }
@@ -105,8 +105,8 @@ pub(crate) fn second_version(parameters: &[Parameter]) -> Result<(), Refusal>
     }
 }
 
-/// The bytes of the continuation token, if one is given: InvalidArgument where it is not pairs of hexadecimal
-/// digits.
+/// The bytes of the continuation token, if one is given. Fails with InvalidArgument if it is not
+/// pairs of hexadecimal digits.
 #[tactic(auto, unfolding(crate::specs::Pages::token_of))]
 pub(crate) fn token_of(
     alloc: Global,
@@ -119,7 +119,8 @@ pub(crate) fn token_of(
         .transpose()
 }
 
-/// Where a page of versions begins: InvalidArgument where an id is given without a key.
+/// The position at which a page of versions begins. Fails with InvalidArgument if an id is given
+/// without a key.
 #[tactic(auto, unfolding(crate::specs::Pages::version_marker))]
 pub(crate) fn version_marker(
     alloc: Global,
@@ -139,8 +140,8 @@ pub(crate) fn version_marker(
     }
 }
 
-/// Where a page of uploads begins: InvalidArgument where an id is given with a key and is none. With no key it is
-/// not looked at.
+/// The position at which a page of uploads begins. Fails with InvalidArgument if an id is given
+/// with a key and can't be one. Without a key the id is ignored.
 #[tactic(auto, unfolding(crate::specs::Pages::upload_marker))]
 pub(crate) fn upload_marker(
     alloc: Global,

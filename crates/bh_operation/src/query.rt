@@ -18,7 +18,7 @@ pub struct Parameter {
     pub value: Text,
 }
 
-/// A parameter that tells operations apart.
+/// A parameter that selects the operation.
 #[derive(Clone, Copy)]
 pub enum Selector {
     ListType,
@@ -31,7 +31,7 @@ pub enum Selector {
     Retention,
 }
 
-/// Parameters of operations that the host does not do.
+/// Parameters of operations that the host doesn't support.
 const UNSUPPORTED: [&str; 27] = [
     "accelerate",
     "acl",
@@ -62,7 +62,7 @@ const UNSUPPORTED: [&str; 27] = [
     "website",
 ];
 
-/// Parameters that operations read.
+/// Parameters that operations use.
 const ARGUMENTS: [&str; 12] = [
     "partNumber",
     "max-keys",
@@ -78,8 +78,8 @@ const ARGUMENTS: [&str; 12] = [
     "versionId",
 ];
 
-/// The parameters of a query, as a form is read (`application/x-www-form-urlencoded` of the WHATWG URL
-/// Standard). An error says that memory ran out.
+/// The parameters of a query, parsed as a form (`application/x-www-form-urlencoded` of the WHATWG
+/// URL Standard). Fails if memory runs out.
 pub fn read_query(alloc: Global, query: &[u8]) -> Result<Vec<Parameter>, AllocError>
     ensures { IfOk result (λ found. found.items ≡ spec.parameters_of query.now) }
 {
@@ -105,7 +105,7 @@ fn is_among(names: &[&str], name: &str) -> bool
     names.iter().any(|n| *n == name)
 }
 
-/// Whether a name is that of a parameter of an operation that the host does not do.
+/// Whether a parameter belongs to an operation that the host doesn't support.
 #[tactic(auto, unfolding(crate::specs::Queries::is_unsupported))]
 pub fn is_unsupported(name: &str) -> bool
     ensures { result ≡ spec.is_unsupported name.now }
@@ -113,7 +113,7 @@ pub fn is_unsupported(name: &str) -> bool
     is_among(&UNSUPPORTED, name)
 }
 
-/// The selector of a name, if it is one.
+/// The selector with this name, if there is one.
 #[tactic(auto, unfolding(crate::specs::Queries::selector_of))]
 fn selector_of(name: &str) -> Option<Selector>
     ensures { result ≡ spec.selector_of name.now }
@@ -158,7 +158,7 @@ fn first_selector(parameters: &[Parameter]) -> Option<Selector>
     find_selector(parameters).and_then(|p| selector_of(p.name.as_str()))
 }
 
-/// The selector among the parameters, if there is one: InvalidArgument where there are two.
+/// The selector among the parameters, if there is one. Fails with InvalidArgument if there are two.
 #[tactic(auto, unfolding(crate::specs::Queries::selected))]
 pub fn selected(parameters: &[Parameter]) -> Result<Option<Selector>, Refusal>
     ensures { result ≡ spec.selected parameters.now }
@@ -198,7 +198,7 @@ fn any_repeated(parameters: &[Parameter]) -> bool
     parameters.iter().any(|p| is_repeated(p, parameters))
 }
 
-/// The parameters of a query: InvalidArgument where one that the host knows is given twice.
+/// The parameters of a query. Fails with InvalidArgument if one that the host knows is repeated.
 #[tactic(auto, unfolding(crate::specs::Queries::given_once, crate::specs::Queries::parameters_in))]
 pub fn parameters_in(alloc: Global, query: &[u8]) -> Result<Vec<Parameter>, RequestError>
     ensures { Gives (λ found. found.items) result (spec.parameters_in query.now) }

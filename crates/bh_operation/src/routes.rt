@@ -8,7 +8,8 @@ use matchit::{InsertError, Router};
 use std::alloc::{AllocError, Global};
 use std::marker::Model;
 
-/// The forms of a path, by which it is told what kind of target it is. They are made once; who asks them takes no memory.
+/// The forms of a path, which decide the kind of its target. They are made once, and matching
+/// allocates nothing.
 #[derive(Drop)]
 pub struct Routes {
     router: Router<Kind>,
@@ -45,7 +46,7 @@ impl Routes {
         }
     }
 
-    /// What kind of target a path is, if it is a text of one of these forms.
+    /// The kind of a path's target, if the path has one of these forms.
     pub(crate) fn kind_of(&self, path: &[u8]) -> Option<Kind>
         ensures { result ≡ target.kind_of path.now }
     {

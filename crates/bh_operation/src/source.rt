@@ -12,12 +12,12 @@ use bh_types::refusal::Refusal;
 use bh_types::wanted::Wanted;
 use std::alloc::Global;
 
-/// What a copy source names, decoded.
+/// The object in a copy source, decoded.
 #[derive(Drop)]
 pub struct Source {
-    /// The text that stands for its bucket's name.
+    /// The text of its bucket's name.
     pub bucket: Text,
-    /// The text that stands for its key.
+    /// The text of its key.
     pub key: Text,
     pub version: Wanted,
 }
@@ -31,7 +31,8 @@ fn without_slash(bytes: &[u8]) -> &[u8]
     }
 }
 
-/// The version of a query `versionId=` and an id, which is not decoded: InvalidArgument for another query.
+/// The version in a query `versionId=` and an id, which is not decoded. Fails with InvalidArgument
+/// for another query.
 #[tactic(auto, unfolding(crate::specs::Sources::version_after))]
 fn version_after(query: &[u8]) -> Result<Wanted, Refusal>
     ensures { result ≡ spec.version_after query.now }
@@ -45,7 +46,7 @@ fn version_after(query: &[u8]) -> Result<Wanted, Refusal>
     }
 }
 
-/// The version that a copy source speaks of: InvalidArgument where its query names something else.
+/// The version in a copy source. Fails with InvalidArgument if its query has another parameter.
 #[tactic(auto, unfolding(crate::specs::Sources::source_version))]
 fn source_version(value: &[u8]) -> Result<Wanted, Refusal>
     ensures { result ≡ spec.source_version value.now }
@@ -66,7 +67,8 @@ fn source_part(alloc: Global, part: &[u8]) -> Result<Text, RequestError>
     decode(alloc, part)?.ok_or(RequestError::Refused(Refusal::InvalidArgument))
 }
 
-/// What a copy source names. It is split first and decoded then, so that an escaped slash is no separator.
+/// The object in a copy source. It is split before it is decoded, so that an escaped slash is not a
+/// separator.
 #[tactic(auto, unfolding(crate::specs::Sources::source_of))]
 fn source_of(alloc: Global, value: &[u8]) -> Result<Source, RequestError>
     ensures { Gives (λ x. x) result (spec.source_of value.now) }
@@ -82,9 +84,10 @@ fn source_of(alloc: Global, value: &[u8]) -> Result<Source, RequestError>
     })
 }
 
-/// What the copy source of a request names: InvalidArgument where it stands twice, or is of another form than
-/// `bucket/key` or `/bucket/key`, percent-encoded, and then perhaps `?versionId=` and an id (`x-amz-copy-source`
-/// of CopyObject in the Amazon S3 API Reference).
+/// The object in a request's copy source (`x-amz-copy-source` of CopyObject in the Amazon S3 API
+/// Reference). The form is `bucket/key` or `/bucket/key`, percent-encoded, with an optional
+/// `?versionId=` and an id. Fails with InvalidArgument for another form, or if the field is
+/// repeated.
 #[tactic(auto, unfolding(crate::specs::Sources::source_in))]
 pub fn source_in(alloc: Global, field: Given) -> Result<Source, RequestError>
     ensures { Gives (λ x. x) result (spec.source_in (given_view field.entry)) }

@@ -11,25 +11,25 @@ use bh_types::refusal::Refusal;
 use percent_encoding::percent_decode;
 use std::alloc::{AllocError, Global};
 
-/// What kind of target a path is.
+/// The kind of a path's target.
 #[derive(Clone, Copy)]
 pub enum Kind {
     /// The host itself: `/`.
     Host,
     /// A bucket: `/bucket` or `/bucket/`.
     Bucket,
-    /// An object: `/bucket/key`, where the key may hold slashes.
+    /// An object: `/bucket/key`; the key may have slashes.
     Object,
 }
 
-/// What a target names, percent-decoded (RFC 3986, section 2.1).
+/// A target, percent-decoded (RFC 3986, section 2.1).
 #[derive(Drop)]
 pub enum Target {
     /// The host itself.
     Host,
-    /// A bucket, by the text that stands for its name.
+    /// A bucket, by the text of its name.
     Bucket(Text),
-    /// An object, by the texts that stand for its bucket's name and its key.
+    /// An object, by the texts of its bucket's name and its key.
     Object(Text, Text),
 }
 
@@ -51,7 +51,7 @@ pub fn path_of(target: &[u8]) -> &[u8]
     split_target(target).0
 }
 
-/// Where a byte first stands.
+/// The first place of a byte.
 pub fn place_of(byte: u8, bytes: &[u8]) -> Option<usize>
     ensures place { result ≡ position (λ b. b == byte) bytes.now }
     ensures within { IfSome result (λ at. at < length bytes.now) }
@@ -59,7 +59,7 @@ pub fn place_of(byte: u8, bytes: &[u8]) -> Option<usize>
     bytes.iter().position(|b| *b == byte)
 }
 
-/// What stands before the first slash, and what stands after it.
+/// The bytes before the first slash, and those after it.
 pub fn split_at_slash(bytes: &[u8]) -> (&[u8], &[u8])
     ensures before { result.0.now ≡ before_first spec.is_slash bytes.now }
     ensures after { result.1.now ≡ after_first spec.is_slash bytes.now }
@@ -93,7 +93,7 @@ fn has_whole_escapes(bytes: &[u8]) -> bool
     true
 }
 
-/// The text that percent-encoded bytes stand for, if each `%` begins an escape and the bytes are UTF-8.
+/// Decodes percent-encoded bytes, if each `%` begins an escape and the bytes are UTF-8.
 pub fn decode(alloc: Global, bytes: &[u8]) -> Result<Option<Text>, AllocError>
     ensures { IfOk result (λ text. text ≡ spec.decoded bytes.now) }
 {
@@ -105,7 +105,7 @@ pub fn decode(alloc: Global, bytes: &[u8]) -> Result<Option<Text>, AllocError>
     Ok(into_text(decoded))
 }
 
-/// The text that bytes are, which takes them over, if they are UTF-8.
+/// Takes over bytes as a text, if they are UTF-8.
 fn into_text(bytes: Vec<u8>) -> Option<Text>
     ensures { result ≡ spec.text_of bytes.items }
 {
@@ -125,7 +125,7 @@ pub fn text_of(bytes: &[u8]) -> Option<&str>
     }
 }
 
-/// The kind of a path: InvalidUri where it has none.
+/// The kind of a path. Fails with InvalidUri if it has none.
 #[tactic(auto, unfolding(crate::specs::Targets::routed))]
 pub fn routed(routes: &Routes, path: &[u8]) -> Result<Kind, RequestError>
     ensures { Gives (λ x. x) result (spec.routed path.now) }
@@ -135,7 +135,7 @@ pub fn routed(routes: &Routes, path: &[u8]) -> Result<Kind, RequestError>
         .ok_or(RequestError::Refused(Refusal::InvalidUri))
 }
 
-/// A name in a path, decoded: InvalidUri where it is at fault.
+/// A name in a path, decoded. Fails with InvalidUri if it can't be decoded.
 #[tactic(auto, unfolding(crate::specs::Targets::name_at))]
 fn name_at(alloc: Global, part: &[u8]) -> Result<Text, RequestError>
     ensures { Gives (λ x. x) result (spec.name_at part.now) }
@@ -149,7 +149,7 @@ fn after_first(bytes: &[u8]) -> &[u8]
     if bytes.is_empty() { bytes } else { &bytes[1..] }
 }
 
-/// What a path of a kind names: InvalidUri where a name in it is at fault.
+/// The target of a path of a kind. Fails with InvalidUri if a name in it can't be decoded.
 #[tactic(auto, unfolding(crate::specs::Targets::target_at))]
 pub fn target_at(alloc: Global, kind: Kind, path: &[u8]) -> Result<Target, RequestError>
     ensures { Gives (λ x. x) result (spec.target_at kind path.now) }

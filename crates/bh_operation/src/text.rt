@@ -4,7 +4,7 @@ ghost use Rattle.std.specs.String.{string_bytes};
 use std::alloc::{AllocError, Global};
 use std::marker::Model;
 
-/// A text that a request gives, decoded: UTF-8, which contracts see as its bytes.
+/// A text of a request, decoded: UTF-8, which contracts see as its bytes.
 #[derive(Drop)]
 pub struct Text {
     text: String,
@@ -27,7 +27,7 @@ impl Text {
         Text { text }
     }
 
-    /// A copy of a text. An error says that memory ran out.
+    /// A copy of a text. Fails if memory runs out.
     pub(crate) fn copy_of(alloc: Global, text: &str) -> Result<Text, AllocError>
         ensures { IfOk result (λ copy. copy ≡ text.now) }
     {
@@ -36,7 +36,7 @@ impl Text {
         })
     }
 
-    /// The `String` that holds the text.
+    /// The text as a `String`.
     pub(crate) fn into_string(self) -> String
         ensures { string_bytes result ≡ self }
     {
@@ -51,7 +51,7 @@ impl Text {
     }
 }
 
-/// Bytes that a request gives, which need not be UTF-8.
+/// Bytes of a request, which need not be UTF-8.
 #[derive(Drop)]
 pub struct Bytes {
     bytes: Vec<u8>,
@@ -73,7 +73,7 @@ impl Bytes {
         Bytes { bytes }
     }
 
-    /// A copy of bytes. An error says that memory ran out.
+    /// A copy of bytes. Fails if memory runs out.
     pub(crate) fn copy_of(alloc: Global, bytes: &[u8]) -> Result<Bytes, AllocError>
         ensures { IfOk result (λ copy. copy ≡ bytes.now) }
     {

@@ -1,5 +1,5 @@
--- What an operator's line orders. A line is a JSON object as a line of a script is, of an order, or that of a backup: its `at`
--- may be missing, and where it stands it doesn't count.
+-- The order in an operator's line: a JSON object as in a script's line, of an order or a backup.
+-- Its `at` is optional and ignored.
 use Rattle.std.specs.Prelude.{◌≡◌, ◌≤◌, ℕ, ◌+◌, Bool, false, ◌&&◌, is_some, unwrap_or, List, [], ◌∷◌, ◌++◌, ◌==◌, codes, length, take, drop}
 use Rattle.std.specs.Prelude.{position, Option, Some, None, option_map, option_and_then, if◌then◌else◌}
 use Rattle.std.specs.Option.{option_or}
@@ -16,22 +16,22 @@ use Rattle.bh_operator.specs.declared.order.Order.TheVariants as given
 
 -- ---- the secret
 
--- what follows a text at the front of a line
+-- the bytes after a text at the front of a line
 abbrev pub after : List ℕ → List ℕ → Option (List ℕ)
 after text line = if bytes_eq (take (length text) line) text then Some (drop (length text) line) else None
 
--- what follows a word and a space
+-- the bytes after a word and a space
 abbrev pub after_word : List ℕ → List ℕ → Option (List ℕ)
 after_word word line = option_and_then (after (32 ∷ [])) (after word line)
 
--- where there is a secret, a line begins with it and a space
+-- if there is a secret, a line begins with it and a space
 abbrev pub admitted : Option (List ℕ) → List ℕ → Option (List ℕ)
 admitted None line = Some line
 admitted (Some secret) line = after_word secret line
 
 -- ---- the order
 
--- something that is an event of the host, or a copy of it under a name, which is none
+-- an event of the host, or a copy of it under a name, which is not an event
 pub data Order : Type 0 where
   ToDo : (event : Arrival) → Order
   ToCopy : (to : List ℕ) → Order
@@ -40,15 +40,15 @@ abbrev pub order_view : Given → Order
 order_view (given.Event event) = ToDo (arrival event)
 order_view (given.Backup to) = ToCopy (string_bytes to)
 
--- an object with an `at` put first
+-- an object with an `at` inserted first
 abbrev pub with_at : List ℕ → Option (List ℕ)
 with_at line = option_map (λ n. take (n + 1) line ++ (codes "\"at\":0," ++ drop (n + 1) line)) (position (λ b. b == 123) line)
 
--- the event that a line tells, with its `at` or with one put there
+-- the event in a line, with its own `at` or an added one
 abbrev pub told_with_at : List ℕ → Option Arrival
 told_with_at line = option_or (told_by line) (option_and_then told_by (with_at line))
 
--- an operator orders; requests come elsewhere
+-- an operator's order; requests come elsewhere
 abbrev pub order_of : Message → Option Message
 order_of (Requested bytes) = None
 order_of (Ordered order) = Some (Ordered order)
@@ -56,7 +56,7 @@ order_of (SweepOrdered limit) = Some (SweepOrdered limit)
 order_of ReportOrdered = Some ReportOrdered
 order_of TenantsOrdered = Some TenantsOrdered
 
--- it counts at a reading of the clock, whatever the line says
+-- it counts at a reading of the clock, whatever the line has
 abbrev pub order_at : ℕ → Arrival → Option Arrival
 order_at reading told = option_map (arrival_at reading) (order_of told.message)
 
@@ -79,18 +79,18 @@ backup_in d = if is_backup d then text_at (codes "to") d else None
 abbrev pub backup_told : List ℕ → Option (List ℕ)
 backup_told line = option_and_then backup_in (value_in line)
 
--- the name that a line orders a backup under, with its `at` or with one put there
+-- the name of the backup in a line, with its own `at` or an inserted one
 abbrev pub backup_with_at : List ℕ → Option (List ℕ)
 backup_with_at line = option_or (backup_told line) (option_and_then backup_told (with_at line))
 
 abbrev pub order_told : ℕ → List ℕ → Option Order
 order_told reading line = option_or (option_map ToDo (event_told reading line)) (option_map ToCopy (backup_with_at line))
 
--- what the bytes of a connection order, under a secret if there is one
+-- the order in a connection's bytes, under a secret if there is one
 abbrev pub ordered_by : Option (List ℕ) → ℕ → List ℕ → Option Order
 ordered_by secret reading bytes = option_and_then (order_told reading) (option_and_then (admitted secret) (line_in bytes))
 
--- what was taken orders what all the bytes do that the reader would give
+-- the read bytes have the same order as all the bytes that the reader would return
 pub record TookOrder (secret : Option (List ℕ)) (reading : ℕ) (old new : Option (List ℕ)) (taken : List ℕ) (order : Option Order) :
     Type 0 where
   pub consumed : Consumes old new taken

@@ -9,7 +9,7 @@ ghost use Rattle.bh_operator.specs.Orders as spec;
 use serde_json::Value;
 use std::alloc::{AllocError, Global};
 
-/// The name of the backup that a JSON object with an `at` orders; none where the line is no such object.
+/// The name of the backup in a JSON object with an `at`; `None` if the line is not such an object.
 pub(crate) fn backup_told(alloc: Global, line: &[u8]) -> Result<Option<String>, AllocError>
     ensures { IfOk result (λ to. option_map string_bytes to ≡ spec.backup_told line.now) }
 {
@@ -35,7 +35,7 @@ fn backup_in(alloc: Global, document: &Value) -> Result<Option<String>, AllocErr
     }
 }
 
-/// Whether an object with an `at` and one other member beside it orders a backup.
+/// Whether an object with an `at` and one other member, beside `op`, orders a backup.
 fn is_backup(document: &Value) -> bool
     ensures { result ≡ spec.is_backup (view document.now) }
 {

@@ -1,4 +1,4 @@
-//! The line that an operator sends to a host that serves, and what it orders.
+//! The line that an operator sends to a running server, and its order.
 #![tactic(auto)]
 
 mod backup;

@@ -1,4 +1,4 @@
-//! One line from a reader.
+//! Reads one line from a reader.
 ghost use Rattle.std.specs.Prelude.{◌≡◌, ◌++◌, ◌∷◌, ℕ, List, [], false, vec_items, IfOk, IfErr, OnOk};
 ghost use Rattle.std.specs.Option.{option_map};
 ghost use Rattle.bh_link.specs.Taking.{is_fault};
@@ -10,11 +10,12 @@ use bh_link::link::Link;
 use bh_link::request::TakeError;
 use std::alloc::{AllocError, Global};
 
-/// The most bytes of a line, with its line feed: as many as a request's head has.
+/// The maximum bytes of a line, with its line feed, as for a request's head.
 const MOST: usize = 16384;
 
-/// Takes the bytes up to the first line feed, one by one, and gives those before it; none where the reader ends before
-/// one comes, or none is among the first 16,384 bytes. After the line feed no byte is taken.
+/// Reads the bytes up to the first line feed, one by one, and returns those before it. `None` if
+/// the reader ends first, or if none of the first 16,384 bytes is a line feed. No byte after the
+/// line feed is read.
 pub fn take_line<R: Source>(
     alloc: Global,
     reader: &mut Link<R>,

@@ -1,4 +1,4 @@
-//! What a line orders.
+//! The order in an operator's line.
 ghost use Rattle.std.specs.Prelude.{◌≡◌, ◌<◌, ◌==◌, ◌++◌, ℕ, List, codes, false, length, position, vec_items, IfOk, IfErr, IfSome, OnOk};
 ghost use Rattle.std.specs.Prelude.{option_map, option_and_then};
 ghost use Rattle.std.specs.String.{string_bytes};
@@ -17,20 +17,20 @@ use bh_link::link::Link;
 use bh_link::request::TakeError;
 use std::alloc::{AllocError, Global};
 
-/// What a line orders.
+/// The order in an operator's line.
 #[derive(Drop)]
 pub enum Order {
-    /// Something that is an event of the host.
+    /// An event of the host.
     Event(Event),
-    /// A copy of the host in a new file of this name, which is none.
+    /// A copy of the host in a new file of this name, which is not an event.
     Backup { to: String },
 }
 
-/// The `at` that is put into an object that has none. It doesn't count.
+/// The `at` that is inserted into an object without one. Its value is ignored.
 const AT: &[u8] = b"\"at\":0,";
 
-/// Takes a line, as [`take_line`] does, and gives what it orders at a reading of the clock, as [`order_of_line`] says; none
-/// where no line comes.
+/// Reads a line, as [`take_line`] does, and returns its order at a reading of the clock, as
+/// [`order_of_line`] does; `None` if no line comes.
 pub fn take_order<R: Source>(
     alloc: Global,
     secret: Option<&[u8]>,
@@ -54,9 +54,10 @@ pub fn take_order<R: Source>(
     }
 }
 
-/// What a line orders at a reading of the clock, in seconds since 1970; none where it isn't an order. Where there is a secret
-/// the line begins with it and a space. Then comes a JSON object (RFC 8259) as a line of a script has, which is no request, or
-/// that of a backup, `{"op":"backup","to":".."}`: its `at` may be missing and doesn't count.
+/// A line's order at a reading of the clock, in seconds since 1970; `None` if it isn't an order. If
+/// there is a secret, the line begins with it and a space. Then comes a JSON object (RFC 8259) with
+/// an `op`, as in a script's line, or the one of a backup, `{"op":"backup","to":".."}`. Its `at` is
+/// optional and ignored.
 pub fn order_of_line(
     alloc: Global,
     secret: Option<&[u8]>,
@@ -72,7 +73,7 @@ pub fn order_of_line(
     }
 }
 
-/// What an object orders.
+/// The order in an object.
 fn order_told(alloc: Global, reading: u64, line: &[u8]) -> Result<Option<Order>, AllocError>
     ensures { IfOk result (λ found. option_map spec.order_view found ≡ spec.order_told reading line.now) }
 {
@@ -85,7 +86,7 @@ fn order_told(alloc: Global, reading: u64, line: &[u8]) -> Result<Option<Order>,
     }
 }
 
-/// The event that an object orders.
+/// The event in an object.
 fn event_told(alloc: Global, reading: u64, line: &[u8]) -> Result<Option<Event>, AllocError>
     ensures { IfOk result (λ found. option_map arrival found ≡ spec.event_told reading line.now) }
 {
@@ -95,7 +96,7 @@ fn event_told(alloc: Global, reading: u64, line: &[u8]) -> Result<Option<Event>,
     }
 }
 
-/// The name of the backup that a line orders, with its `at` or with one put there.
+/// The name of the backup in a line, with its own `at` or an inserted one.
 fn backup_with_at(alloc: Global, line: &[u8]) -> Result<Option<String>, AllocError>
     ensures { IfOk result (λ to. option_map string_bytes to ≡ spec.backup_with_at line.now) }
 {
@@ -108,7 +109,7 @@ fn backup_with_at(alloc: Global, line: &[u8]) -> Result<Option<String>, AllocErr
     }
 }
 
-/// What follows the secret, if there is one.
+/// The text after the secret, if there is one.
 fn admitted<'a>(secret: Option<&[u8]>, line: &'a [u8]) -> Option<&'a [u8]>
     ensures { option_map (λ s. s.now) result ≡ spec.admitted (option_map (λ s. s.now) secret.entry) line.now }
 {
@@ -118,21 +119,21 @@ fn admitted<'a>(secret: Option<&[u8]>, line: &'a [u8]) -> Option<&'a [u8]>
     }
 }
 
-/// What follows a word and a space.
+/// The text after a word and a space.
 fn after_word<'a>(word: &[u8], line: &'a [u8]) -> Option<&'a [u8]>
     ensures { option_map (λ s. s.now) result ≡ spec.after_word word.now line.now }
 {
     after(b" ", after(word, line)?)
 }
 
-/// What follows a text at the front of a line.
+/// The text after another one at the front of a line.
 fn after<'a>(text: &[u8], line: &'a [u8]) -> Option<&'a [u8]>
     ensures { option_map (λ s. s.now) result ≡ spec.after text.now line.now }
 {
     line.strip_prefix(text)
 }
 
-/// The event that a line tells, with its `at` or with one put there.
+/// The event in a line, with its own `at` or an added one.
 fn told_with_at(alloc: Global, line: &[u8]) -> Result<Option<Event>, AllocError>
     ensures { IfOk result (λ found. option_map arrival found ≡ spec.told_with_at line.now) }
 {
@@ -145,7 +146,7 @@ fn told_with_at(alloc: Global, line: &[u8]) -> Result<Option<Event>, AllocError>
     }
 }
 
-/// A line with an `at` put after its first brace, if it has one.
+/// A line with an `at` inserted after its first brace, if it has one.
 fn with_at(alloc: Global, line: &[u8]) -> Result<Option<Vec<u8>>, AllocError>
     ensures { IfOk result (λ text. option_map vec_items text ≡ spec.with_at line.now) }
 {
@@ -156,7 +157,7 @@ fn with_at(alloc: Global, line: &[u8]) -> Result<Option<Vec<u8>>, AllocError>
     Ok(Some(text))
 }
 
-/// Where the first brace stands.
+/// The place of the first brace.
 fn brace_in(line: &[u8]) -> Option<usize>
     ensures place { result ≡ position (λ b. b == 123) line.now }
     ensures within { IfSome result (λ at. at < length line.now) }
@@ -174,7 +175,7 @@ fn put_at(alloc: Global, before: &[u8], rest: &[u8]) -> Result<Vec<u8>, AllocErr
     Ok(text)
 }
 
-/// An event at another reading, unless it is a request.
+/// An event with another reading, unless it is a request.
 fn order_at(reading: u64, told: Event) -> Option<Event>
     ensures { option_map arrival result ≡ spec.order_at reading (arrival told) }
 {

@@ -1,5 +1,5 @@
--- What is gathered of a page, row by row in the order of the keys. A row shows its key, and may show an item of it: of the rows
--- of one key the first decides.
+-- The entries gathered for a page, row by row in the order of the keys. A row has its key, and may
+-- have an item of it: of the rows of one key the first decides.
 use Rattle.std.specs.Prelude.{◌≡◌, ℕ, suc, ◌<◌, ◌≤◌, nat_lt, Bool, true, not, ◌||◌, List, [], ◌∷◌, ◌++◌, length, map, take, Option, Some}
 use Rattle.std.specs.Prelude.{None, if◌then◌else◌}
 use Rattle.std.specs.List.{filter, AllByRecursion}
@@ -13,12 +13,13 @@ past_key key = key ++ 0 ∷ []
 abbrev pub past_name : Octets → Octets
 past_name name = name ++ 255 ∷ []
 
--- where reading begins: after the marker, if there is one that is not before the prefix
+-- the position at which reading begins: after the marker, if there is one that is not before the
+-- prefix
 abbrev pub start_of : Octets → Option Octets → Octets
 start_of prefix None = prefix
 start_of prefix (Some marker) = if is_upto prefix marker then past_key marker else prefix
 
--- a key under a prefix, without a byte of 255, as no text of UTF-8 has one
+-- a key under a prefix, without a byte of 255, as in any text of UTF-8
 abbrev pub IsKeyUnder : Octets → Octets → Type 0
 IsKeyUnder prefix key = (begins prefix key ≡ true) × AllByRecursion (λ b. b < 255) key
 
@@ -34,26 +35,26 @@ rows_from row_key from rows = filter (λ r. is_upto from (row_key r)) rows
 pub record Gathered (T : Type 0) : Type 0 where
   -- the key of the row before, if there was one
   pub key : Option Octets
-  -- the rolled-up name that was listed last, if nothing was listed since
+  -- the grouped name that was listed last, if nothing was listed since
   pub name : Option Octets
   pub entries : List (Listed T)
 
--- ---- how a page stands to the listing that it is of
+-- ---- how a page relates to its listing
 
 module _ {T : Type 0} where
-  -- it has room, and the entries that it has are those of the listing up to what is still to come
+  -- it isn't full, and its entries are those of the listing up to what is still to come
   pub record IsBeginning (max : ℕ) (shown to_come listing : List (Listed T)) : Type 0 where
     pub room : length shown ≤ max
     pub whole : shown ++ to_come ≡ listing
 
-  -- it has all that it takes, and one entry more, if there is one
+  -- it is full, and has one more entry, if there is one
   abbrev pub IsPage : ℕ → List (Listed T) → List (Listed T) → Type 0
   IsPage max shown listing = shown ≡ take (suc max) listing
 
 -- ---- what is gathered, row by row
 
 module _ {T : Type 0} where
-  -- nothing, after a row of this key
+  -- no entries, after a row of this key
   abbrev pub nothing_after : Option Octets → Gathered T
   nothing_after key = record { key = key; name = None; entries = [] }
 
@@ -71,7 +72,7 @@ module _ {T : Type 0} where
   in_front (Some x) items = x ∷ items
 
   module _ {R : Type 0} (row_key : R → Octets) (item : R → Option T) where
-    -- the items that rows show, after a row of this key
+    -- the items of rows, after a row of this key
     abbrev pub items_after : Option Octets → List R → List T
     items_after key [] = []
     items_after key (r ∷ rows) =
@@ -83,7 +84,7 @@ module _ {T : Type 0} where
       with_item g (Some x) =
           if passes (entry_of prefix delimiter item_key x) then with_entry g (entry_of prefix delimiter item_key x) else g
 
-      -- a row more
+      -- one more row
       abbrev pub with_row : Gathered T → R → Gathered T
       with_row g r = if is_name (row_key r) g.key then g else with_item (record g { key = Some (row_key r) }) (item r)
 
@@ -91,12 +92,13 @@ module _ {T : Type 0} where
       abbrev pub to_come : Gathered T → List R → List (Listed T)
       to_come g rows = merged g.name (filter passes (map (entry_of prefix delimiter item_key) (items_after g.key rows)))
 
-      -- rows more, until there are more entries than the page takes
+      -- more rows, until the page is full
       abbrev pub with_rows : ℕ → Gathered T → List R → Gathered T
       with_rows max g [] = g
       with_rows max g (r ∷ rows) = if nat_lt max (length g.entries) then g else with_rows max (with_row g r) rows
 
-      -- where to read on after a row of this key: past its rolled-up name, if that is listed or not let through, or past the key
+      -- the position at which to read on after a row of this key: past its grouped name, if that is
+      -- listed or not let through, or past the key
       abbrev pub place_past : Gathered T → Octets → Option Octets → Octets
       place_past g key None = past_key key
       place_past g key (Some name) = if is_name name g.name || not (passes (Common name)) then past_name name else past_key key

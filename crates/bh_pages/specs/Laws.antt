@@ -1,4 +1,5 @@
--- What shows that a page is the intended one: pages that are chained by their markers show each entry once and in order.
+-- Evidence that a page is the intended one: pages that follow one another by their markers list
+-- each entry once and in order.
 use Rattle.std.specs.Prelude.{◌≡◌, ℕ, ◌+◌, ◌≤◌, List, [], ◌∷◌, ◌++◌, take, Option, None, Some}
 use Rattle.std.specs.Option.{option_map_or}
 use Rattle.std.specs.List.{AllByRecursion}
@@ -17,7 +18,7 @@ abbrev pub total : List ℕ → ℕ
 total [] = 0
 total (m ∷ sizes) = m + total sizes
 
--- what the pages of these sizes show, one after another, each at the marker that the last entry of the page before makes, until one
+-- the entries of pages of these sizes, each begun by the marker of the last entry before, until one
 -- is not truncated
 abbrev pub chained : {E M : Type 0} → (E → M) → (ℕ → M → Paged E) → List ℕ → M → List E
 chained marked page [] marker = []
@@ -32,7 +33,7 @@ asked prefix delimiter m = record { prefix = prefix; delimiter = delimiter; max 
 abbrev pub object_key : ObjectItem → Octets
 object_key o = o.key
 
--- the next page comes after the name that the page tells
+-- the next page comes after the name that the page returns
 abbrev pub object_marked : Listed ObjectItem → Option Octets
 object_marked e = Some (name_of object_key e)
 
@@ -44,7 +45,7 @@ objects_paged prefix delimiter keys m token = objects_page (asked prefix delimit
 abbrev pub object_entries : Octets → Octets → List (Octets × List Entry) → List (Listed ObjectItem)
 object_entries prefix delimiter keys = entries_after prefix delimiter object_key (after_name object_key None) (objects_in keys)
 
--- however large the pages are, they show the first of all entries, so many as the sizes make together
+-- whatever their sizes, the pages list the first of all entries, as many as the sizes add up to
 abbrev pub PagesChain : Type 0
 PagesChain = (prefix delimiter : Octets) (objects : FinMap octets_cmp (List Entry)) (sizes : List ℕ)
     → AllByRecursion (λ m. 1 ≤ m) sizes
@@ -56,7 +57,7 @@ PagesChain = (prefix delimiter : Octets) (objects : FinMap octets_cmp (List Entr
 abbrev pub version_key : VersionItem → Octets
 version_key v = v.key
 
--- the next page comes after the key and the version that the page tells
+-- the next page comes after the key and the version that the page returns
 abbrev pub version_place : VersionNext → VersionPlace
 version_place next = record { key = next.name; version = option_map_or Named next.id Current }
 
@@ -69,7 +70,8 @@ versions_paged prefix delimiter keys m marker = versions_page (asked prefix deli
 abbrev pub version_entries : Octets → Octets → List (Octets × List Entry) → List (Listed VersionItem)
 version_entries prefix delimiter keys = entries_after prefix delimiter version_key (passes_version None) (all_versions keys)
 
--- pages of the versions of a tenant's bucket, in whose state no two entries of a key have one id, show each once and in order
+-- pages of the versions of a tenant's bucket, in whose state no two entries of a key have the same
+-- id, list each once and in order
 abbrev pub VersionsChain : Type 0
 VersionsChain = (prefix delimiter : Octets) (t : State) (name : Octets) (b : Bucket) (sizes : List ℕ)
     → IsNumbered (Some t) → get t.buckets name ≡ Some b
@@ -79,7 +81,7 @@ VersionsChain = (prefix delimiter : Octets) (t : State) (name : Octets) (b : Buc
 
 -- ---- uploads
 
--- the next page comes after the key and the upload that the page tells
+-- the next page comes after the key and the upload that the page returns
 abbrev pub upload_place : UploadNext → UploadPlace
 upload_place next = record { key = next.name; upload = next.id }
 
@@ -92,7 +94,7 @@ uploads_paged prefix delimiter numbered m marker = uploads_page (asked prefix de
 abbrev pub upload_entries : Octets → Octets → List (ℕ × Upload) → List (Listed UploadItem)
 upload_entries prefix delimiter numbered = entries_after prefix delimiter upload_key (passes_upload None) (all_uploads numbered)
 
--- pages of uploads show each once and in order
+-- pages of uploads list each once and in order
 abbrev pub UploadsChain : Type 0
 UploadsChain = (prefix delimiter : Octets) (uploads : FinMap nat_cmp Upload) (sizes : List ℕ)
     → AllByRecursion (λ m. 1 ≤ m) sizes
@@ -107,7 +109,7 @@ part_number p = p.number
 abbrev pub parts_paged : List (ℕ × Part) → ℕ → ℕ → Paged PartItem
 parts_paged parts m marker = parts_page m marker parts
 
--- they show the first of all parts after the marker, so many as the sizes make together
+-- they list the first of all parts after the marker, as many as the sizes add up to
 abbrev pub PartsChain : Type 0
 PartsChain = (parts : FinMap nat_cmp Part) (sizes : List ℕ) (marker : ℕ)
     → AllByRecursion (λ m. 1 ≤ m) sizes

@@ -1,4 +1,4 @@
--- Places between rows that stand in the order of their keys, and those of a key in an order of their numbers.
+-- Places between rows that are ordered by key, and, within a key, by number.
 use Rattle.std.specs.Prelude.{◌≡◌, ℕ, nat_lt, Bool, true, ◌&&◌, List, [], ◌∷◌, length, map, Option, Some, None, option_map, if◌then◌else◌}
 use Rattle.std.specs.List.{filter, AllByRecursion}
 use Rattle.std.specs.Ordering.{is_lt, ordering_then}
@@ -22,12 +22,13 @@ at_key key = record { key = key; after = None }
 abbrev pub after_entry : Octets → ℕ → Place
 after_entry key n = record { key = key; after = Some n }
 
--- a row of a rolled-up name is followed by what is past that name
+-- a row of a grouped name is followed by the keys after that name
 abbrev pub past_row : Octets → ℕ → Option Octets → Place
 past_row key n None = after_entry key n
 past_row key n (Some name) = at_key (past_name name)
 
--- after fewer rows than were asked for, later ones of a key are followed by the keys after it, and those of keys by none
+-- after fewer rows than requested, later rows of a key are followed by the keys after it, and keys
+-- by nothing
 abbrev pub past_few : Place → Option Place
 past_few place = option_map (λ _. at_key (past_key place.key)) place.after
 
@@ -58,27 +59,27 @@ module _ (by_number : ℕ → ℕ → Ordering) where
     abbrev pub is_behind : Octets → ℕ → R → Bool
     is_behind key n r = same (row_key r) key && is_lt (by_number n (number r))
 
-    -- the rows that are read at a place: of a key those after a number, or all from a key on
+    -- the rows at a place: of a key those after a number, or all from a key on
     abbrev pub rows_at : Octets → Option ℕ → List R → List R
     rows_at key None rows = filter (is_from (at_key key)) rows
     rows_at key (Some n) rows = filter (is_behind key n) rows
 
-    -- each row stands before those that follow it
+    -- each row precedes those that follow it
     abbrev pub IsStrict : List R → Type 0
     IsStrict [] = Unit {0}
     IsStrict (r ∷ rows) = AllByRecursion (λ s. precedes (spot r) (spot s) ≡ true) rows × IsStrict rows
 
--- ---- what is gathered of items, each of which tells its entry alone
+-- ---- the entries gathered of items, each of which determines its entry alone
 
 module _ {T : Type 0} (item_key : T → Octets) (prefix delimiter : Octets) (passes : Listed T → Bool) where
   abbrev pub with_passing : Gathered T → Listed T → Gathered T
   with_passing g e = if passes e then with_entry g e else g
 
-  -- an item more
+  -- one more item
   abbrev pub with_next : Gathered T → T → Gathered T
   with_next g x = with_passing (record g { key = Some (item_key x) }) (entry_of prefix delimiter item_key x)
 
-  -- items more, until there are more entries than the page takes
+  -- more items, until the page is full
   abbrev pub with_items : ℕ → Gathered T → List T → Gathered T
   with_items max g [] = g
   with_items max g (x ∷ items) = if nat_lt max (length g.entries) then g else with_items max (with_next g x) items

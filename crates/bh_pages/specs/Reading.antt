@@ -1,4 +1,4 @@
--- A page of objects that is read a few rows at a time.
+-- Reading a page of objects a few rows at a time.
 use Rattle.std.specs.Prelude.{◌≡◌, ℕ, ◌≤◌, Bool, true, false, List, take, map, Some, None}
 use Rattle.std.specs.List.{AllByRecursion}
 use Rattle.bh_model.specs.State.{Octets}
@@ -19,17 +19,17 @@ pub record AreRows (prefix : Octets) (rows : List Shown) : Type 0 where
   pub in_order : InOrder (λ (r : Shown). r.0) rows
   pub under : AllByRecursion (λ (r : Shown). IsKeyUnder prefix r.0) rows
 
--- all that a listing shows of these rows after its marker
+-- all entries of these rows in a listing after its marker
 abbrev pub listing : PageAsked → List Shown → List (Listed ObjectItem)
 listing asked rows =
     entries_after asked.prefix.now asked.delimiter.now (λ (o : ObjectItem). o.key) (after_name (λ (o : ObjectItem). o.key) (token_of asked))
     (items_after (λ (r : Shown). r.0) item_in None rows)
 
--- the rows that are left to be read
+-- the rows that are still to be read
 abbrev pub rows_left : Reading → List Shown → List Shown
 rows_left reading rows = rows_from (λ (r : Shown). r.0) reading.from.items rows
 
--- the page has some entries, and what the rows that are left still show makes up the listing
+-- the page has some entries, and those of the remaining rows complete the listing
 pub record IsUnderway (asked : PageAsked) (rows : List Shown) (reading : Reading) : Type 0 where
   pub low : is_upto asked.prefix.now reading.from.items ≡ true
   pub few : IsCount reading.count
@@ -44,17 +44,17 @@ abbrev pub Stands : Bool → PageAsked → List Shown → Reading → Type 0
 Stands true = IsRead
 Stands false = IsUnderway
 
--- past the last row that was taken in
+-- past the last row that was added
 pub record GoesOn (asked : PageAsked) (g : Gathered ObjectItem) (from : Octets) : Type 0 where
   pub key : Octets
   pub last : g.key ≡ Some key
   pub place : begins asked.prefix.now key ≡ true → from ≡ read_on asked g key
 
--- these are the first of the rows that are left, so many as are read at once
+-- these are the first of the remaining rows, as many as are read at once
 abbrev pub AreNext : List Shown → Reading → List Line → Type 0
 AreNext rows reading lines = map seen_line lines ≡ take reading.count (rows_left reading rows)
 
--- after the next rows the page is read, if reading has ended, and else still underway
+-- after the next rows the page is complete, if reading has ended, and else still underway
 abbrev pub Took : PageAsked → Reading → List Line → Reading → Bool → Type 0
 Took asked old lines new ended =
     (rows : List Shown) → AreRows asked.prefix.now rows → IsUnderway asked rows old → AreNext rows old lines → Stands ended asked rows new

@@ -1,4 +1,4 @@
--- What the values of a listing of objects show.
+-- Spec values of a listing of objects.
 use Rattle.std.specs.Prelude.{ℕ, zero, suc, List, map, Option, Some, None, option_map, string_bytes}
 use Rattle.bh_model.specs.State.{Octets}
 use Rattle.bh_model.specs.Pages.{Listed, Listed.Single, Listed.Common, after_name, ObjectItem}
@@ -9,11 +9,11 @@ use Rattle.bh_pages.specs.declared.gathering.Listed as program
 use Rattle.bh_pages.specs.declared.gathering.Gathering.{Gathering}
 use Rattle.bh_pages.specs.declared.gathering.PageAsked.{PageAsked}
 
--- a row: its key, and the object, if it is no delete marker
+-- a row: its key, and the object, if it is not a delete marker
 abbrev pub Shown : Type 0
 Shown = Octets × Option ObjectItem
 
--- the object under the row's key
+-- the object of the row
 abbrev pub item_in : Shown → Option ObjectItem
 item_in r = option_map (λ (o : ObjectItem). record o { key = r.0 }) r.1
 

@@ -1,5 +1,5 @@
--- What a page takes of rows that are read from a place on: each row has a spot, and tells its item, which may depend on whether
--- it is the first of its key.
+-- What a page takes of rows that are read from a place on. Each row has a position and an item,
+-- which may depend on whether it is the first of its key.
 use Rattle.std.specs.Prelude.{◌≡◌, ℕ, ◌<◌, ◌≤◌, nat_lt, Bool, true, false, not, List, [], ◌∷◌, length, Option, Some, None, is_none, IfSome}
 use Rattle.std.specs.Prelude.{◌⊎◌, if◌then◌else◌}
 use Rattle.std.specs.List.{AllByRecursion}
@@ -16,7 +16,8 @@ abbrev pub seen_place : program.Place → Place
 seen_place p = record { key = p.key.items; after = p.after }
 
 module _ {T : Type 0} where
-  -- of rows from the marker's place on all are listed, and names that are greater than the marker's key
+  -- all rows from the marker's place on are listed, and grouped names that are greater than the
+  -- marker's key
   abbrev pub passes_name : Option Octets → Listed T → Bool
   passes_name None e = true
   passes_name (Some marker) (Single x) = true
@@ -37,24 +38,24 @@ module _ {R : Type 0} (spot : R → Spot) where
     pub is : begins asked.prefix.now (spot row).0 ≡ true
         → place ≡ past_row (spot row).0 (spot row).1 (rolled asked.prefix.now asked.delimiter.now (spot row).0)
 
-  -- where reading goes on after these rows, if any can be left
+  -- the place at which to read on after these rows, if any can be left
   pub record GoesOn (asked : PageAsked) (old : Place) (rows : List R) (count : ℕ) (new : Option Place) : Type 0 where
     pub few : nat_lt (length rows) count ≡ true → new ≡ past_few old
     pub on : nat_lt (length rows) count ≡ false → IfSome new (PastLast asked rows) × (is_none new ≡ false)
 
   module _ {X T : Type 0} (item : Bool → R → X) (see : X → T) where
-    -- a row more
+    -- one more row
     abbrev pub row_added : PageAsked → Gathered T → R → Gathered T
     row_added asked g r =
         with_passing asked (record g { key = Some (spot r).0 })
         (as_listed (see (item (not (is_name (spot r).0 g.key)) r)) (rolled asked.prefix.now asked.delimiter.now (spot r).0))
 
-    -- rows more, until there are more entries than the page takes
+    -- more rows, until the page is full
     abbrev pub rows_added : PageAsked → Gathered T → List R → Gathered T
     rows_added asked g [] = g
     rows_added asked g (r ∷ rows) = if nat_lt asked.max (length g.entries) then g else rows_added asked (row_added asked g r) rows
 
-    -- reading has ended where the page is full, or no rows are left, and else it goes on
+    -- reading ends if the page is full, or no rows are left; otherwise it goes on
     abbrev pub Goes : Bool → PageAsked → PlaceReading X → List R → PlaceReading X → Type 0
     Goes true asked old rows new =
         (asked.max < length new.gathering.entries.items) ⊎ GoesOn asked (seen_place old.place) rows old.count None

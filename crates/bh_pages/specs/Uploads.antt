@@ -1,4 +1,5 @@
--- What is gathered of a page of uploads, row by row in the order of keys, those of a key in the order of their numbers.
+-- The entries gathered for a page of uploads, row by row in the order of keys, those of a key in
+-- the order of their numbers.
 use Rattle.std.specs.Prelude.{◌≡◌, ℕ, Bool, true, false, List, map, filter, take, Option, None}
 use Rattle.std.specs.List.{AllByRecursion}
 use Rattle.std.specs.Ordering.{nat_cmp}
@@ -31,7 +32,7 @@ is_behind = places.is_behind nat_cmp upload_key upload_number
 abbrev pub IsStrict : List UploadItem → Type 0
 IsStrict = places.IsStrict nat_cmp upload_key upload_number
 
--- ---- what is gathered
+-- ---- the gathered entries
 
 module _ (asked : PageAsked) where
   abbrev pub upload_added : Gathered UploadItem → UploadItem → Gathered UploadItem
@@ -43,7 +44,7 @@ module _ (asked : PageAsked) where
   abbrev pub uploads_to_come : Gathered UploadItem → List UploadItem → List (Listed UploadItem)
   uploads_to_come = places.left_of upload_key asked.prefix.now asked.delimiter.now (passes_name (token_of asked))
 
--- ---- what the program's values show
+-- ---- spec values of the program's values
 
 abbrev pub seen_line : UploadLine → UploadItem
 seen_line l = record { key = l.key.items; id = record { number = l.number }; begun = l.begun }
@@ -64,14 +65,15 @@ seen = gathered_by seen_line
 abbrev pub nothing : Gathered UploadItem
 nothing = nothing_after None
 
--- ---- how far reading has come
+-- ---- the progress of reading
 
 -- the uploads of a bucket under a prefix, in the order of their keys, those of a key in the order of their numbers
 pub record AreRows (prefix : Octets) (rows : List UploadItem) : Type 0 where
   pub in_order : IsStrict rows
   pub under : AllByRecursion (λ (u : UploadItem). IsKeyUnder prefix u.key) rows
 
--- the page has some entries of a listing, and what the uploads from its place on still show makes up the listing
+-- the page has some entries of a listing, and those of the uploads from its place on complete the
+-- listing
 pub record IsUnderway (asked : PageAsked) (rows : List UploadItem) (listing : List (Listed UploadItem))
     (reading : PlaceReading UploadLine) : Type 0 where
   pub low : IsUnder asked.prefix.now reading.place.key.items reading.place.after
@@ -83,15 +85,15 @@ abbrev pub Stands : Bool → PageAsked → List UploadItem → List (Listed Uplo
 Stands true asked rows listing reading = IsPage asked.max (map seen_entry reading.gathering.entries.items) listing
 Stands false asked rows listing reading = IsUnderway asked rows listing reading
 
--- the uploads that are read at a place: of a key the later ones, or all from a key on
+-- the uploads at a place: of a key the later ones, or all from a key on
 abbrev pub rows_at : Octets → Option ℕ → List UploadItem → List UploadItem
 rows_at = places.rows_at nat_cmp upload_key upload_number
 
--- these are the first of them, so many as are read at once
+-- these are the first of them, as many as are read at once
 abbrev pub AreNext : List UploadItem → PlaceReading UploadLine → List UploadLine → Type 0
 AreNext rows reading lines = map seen_line lines ≡ take reading.count (rows_at reading.place.key.items reading.place.after rows)
 
--- after the next uploads the page is read, if reading has ended, and else still underway
+-- after the next uploads the page is complete, if reading has ended, and else still underway
 abbrev pub TookUploads : PageAsked → PlaceReading UploadLine → List UploadLine → PlaceReading UploadLine → Bool → Type 0
 TookUploads asked old lines new ended = (rows : List UploadItem) (listing : List (Listed UploadItem))
     → AreRows asked.prefix.now rows → IsUnderway asked rows listing old → AreNext rows old lines → Stands ended asked rows listing new

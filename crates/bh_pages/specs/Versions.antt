@@ -1,4 +1,5 @@
--- What is gathered of a page of versions, row by row in the order of keys, those of a key by falling entry numbers.
+-- The entries gathered for a page of versions, row by row in the order of keys, those of a key by
+-- falling entry numbers.
 use Rattle.std.specs.Prelude.{◌≡◌, ℕ, zero, suc, pos, nat_lt, Bool, true, false, not, ◌&&◌, int_lt, List, [], ◌∷◌, length, map, take}
 use Rattle.std.specs.Prelude.{Option, Some, None, if◌then◌else◌, string_bytes}
 use Rattle.std.specs.List.{filter, AllByRecursion}
@@ -21,7 +22,8 @@ use Rattle.bh_pages.specs.declared.gathering.Listed as listed
 use Rattle.bh_pages.specs.declared.gathering.Gathering.{Gathering}
 use Rattle.bh_pages.specs.declared.places.PlaceReading.{PlaceReading}
 
--- a row: its entry number, and the version that it holds, of which the row alone doesn't tell whether it is the newest
+-- a row: its entry number, and its version; the row alone doesn't determine whether it is the
+-- newest
 abbrev pub Numbered : Type 0
 Numbered = ℕ × VersionItem
 
@@ -38,7 +40,7 @@ items_next key (r ∷ rows) = version_after key r ∷ items_next (Some (row_key 
 
 -- ---- places between rows
 
--- the entries of a key stand by falling numbers
+-- the entries of a key are ordered by falling numbers
 abbrev pub falling : ℕ → ℕ → Ordering
 falling m n = int_cmp (pos n) (pos m)
 
@@ -58,7 +60,7 @@ IsStrict = places.IsStrict falling row_key entry_number
 abbrev pub is_older : Octets → ℕ → Numbered → Bool
 is_older key seq r = same (row_key r) key && int_lt (pos r.0) (pos seq)
 
--- ---- what is gathered
+-- ---- the gathered entries
 
 module _ (prefix delimiter : Octets) (marker : Option Octets) where
   abbrev pub version_entry : VersionItem → Listed VersionItem
@@ -67,11 +69,11 @@ module _ (prefix delimiter : Octets) (marker : Option Octets) where
   abbrev pub with_passing : Gathered VersionItem → Listed VersionItem → Gathered VersionItem
   with_passing g e = if passes_version marker e then with_entry g e else g
 
-  -- a row more
+  -- one more row
   abbrev pub with_version : Gathered VersionItem → Numbered → Gathered VersionItem
   with_version g r = with_passing (record g { key = Some (row_key r) }) (version_entry (version_after g.key r))
 
-  -- rows more, until there are more entries than the page takes
+  -- more rows, until the page is full
   abbrev pub with_versions : ℕ → Gathered VersionItem → List Numbered → Gathered VersionItem
   with_versions max g [] = g
   with_versions max g (r ∷ rows) = if nat_lt max (length g.entries) then g else with_versions max (with_version g r) rows
@@ -80,7 +82,7 @@ module _ (prefix delimiter : Octets) (marker : Option Octets) where
   abbrev pub versions_to_come : Gathered VersionItem → List Numbered → List (Listed VersionItem)
   versions_to_come g rows = merged g.name (filter (passes_version marker) (map version_entry (items_next g.key rows)))
 
--- ---- what the program's values show
+-- ---- spec values of the program's values
 
 abbrev pub id_in : ℕ → VersionId
 id_in zero = Null
@@ -105,7 +107,7 @@ seen_line l = (l.seq, version_in l false)
 abbrev pub line_spot : VersionLine → Spot
 line_spot l = (l.key.items, l.seq)
 
--- as a page shows it
+-- its entry in a page
 abbrev pub line_item : Bool → VersionLine → ShownVersion
 line_item latest l = record { line = l; latest = latest }
 
@@ -121,14 +123,15 @@ seen = gathered_by seen_version
 abbrev pub rows_added : PageAsked → Gathered VersionItem → List Numbered → Gathered VersionItem
 rows_added asked = with_versions asked.prefix.now asked.delimiter.now (token_of asked) asked.max
 
--- ---- how far reading has come
+-- ---- the progress of reading
 
 -- the rows of a bucket under a prefix, in the order of their keys, those of a key by falling numbers
 pub record AreRows (prefix : Octets) (rows : List Numbered) : Type 0 where
   pub in_order : IsStrict rows
   pub under : AllByRecursion (λ r. IsKeyUnder prefix (row_key r)) rows
 
--- the page has some entries of a listing, and what the rows from its place on still show makes up the listing
+-- the page has some entries of a listing, and those of the rows from its place on complete the
+-- listing
 pub record IsUnderway (asked : PageAsked) (rows : List Numbered) (listing : List (Listed VersionItem))
     (reading : PlaceReading ShownVersion) : Type 0 where
   pub low : IsUnder asked.prefix.now reading.place.key.items reading.place.after
@@ -141,16 +144,16 @@ abbrev pub Stands : Bool → PageAsked → List Numbered → List (Listed Versio
 Stands true asked rows listing reading = IsPage asked.max (map seen_entry reading.gathering.entries.items) listing
 Stands false asked rows listing reading = IsUnderway asked rows listing reading
 
--- the rows that are read at a place: of a key the older ones, or all from a key on
+-- the rows at a place: of a key the older ones, or all from a key on
 abbrev pub rows_at : Octets → Option ℕ → List Numbered → List Numbered
 rows_at key None rows = filter (is_from (at_key key)) rows
 rows_at key (Some seq) rows = filter (is_older key seq) rows
 
--- these are the first of them, so many as are read at once
+-- these are the first of them, as many as are read at once
 abbrev pub AreNext : List Numbered → PlaceReading ShownVersion → List VersionLine → Type 0
 AreNext rows reading lines = map seen_line lines ≡ take reading.count (rows_at reading.place.key.items reading.place.after rows)
 
--- after the next rows the page is read, if reading has ended, and else still underway
+-- after the next rows the page is complete, if reading has ended, and else still underway
 abbrev pub TookVersions : PageAsked → PlaceReading ShownVersion → List VersionLine → PlaceReading ShownVersion → Bool → Type 0
 TookVersions asked old lines new ended = (rows : List Numbered) (listing : List (Listed VersionItem))
     → AreRows asked.prefix.now rows → IsUnderway asked rows listing old → AreNext rows old lines → Stands ended asked rows listing new

@@ -1,4 +1,4 @@
-//! A page that is gathered row by row.
+//! Gathers a page row by row.
 
 ghost use Rattle.std.specs.Prelude.{◌≡◌, true, Some, None, [], ◌∷◌, ◌++◌, map, OnOk, IfOk, option_map};
 ghost use Rattle.std.specs.List.{AllByRecursion};
@@ -11,14 +11,14 @@ use crate::names::name_end;
 use std::alloc::{AllocError, Global};
 use std::cmp::Ordering;
 
-/// Which page is asked for.
+/// A request for a page.
 #[derive(Drop)]
 pub struct PageAsked<'a> {
     pub prefix: &'a [u8],
     pub delimiter: &'a [u8],
-    /// The name that the page comes after.
+    /// The name after which the page begins.
     pub after: Option<&'a [u8]>,
-    /// How many entries the page has at most.
+    /// The maximum number of entries on the page.
     pub max: u32,
 }
 
@@ -33,7 +33,7 @@ pub struct Line {
     pub checksum: String,
 }
 
-/// An object as a listing shows it.
+/// An object in a listing.
 #[derive(Drop)]
 pub struct ObjectLine {
     pub key: Vec<u8>,
@@ -42,11 +42,11 @@ pub struct ObjectLine {
     pub checksum: String,
 }
 
-/// What a listing shows by itself.
+/// An entry of a listing that is not a grouped name.
 pub trait Single {
     ghost Item: { Type 0 };
 
-    /// What is seen of it.
+    /// Its spec value.
     ghost seen: { Self → Item };
 }
 
@@ -56,19 +56,19 @@ impl Single for ObjectLine {
     ghost seen = { seen_object };
 }
 
-/// What a listing shows by itself, or a rolled-up name.
+/// An entry of a listing, or a grouped name.
 #[derive(Drop)]
 pub enum Listed<T> {
     Single(T),
     Common(Vec<u8>),
 }
 
-/// What a page has so far.
+/// The entries of a page so far.
 #[derive(Drop)]
 pub struct Gathering<T> {
-    /// The key of the row before, where it matters.
+    /// The key of the row before, if it matters.
     pub key: Option<Vec<u8>>,
-    /// The rolled-up name that was listed last, if nothing was listed since.
+    /// The grouped name that was listed last, if nothing was listed since.
     pub name: Option<Vec<u8>>,
     pub entries: Vec<Listed<T>>,
 }
@@ -83,7 +83,7 @@ pub fn is_text(text: &Option<Vec<u8>>, other: &[u8]) -> bool
     }
 }
 
-/// A text with one byte more.
+/// A text with one more byte.
 pub fn past(alloc: Global, text: &[u8], byte: u8) -> Result<Vec<u8>, AllocError>
     ensures { IfOk result (λ past. past.items ≡ text.now ++ byte ∷ []) }
 {
@@ -105,7 +105,7 @@ impl PageAsked<'_> {
 }
 
 impl PageAsked<'_> {
-    /// Where reading begins.
+    /// The position at which reading begins.
     pub fn start(&self, alloc: Global) -> Result<Vec<u8>, AllocError>
         ensures { IfOk result (λ start. start.items ≡ start_of self.now.prefix.now (token_of self.now)) }
     {
@@ -123,7 +123,7 @@ impl PageAsked<'_> {
 }
 
 impl<T: Single + Drop> Gathering<T> {
-    /// Nothing yet, after rows of this key, if it matters.
+    /// A page without entries, after rows of this key, if it matters.
     pub fn new(alloc: Global, key: Option<Vec<u8>>) -> Gathering<T>
         ensures { gathered_by T.seen result ≡ record { key = option_map (λ k. k.items) key; name = None; entries = [] } }
     {
@@ -134,7 +134,7 @@ impl<T: Single + Drop> Gathering<T> {
         }
     }
 
-    /// Lists what a listing shows by itself.
+    /// Lists an entry that is not a grouped name.
     pub fn list_single(&mut self, single: T) -> Result<(), AllocError>
         ensures { OnOk result (gathered_by T.seen self.new ≡ with_entry (gathered_by T.seen self.old) (Single (T.seen single))) }
     {
@@ -143,7 +143,7 @@ impl<T: Single + Drop> Gathering<T> {
         Ok(())
     }
 
-    /// Lists a rolled-up name, unless it was the last.
+    /// Lists a grouped name, unless it was the last.
     pub fn list_name(&mut self, alloc: Global, name: &[u8]) -> Result<(), AllocError>
         ensures { OnOk result (gathered_by T.seen self.new ≡ with_entry (gathered_by T.seen self.old) (Common name.now)) }
     {
@@ -158,7 +158,8 @@ impl<T: Single + Drop> Gathering<T> {
 }
 
 impl Gathering<ObjectLine> {
-    /// Lists an object of a key under the prefix, or the name that it is rolled up under, if the page may.
+    /// Lists an object with a key under the prefix, or the key's grouped name, if the page may have
+    /// it.
     pub fn add_item(
         &mut self,
         alloc: Global,
@@ -190,7 +191,7 @@ impl Gathering<ObjectLine> {
         }
     }
 
-    /// A row more, whose key is under the prefix.
+    /// Adds a row, whose key is under the prefix.
     pub fn add(
         &mut self,
         alloc: Global,
@@ -210,7 +211,7 @@ impl Gathering<ObjectLine> {
         self.add_item(alloc, asked, line)
     }
 
-    /// The rows in turn, until there are more entries than the page takes.
+    /// Adds the rows in turn, until the page is full.
     pub fn add_all(
         &mut self,
         alloc: Global,
@@ -229,7 +230,7 @@ impl Gathering<ObjectLine> {
         Ok(())
     }
 
-    /// Where to read on after the row before, which had this key.
+    /// The position at which to read on, after a row with this key.
     pub fn place(
         &self,
         alloc: Global,

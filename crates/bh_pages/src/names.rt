@@ -1,11 +1,11 @@
-//! The names that keys are rolled up under.
+//! The names under which keys are grouped.
 
 ghost use Rattle.std.specs.Prelude.{◌≡◌, ◌≤◌, true, length, take, option_map, IfSome};
 ghost use Rattle.bh_model.specs.Pages.{begins, rolled};
 
 use memchr::memmem;
 
-/// Where the rolled-up name of a key under a prefix ends, if the delimiter occurs after the prefix.
+/// The length of a key's grouped name under a prefix, if the delimiter occurs after the prefix.
 pub fn name_end(prefix: &[u8], delimiter: &[u8], key: &[u8]) -> Option<usize>
     ensures name { begins prefix.now key.now ≡ true
         → option_map (λ n. take n key.now) result ≡ rolled prefix.now delimiter.now key.now }

@@ -1,4 +1,4 @@
-//! A page of rows that are read a few at a time, each time from a place on.
+//! Reads a page a few rows at a time, each time from a place on.
 
 ghost use Rattle.std.specs.Prelude.{◌≡◌, Bool, true, option_map, OnOk, IfOk};
 ghost use Rattle.bh_model.specs.Pages.{begins, rolled, as_listed};
@@ -18,38 +18,38 @@ use std::alloc::{AllocError, Global};
 #[derive(Drop)]
 pub struct Place {
     pub key: Vec<u8>,
-    /// `None` for before all rows of the key, else after the one of this number.
+    /// `None` means before all rows of the key, otherwise after the one with this number.
     pub after: Option<u64>,
 }
 
-/// A row that is read from a place on. A page shows it as a `T`.
+/// A row that is read from a place on, and that a page lists as a `T`.
 pub trait Row<T: Single> {
     /// Its key, and its number among the rows of the key.
     ghost spot: { Self → Spot };
 
-    /// How a page shows it, where it is the newest of its key, and where it is not.
+    /// Its entry in a page, if it is the newest of its key, and if it is not.
     ghost item: { Bool → Self → T };
 
     fn spot(&self) -> (&[u8], u64)
         ensures { (result.0.now, result.1) ≡ spot self.now };
 
-    /// How a page shows it.
+    /// Its entry in a page.
     fn shown(&self, alloc: Global, latest: bool) -> Result<T, AllocError>
         ensures { IfOk result (λ shown. T.seen shown ≡ T.seen (item latest self.now)) };
 }
 
-/// How far the reading of a page has come.
+/// The progress of reading a page.
 #[derive(Drop)]
 pub struct PlaceReading<T> {
     pub gathering: Gathering<T>,
-    /// Where the rows begin that are read next.
+    /// The place at which the next rows begin.
     pub place: Place,
-    /// How many rows are read next at most: 1 to 64.
+    /// The maximum number of rows to read next: 1 to 64.
     pub count: u64,
 }
 
 impl<T: Single + Drop> Gathering<T> {
-    /// Lists a row whose key is under the prefix, or the name that it is rolled up under, if the page may.
+    /// Lists a row with a key under the prefix, or the key's grouped name, if the page may have it.
     fn add_entry<R: Row<T>>(
         &mut self,
         alloc: Global,
@@ -74,7 +74,7 @@ impl<T: Single + Drop> Gathering<T> {
         }
     }
 
-    /// A row more, whose key is under the prefix.
+    /// Adds a row, whose key is under the prefix.
     fn add_row<R: Row<T>>(
         &mut self,
         alloc: Global,
@@ -91,7 +91,7 @@ impl<T: Single + Drop> Gathering<T> {
         self.add_entry(alloc, asked, row, latest)
     }
 
-    /// The rows in turn, until there are more entries than the page takes.
+    /// Adds the rows in turn, until the page is full.
     fn add_rows<R: Row<T>>(
         &mut self,
         alloc: Global,
@@ -144,14 +144,15 @@ fn past_last<T: Single, R: Row<T>>(
     ensures { IfOk result (λ place. spec.PastLast R.spot asked.now rows.now (seen_place place)) }
 {
     if rows.is_empty() {
-        // Some were read.
+        // Some rows were read.
         return Err(AllocError);
     }
     let (key, number) = rows[rows.len() - 1].spot();
     place_past(alloc, asked, key, number)
 }
 
-/// Where reading goes on after these rows, of which as many were asked for, if any can be left.
+/// The place at which to read on after these rows, given how many were requested; `None` if there
+/// are no more.
 fn place_after<T: Single, R: Row<T>>(
     alloc: Global,
     asked: &PageAsked<'_>,
@@ -172,7 +173,7 @@ fn place_after<T: Single, R: Row<T>>(
 }
 
 impl<T: Single + Drop> PlaceReading<T> {
-    /// Nothing is read; `key` is that of the rows before the place, if they show it.
+    /// A reading at its start; `key` is that of the rows before the place, if those are listed.
     pub fn begin(
         alloc: Global,
         asked: &PageAsked<'_>,
@@ -190,8 +191,8 @@ impl<T: Single + Drop> PlaceReading<T> {
         }
     }
 
-    /// Takes in the rows that were read. Whether the page has all that it takes, or no rows are left. An error says
-    /// that memory ran out.
+    /// Adds the rows that were read. Returns whether the page is full, or no rows are left. Fails
+    /// if memory runs out.
     pub(crate) fn take_rows<R: Row<T>>(
         &mut self,
         alloc: Global,
@@ -215,7 +216,7 @@ impl<T: Single + Drop> PlaceReading<T> {
         Ok(false)
     }
 
-    /// The entries that it found.
+    /// The entries that were found.
     pub fn into_entries(self) -> Vec<Listed<T>>
         ensures { result ≡ self.gathering.entries }
     {

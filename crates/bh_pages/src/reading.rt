@@ -1,4 +1,4 @@
-//! A page that is read a few rows at a time.
+//! Reads a page a few rows at a time.
 
 ghost use Rattle.std.specs.Prelude.{◌≡◌, IfOk, OnOk};
 ghost use Rattle.bh_pages.specs.Seen.{seen};
@@ -7,24 +7,24 @@ ghost use Rattle.bh_pages.specs.Reading.{IsCount, GoesOn, AreRows, IsUnderway, T
 use crate::gathering::{Gathering, Line, Listed, ObjectLine, PageAsked};
 use std::alloc::{AllocError, Global};
 
-/// How far the reading of a page has come.
+/// The progress of reading a page.
 #[derive(Drop)]
 pub struct Reading {
     pub gathering: Gathering<ObjectLine>,
-    /// The least key of the rows that are read next.
+    /// The least key of the next rows.
     pub from: Vec<u8>,
-    /// How many rows are read next at most: 1 to 64.
+    /// The maximum number of rows to read next: 1 to 64.
     pub count: u64,
 }
 
-/// How many rows are read first: no more than the page takes entries, and one.
+/// How many rows to read first: at most one more than the page has entries.
 pub(crate) fn first_count(max: u32) -> u64
     ensures { IsCount result }
 {
     u64::from(max.min(63)) + 1
 }
 
-/// How many rows are read after some that gave as many entries: few where they were rolled up.
+/// How many rows to read next, after some that gave `gave` entries: few if they were grouped.
 pub(crate) fn next_count(gave: usize) -> u64
     ensures { IsCount result }
 {
@@ -35,7 +35,7 @@ pub(crate) fn next_count(gave: usize) -> u64
     }
 }
 
-/// Where reading goes on: past the last row.
+/// The position at which to read on: after the last row.
 fn past_last(
     alloc: Global,
     asked: &PageAsked<'_>,
@@ -51,7 +51,7 @@ fn past_last(
 }
 
 impl Reading {
-    /// Nothing is read. An error says that memory ran out.
+    /// A reading at its start. Fails if memory runs out.
     pub fn begin(alloc: Global, asked: &PageAsked<'_>) -> Result<Reading, AllocError>
         ensures underway { IfOk result (λ reading. (rows : _) → AreRows asked.now.prefix.now rows → IsUnderway asked.now rows reading) }
         ensures count { IfOk result (λ reading. IsCount reading.count) }
@@ -63,8 +63,8 @@ impl Reading {
         })
     }
 
-    /// Takes in the rows that were read. Whether the page has all that it takes, or no rows are left. An error says
-    /// that memory ran out.
+    /// Adds the rows that were read. Returns whether the page is full, or no rows are left. Fails
+    /// if memory runs out.
     pub fn take(
         &mut self,
         alloc: Global,
@@ -85,7 +85,7 @@ impl Reading {
         Ok(false)
     }
 
-    /// The entries that it found.
+    /// The entries that were found.
     pub fn into_entries(self) -> Vec<Listed<ObjectLine>>
         ensures { result ≡ self.gathering.entries }
     {

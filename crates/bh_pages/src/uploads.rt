@@ -1,4 +1,4 @@
-//! A page of uploads that is read a few rows at a time.
+//! Reads a page of uploads a few rows at a time.
 
 ghost use Rattle.std.specs.Prelude.{OnOk, IfOk};
 ghost use Rattle.bh_model.specs.Pages.{UploadItem};
@@ -13,9 +13,9 @@ use std::alloc::{AllocError, Global};
 #[derive(Clone, Drop)]
 pub struct UploadLine {
     pub key: Vec<u8>,
-    /// The number that its id is.
+    /// The number in its id.
     pub number: u64,
-    /// When it was begun, in seconds since 1970.
+    /// When it began, in seconds since 1970.
     pub begun: u64,
 }
 
@@ -39,12 +39,12 @@ impl Row<UploadLine> for UploadLine {
     }
 }
 
-/// How far the reading of a page of uploads has come.
+/// The progress of reading a page of uploads.
 pub type UploadReading = PlaceReading<UploadLine>;
 
 impl UploadReading {
-    /// Takes in the rows that were read. Whether the page has all that it takes, or no rows are left. An error says
-    /// that memory ran out.
+    /// Adds the rows that were read. Returns whether the page is full, or no rows are left. Fails
+    /// if memory runs out.
     pub fn take(
         &mut self,
         alloc: Global,

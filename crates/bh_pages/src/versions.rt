@@ -1,4 +1,4 @@
-//! A page of versions that is read a few rows at a time.
+//! Reads a page of versions a few rows at a time.
 
 ghost use Rattle.std.specs.Prelude.{OnOk, IfOk};
 ghost use Rattle.bh_model.specs.Pages.{VersionItem};
@@ -24,7 +24,7 @@ pub struct VersionLine {
     pub checksum: String,
 }
 
-/// A version or a delete marker, as a listing shows it.
+/// A version or a delete marker in a listing.
 #[derive(Drop)]
 pub struct ShownVersion {
     pub line: VersionLine,
@@ -53,12 +53,12 @@ impl Row<ShownVersion> for VersionLine {
     }
 }
 
-/// How far the reading of a page of versions has come.
+/// The progress of reading a page of versions.
 pub type VersionReading = PlaceReading<ShownVersion>;
 
 impl VersionReading {
-    /// Takes in the rows that were read. Whether the page has all that it takes, or no rows are left. An error says
-    /// that memory ran out.
+    /// Adds the rows that were read. Returns whether the page is full, or no rows are left. Fails
+    /// if memory runs out.
     pub fn take(
         &mut self,
         alloc: Global,

@@ -1,4 +1,4 @@
--- How the rows of a tree stand for typed rows.
+-- How the rows of a tree represent typed rows.
 use Rattle.std.specs.Prelude.{◌≡◌, ℤ, List, ◌∷◌, map}
 use Rattle.std.specs.List.{AllByRecursion}
 use Rattle.sqlite.specs.declared.types.Value.{Value}
@@ -7,7 +7,7 @@ use Rattle.sqlite.specs.Order.{Row}
 use Rattle.sqlite.specs.Tree.{IsTable, rowid}
 use Rattle.sqlite.specs.Edit.{id_in}
 
--- the columns of a typed row, and the typed row that a stored row reads as
+-- the columns of a typed row, and the typed row of a stored row
 pub record Form (T : Type 0) : Type 0 where
   pub encode : T → Row
   pub decode : Row → T
@@ -18,12 +18,12 @@ abbrev pub Entry : Type 0 → Type 0
 Entry T = ℤ × T
 
 module _ {T : Type 0} (form : Form T) where
-  -- each row is its number and then the columns of the typed row that it reads as, and the numbers rise
+  -- each stored row is its number and then the columns of its typed row, and the numbers ascend
   pub record AreRows (rows : List Row) : Type 0 where
     pub each : AllByRecursion (λ r. r ≡ Int (id_in (rowid r)) ∷ form.encode (form.decode r)) rows
     pub rises : IsTable rows
 
-  -- the typed rows that stored rows read as
+  -- the typed rows of stored rows
   abbrev pub typed : List Row → List T
   typed rows = map form.decode rows
 

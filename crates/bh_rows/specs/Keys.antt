@@ -1,4 +1,4 @@
--- What a schema's keys watch, and when an edit leaves them alone.
+-- The columns that a schema's keys depend on, and which edits don't affect them.
 use Rattle.std.specs.Prelude.{◌≡◌, ◌==◌, ℕ, Bool, true, false, if◌then◌else◌, List, [], ◌∷◌, ◌++◌, filter, flat_map, drop, not, ◌&&◌}
 use Rattle.std.specs.Prelude.{Option, Some, None}
 use Rattle.std.specs.List.{AllByRecursion, list_any, list_all}
@@ -22,7 +22,7 @@ is_passive Cascade = false
 is_passive SetNull = false
 is_passive SetDefault = false
 
--- the action is none at all
+-- there is no action
 abbrev pub is_none : Action → Bool
 is_none NoAction = true
 is_none Restrict = false
@@ -77,21 +77,21 @@ referring_places table = flat_map (λ (ref : Reference). ref.columns) table.refe
 abbrev pub pointed_places : Schema → Table → List ℕ
 pointed_places schema table = flat_map (λ (p : Pointer). p.places) (pointers schema table.tree)
 
--- the columns of the table that a unique index, its references or references to it read
+-- the columns of the table that a unique index, its references or references to it depend on
 abbrev pub watched : Schema → Table → List ℕ
 watched schema table = indexed_places schema table ++ (referring_places table ++ pointed_places schema table)
 
--- the row passes the tests of the table that read it alone: types, NOT NULL and CHECK
+-- the row passes the table's own tests: types, NOT NULL and CHECK
 pub record Suits (table : Table) (row : Row) : Type 0 where
   pub typed : (are_typed table.key 0 table.columns (drop 1 row) && has_computed table row) ≡ true
   pub present : are_present table.key 0 table.columns row ≡ true
   pub checked : passes_checks table row ≡ true
 
--- no two tables have one tree
+-- no two tables have the same tree
 abbrev pub are_apart : List Table → Bool
 are_apart [] = true
 are_apart (t ∷ ts) = list_all (λ u. not (t.tree == u.tree)) ts && are_apart ts
 
--- each key that the table has, and each that points to it, is one that may be pointed to
+-- each key of the table, and each key of another table to it, has a valid target
 abbrev pub are_fit : Schema → Table → Bool
 are_fit schema table = references_fit schema table true true

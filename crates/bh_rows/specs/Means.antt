@@ -1,4 +1,4 @@
--- What a text that is written out means, and how a call may end.
+-- The meaning of a SQL text, and how a call may end.
 use Rattle.std.specs.Prelude.{◌≡◌, ◌⊎◌, ℕ, Bool, true, false, List, [], length, nat_le, None, Ok, Err, Result, IsTrue, OnOk, OnErr, IfErr}
 use Rattle.sqlite.specs.Schema.{Schema}
 use Rattle.std.specs.List.{AllByRecursion}
@@ -16,17 +16,17 @@ use Rattle.sqlite.proofs.Callers.{command_of}
 use Rattle.sqlite_resolve.specs.declared.compiled.Compiled.{Compiled}
 use Rattle.sqlite_resolve.specs.declared.error.CompileError.{CompileError}
 
--- where the text that was read ends
+-- the end of the text that was read
 abbrev pub tail_of : Result Compiled CompileError → ℕ
 tail_of (Ok c) = c.tail
 tail_of (Err e) = 0
 
--- how many parameters it takes
+-- its number of parameters
 abbrev pub parameters_of : Result Compiled CompileError → ℕ
 parameters_of (Ok c) = length c.names
 parameters_of (Err e) = 0
 
--- the text is this one command, with so many parameters
+-- the text is this one command, with that many parameters
 pub record Means (schema : Schema) (sql : List ℕ) (command : Command) (parameters : ℕ) : Type 0 where
   pub is : command_of (understood schema sql) ≡ command
   pub plain : IsPlain (understood schema sql)
@@ -34,7 +34,7 @@ pub record Means (schema : Schema) (sql : List ℕ) (command : Command) (paramet
   pub whole : nat_le (length sql) (tail_of (understood schema sql)) ≡ true
   pub given : parameters_of (understood schema sql) ≡ parameters
 
--- the command writes rows, or makes a table or an index
+-- the command writes rows, or creates a table or an index
 abbrev pub is_write : Command → Bool
 is_write (Insert at from) = true
 is_write (InsertOr at how from clauses) = true
@@ -44,7 +44,8 @@ is_write CreateTable = true
 is_write (CreateIndex at) = true
 is_write _ = false
 
--- want of memory or of a row number, a fault of the disk, a store that is shut, or a row that is too big
+-- lack of memory or of a row number, a fault of the disk, a store that is shut, or a row that is
+-- too large
 abbrev pub is_trouble : Error → Bool
 is_trouble (SqliteFailure OutOfMemory) = true
 is_trouble (SqliteFailure SystemIoFailure) = true
@@ -55,7 +56,7 @@ is_trouble (SqliteFailure TooBig) = true
 is_trouble (SqliteFailure NoRowid) = true
 is_trouble _ = false
 
--- a call that fails leaves the tables as they were, or ends the transaction
+-- a call that fails doesn't change the tables, or ends the transaction
 abbrev pub IsUndone : State → State → Type 0
 IsUndone old new = IsUnchanged old new ⊎ IsRolledBack old new
 
@@ -69,7 +70,8 @@ pub record LeavesCommit (s : State) : Type 0 where
   pub only : IsTrue s.is_open → (db : Trees) → s.may_leave db → db ≡ s.committed.trees
   pub stays : IsTrue s.is_open → s.may_leave s.committed.trees
 
--- the call only reads: the tables stay, unless it fails, and inside a transaction it commits nothing
+-- the call only reads: if it succeeds, the tables don't change, and inside a transaction it commits
+-- nothing
 pub record Asks {X : Type 0} (old new : State) (result : Result X Error) : Type 0 where
   pub same : HasCleanDisk new → OnOk result (IsUnchanged old new)
   pub undone : HasCleanDisk new → OnErr result (IsUndone old new)
@@ -79,7 +81,7 @@ pub record Asks {X : Type 0} (old new : State) (result : Result X Error) : Type 
   -- it commits nothing, inside a transaction or outside
   pub survives : Survives old new (λ _. old.is_open ≡ false)
 
--- the transaction goes on, and nothing is committed
+-- the transaction continues, and nothing is committed
 pub record StaysInside (old new : State) : Type 0 where
   pub is_open : IsTrue new.is_open
   pub inside : IsTrue old.in_transaction → IsTrue new.in_transaction
@@ -87,7 +89,7 @@ pub record StaysInside (old new : State) : Type 0 where
   pub marks : new.marks ≡ old.marks
   pub limit : new.step_limit ≡ old.step_limit
 
--- the call writes, or fails and leaves the tables or ends the transaction
+-- the call writes, or fails and doesn't change the tables or ends the transaction
 pub record Changes {X : Type 0} (old new : State) (result : Result X Error) : Type 0 where
   pub inside : HasCleanDisk new → IsTrue old.is_open → OnOk result (StaysInside old new)
   pub undone : HasCleanDisk new → OnErr result (IsUndone old new)
@@ -95,7 +97,7 @@ pub record Changes {X : Type 0} (old new : State) (result : Result X Error) : Ty
   pub up : HasCleanDisk new → IsTrue new.is_open → IsTrue old.is_open
   pub survives : Survives old new (λ _. IsOutside old)
 
--- the database has this schema, and no row
+-- the database has this schema, and no rows
 pub record IsBlank (schema : Schema) (s : State) : Type 0 where
   pub schema_is : s.now.schema ≡ schema
   pub blank : AllByRecursion (λ t. s.now.trees t.tree ≡ []) schema.tables

@@ -1,4 +1,5 @@
--- The queries of this store: rows of one table that pass a test, as shown, in an order, up to a limit.
+-- The queries of this store: columns of the rows of one table that pass a test, in an order, up to
+-- a limit.
 use Rattle.std.specs.Prelude.{ℕ, List, [], ◌∷◌, Some, None, false, pos, negsuc}
 use Rattle.sqlite.specs.declared.types.Value.TheVariants.{Null, Int}
 use Rattle.sqlite.specs.Term.{Term, lit, col, op2}
@@ -10,7 +11,7 @@ use Rattle.sqlite.specs.Collation.TheVariants.{Binary}
 use Rattle.sqlite_value.specs.declared.keys.Key.{Key}
 use Rattle.sqlite_value.specs.Keys.{ascending}
 
--- rows of the tree in this place that pass the tests, as shown
+-- columns of the rows of the tree in this place that pass the tests
 abbrev pub scan : ℕ → List Term → List Term → List (Term × Key) → Term → Query
 scan tree test show order limit = record {
   from = inner tree end;

@@ -1,4 +1,5 @@
--- The texts of a program, by kind: a record of what the reading of the text gives, and what a write leaves of its table.
+-- A program's SQL statements, by kind: the result of parsing each, and a write's effect on its
+-- table.
 use Rattle.std.specs.Prelude.{◌≡◌, ◌≢◌, ℕ, ◌/◌, ◌^◌, nat_le, ℤ, pos, Bool, true, false, List, [], ◌∷◌, length, map, filter, Some, slice_get}
 use Rattle.std.specs.Prelude.{IsTrue}
 use Rattle.std.specs.declared.cmp.Ordering.{Ordering}
@@ -37,7 +38,7 @@ pub record IsOrderly (schema : Schema) : Type 0 where
   pub passive : is_passive_schema schema ≡ true
   pub ignores : ignores_updates schema ≡ true
 
--- a table of the schema, whose columns keep the typed rows as they are
+-- a table of the schema, whose columns store the typed rows unchanged
 pub record IsTableOf {T : Type 0} (form : Form T) (schema : Schema) (place : ℕ) (table : Table) : Type 0 where
   pub is_table : slice_get schema.tables place ≡ Some table
   pub plain : plainly table ≡ table
@@ -50,7 +51,7 @@ module _ {T : Type 0} (form : Form T) (schema : Schema) where
   abbrev pub IsReadyAt : ℕ → State → Type 0
   IsReadyAt tree s = HasCleanDisk s → IsTrue s.is_open → (s.now.schema ≡ schema) × AreRows form (s.now.trees tree)
 
-  -- one table has these typed rows afterwards, and the others are as they were
+  -- one table has these typed rows afterwards, and the others are unchanged
   pub record Leaves (tree : ℕ) (old new : State) (after : List T) : Type 0 where
     pub next : Trees
     pub now : new.now ≡ record { schema = schema; trees = next }
@@ -63,13 +64,14 @@ module _ {T : Type 0} (form : Form T) (schema : Schema) where
   AreFree table rows new = AllByRecursion (λ (i : Index). list_any (λ other. agree i.order i.columns other i.columns new) rows ≡ false)
       (filter (λ i. guards i table) schema.indexes)
 
-  -- nothing stands against the row as the next one: no column and no CHECK, no key, no want of a parent
+  -- nothing forbids the row as the next one: no column and no CHECK, no key, no missing parent
   pub record MayAdd (table : Table) (db : Trees) (x : T) : Type 0 where
     pub suits : Suits table (put form (next_rowid (db table.tree), x))
     pub free : AreFree table (db table.tree) (put form (next_rowid (db table.tree), x))
     pub parents : list_all (has_parent schema.tables db (put form (next_rowid (db table.tree), x))) table.references ≡ true
 
-  -- a row that passes the test suits the table after the change too, which sets no column that a key watches
+  -- a row that passes the test also fits the table after the change, which sets no column that a
+  -- key depends on
   pub record MayChange (table : Table) (m : T → Bool) (f : T → T) : Type 0 where
     pub suits : (id : ℤ) (y : T) → m y ≡ true → Suits table (put form (id, y)) → Suits table (put form (id, f y))
     pub unwatched : (id : ℤ) (y : T) → m y ≡ true → map (column (put form (id, f y))) (watched schema table)
@@ -85,7 +87,8 @@ module _ {T : Type 0} (form : Form T) (schema : Schema) where
     pub gives : value_rows (stamped (plainly table) params) width (length terms / width) terms ≡ (Null ∷ form.encode x) ∷ []
     pub accepts : accepts_terms terms (stamped (plainly table) params) ≡ true
 
-  -- UPDATE of the rows that pass a test; what it sets may be reckoned from a row that the table's own tests let through
+  -- UPDATE of the rows that pass a test; the new value may depend on a row that passes the table's
+  -- own tests
   pub record UpdateText (place : ℕ) (table : Table) (sql : List ℕ) (params : Row) (m : T → Bool) (f : T → T) : Type 0 where
     pub test : List Term
     pub show : List Term

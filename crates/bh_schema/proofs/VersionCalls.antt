@@ -22,14 +22,6 @@ use Rattle.bh_schema.proofs.Calls as call
 
 -- ---- the kinds of texts
 
--- sizes of the stored columns are those of the rows
-sum_seen : (m : VersionColumns → Bool) (size : VersionColumns → ℕ) (xs : List VersionRow) → sum_by size (filter m (map columns_of xs)) ≡ sum_by (λ x. size (columns_of x)) (filter (λ x. m (columns_of x)) xs)
-sum_seen m size [] = refl
-sum_seen m size (x ∷ xs) = elim (m (columns_of x)) as (λ b. sum_by size (cond b (columns_of x ∷ filter m (map columns_of xs)) (filter m (map columns_of xs))) ≡ sum_by (λ y. size (columns_of y)) (cond b (x ∷ filter (λ y. m (columns_of y)) xs) (filter (λ y. m (columns_of y)) xs))) [
-  | true ↦ sum_by-cons size (columns_of x) (filter m (map columns_of xs)) ∙ ap (λ n. size (columns_of x) + n) (sum_seen m size xs) ∙ sym (sum_by-cons (λ y. size (columns_of y)) x (filter (λ y. m (columns_of y)) xs))
-  | false ↦ sum_seen m size xs
-]
-
 module _ (old new : State) (inside : IsStateClean old → IsInside (standing old)) where
   pub selected : {X : Type 0} (rows_in : X → List Row) (result : Result X Error) {sql : List ℕ} {params : Row} {m : VersionColumns → Bool} {view : VersionColumns → Row} → SelectText version_form host_schema 7 sql params m view no_limit
       → (HasCleanDisk new → IfOk result (λ x. Shown sql params old new (rows_in x))) → (HasCleanDisk new → IfErr result (FailsToQuery sql params old new)) → Survives old new (CommitsShowing sql params old)
@@ -41,17 +33,6 @@ module _ (old new : State) (inside : IsStateClean old → IsInside (standing old
       → (HasCleanDisk new → IfOk result (λ x. Shown sql params old new (rows_in x))) → (HasCleanDisk new → IfErr result (FailsToQuery sql params old new)) → Survives old new (CommitsShowing sql params old)
       → Question old new rows_in (λ t. take 1 (map (λ v. view (columns_of v)) (sort_by (λ a b. order (columns_of a) (columns_of b)) (filter (λ v. m (columns_of v)) t.versions)))) result
   selected_first rows_in result {sql} {params} {m} {view} {order} it ok err survives = asked _ _ (λ t. ap (take 1) (seen_sorted m t.versions view order)) (call.selected_first versions old new inside rows_in result it ok err survives)
-
-  pub summed : {X : Type 0} (rows_in : X → List Row) (result : Result X Error) {sql : List ℕ} {params : Row} {m : VersionColumns → Bool} {size : VersionColumns → ℕ} → SumText version_form host_schema 7 sql params m size
-      → (HasCleanDisk new → IfOk result (λ x. Shown sql params old new (rows_in x))) → (HasCleanDisk new → IfErr result (FailsToQuery sql params old new)) → Survives old new (CommitsShowing sql params old)
-      → Total old new rows_in (λ t. sum_by (λ x. size (columns_of x)) (filter (λ x. m (columns_of x)) t.versions)) result
-  summed rows_in result {sql} {params} {m} {size} it ok err survives = totalled_so _ _ (λ t. sum_seen m size t.versions) (call.summed versions old new inside rows_in result it ok err survives)
-
-  -- how many pass, by a text that sums 1 for each
-  pub counted : {X : Type 0} (rows_in : X → List Row) (result : Result X Error) {sql : List ℕ} {params : Row} {m : VersionColumns → Bool} → SumText version_form host_schema 7 sql params m (λ _. 1)
-      → (HasCleanDisk new → IfOk result (λ x. Shown sql params old new (rows_in x))) → (HasCleanDisk new → IfErr result (FailsToQuery sql params old new)) → Survives old new (CommitsShowing sql params old)
-      → Total old new rows_in (λ t. length (filter (λ x. m (columns_of x)) t.versions)) result
-  counted rows_in result {sql} {params} {m} it ok err survives = totalled_so _ _ (λ t. ones (filter (λ x. m (columns_of x)) t.versions)) (summed rows_in result it ok err survives)
 
   pub selected_two : {X : Type 0} (rows_in : X → List Row) (result : Result X Error) {sql : List ℕ} {params : Row} {m : VersionColumns → Bool} {view : VersionColumns → Row} {order : VersionColumns → VersionColumns → Ordering}
       → SortedText version_form host_schema 7 sql params m view order two_rows

@@ -1,11 +1,12 @@
--- What a call on a connection that is in a transaction leaves of it, with this result: the clauses that such calls share.
+-- The effect of a call on a connection in a transaction, with this result: the clauses that such
+-- calls share.
 use Rattle.std.specs.Prelude.{Result, OnOk}
 use Rattle.sqlite.specs.Held.{Held}
 use Rattle.sqlite_trees.specs.declared.store.Store.{Ghosts}
 use Rattle.bh_schema.specs.Connections.{InTransaction, InMidst, StaysWithin, WasOpen, StaysOpen, ChangesNothing}
 
 module _ {S A E : Type 0} (g : Ghosts S) (old new : Held S) (result : Result A E) where
-  -- it reads the host: an answer tells that the connection was open
+  -- it reads the host: if it succeeds, the connection was open
   pub record Reads : Type 0 where
     pub within : StaysWithin g old new
     pub opens : OnOk result (WasOpen g old new)
@@ -23,7 +24,7 @@ module _ {S A E : Type 0} (g : Ghosts S) (old new : Held S) (result : Result A E
     pub opens : OnOk result (StaysOpen g old new)
     pub inside : OnOk result (InTransaction g new)
 
-  -- it writes to the host in the midst of a write, which it goes on with
+  -- it writes to the host as one step of a write, which goes on
   pub record WritesOn : Type 0 where
     pub within : StaysWithin g old new
     pub opens : OnOk result (StaysOpen g old new)

@@ -1,4 +1,4 @@
--- A connection in the words of the layer, by its store's ghosts: what holds of it, and what a call on it leaves.
+-- A connection in the layer's terms, by its store's ghosts: its state, and a call's effect on it.
 use Rattle.std.specs.Prelude.{◌≡◌, true, None}
 use Rattle.sqlite.specs.Held.{Held, state}
 use Rattle.sqlite.specs.declared.error.Error.{Error}
@@ -21,7 +21,7 @@ module _ {S : Type 0} (g : Ghosts S) where
   abbrev pub IsClean : Held S → Type 0
   IsClean c = layer.IsStateClean (state g c)
 
-  -- where it stands, and the tables that it shows if they are a host's
+  -- its state, and its tables if they are a host's
   abbrev pub stands : Held S → Standing
   stands c = standing (state g c)
 
@@ -32,15 +32,15 @@ module _ {S : Type 0} (g : Ghosts S) where
   abbrev pub InTransaction : Held S → Type 0
   InTransaction c = IsClean c → IsInside (stands c)
 
-  -- while it is clean, a host's database stands, in a transaction or as it was committed
+  -- while it is clean, it has a host's database, in a transaction or as it was committed
   abbrev pub CanRead : Held S → Type 0
   CanRead c = IsClean c → IsReadable (stands c)
 
-  -- while it is clean, a host's database stands
+  -- while it is clean, it has a host's database
   abbrev pub HasHost : Held S → Type 0
   HasHost c = IsClean c → IsHost (stands c).now
 
-  -- while it is clean, a transaction is open in the midst of a write
+  -- while it is clean, a transaction is open, within a write
   abbrev pub InMidst : Held S → Type 0
   InMidst c = IsClean c → IsMidst (stands c)
 
@@ -49,7 +49,7 @@ module _ {S : Type 0} (g : Ghosts S) where
     abbrev pub StaysWithin : Type 0
     StaysWithin = StateWithin (state g old) (state g new)
 
-    -- an answer tells that the connection was open, and is
+    -- if it succeeds, the connection was open, and still is
     abbrev pub WasOpen : Type 0
     WasOpen = IsIntact new → IsOpen old × IsOpen new
 
@@ -59,20 +59,20 @@ module _ {S : Type 0} (g : Ghosts S) where
     abbrev pub ChangesNothing : Type 0
     ChangesNothing = IsIntact new → stands new ≡ stands old
 
-    -- a transaction is open, whose tables are these of those before
+    -- a transaction is open, and this function of the old tables gives the new ones
     abbrev pub Becomes : (Tables → Tables) → Type 0
     Becomes change = IsClean new → Holds (change (tables old)) (stands new)
 
-    -- in the midst of a write: what is kept of other rows becomes this of what was kept, and the tables these of those before
+    -- within a write: this function gives the new sums over other rows, and that one the new tables
     abbrev pub Rewrites : (Totals → Totals) → (Tables → Tables) → Type 0
     Rewrites after change =
         IsClean new → (sums : Totals) → IsInsideBy sums (stands old) → HoldsBy (after sums) (change (tables old)) (stands new)
 
-    -- from a transaction into the midst of a write: the same of what the tables had
+    -- from a transaction into a write: the same for the sums that the tables had
     abbrev pub Enters : (Totals → Totals) → (Tables → Tables) → Type 0
     Enters after change = IsClean new → HoldsBy (after (totals_of (tables old))) (change (tables old)) (stands new)
 
-    -- where no limit on steps stops a text, its error is trouble, or is so under a premise
+    -- if no limit on steps stops a statement, its error is a failure, or is so under a premise
     abbrev pub IsTrouble : Error → Type 0
     IsTrouble e = IsIntact new → (stands old).limit ≡ None → is_trouble e ≡ true
 

@@ -1,4 +1,4 @@
--- What may be of a bucket besides its own row: whether it is there, and what a text has to be that asks for it.
+-- A bucket's contents besides its own row: whether there are any, and which SQL finds out.
 use Rattle.std.specs.Prelude.{ℕ, pos, Bool, List, [], ◌∷◌}
 use Rattle.std.specs.List.{list_any}
 use Rattle.sqlite.specs.declared.types.Value.TheVariants.{Int, Text}

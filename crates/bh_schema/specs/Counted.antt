@@ -1,4 +1,4 @@
--- How many rows a tenant has and what they come to, and what a text has to be that adds them up.
+-- Counts and sums of a tenant's rows, and which SQL computes them.
 use Rattle.std.specs.Prelude.{ℕ, List, [], ◌∷◌, length, filter}
 use Rattle.std.specs.List.{sum_by}
 use Rattle.sqlite.specs.declared.types.Value.TheVariants.{Text}
@@ -6,11 +6,9 @@ use Rattle.bh_rows.specs.Texts.{SumText}
 use Rattle.bh_tables.specs.Schema.{Octets, host_schema}
 use Rattle.bh_tables.specs.Bodies.{bare_part}
 use Rattle.bh_tables.specs.Typed.{Totals, key_form, bucket_form, upload_form, part_form, Tables}
-use Rattle.bh_tables.specs.Shown.{is_owned_key, is_owned_bucket, is_owned_upload, is_part_used, has_marker}
+use Rattle.bh_tables.specs.Shown.{is_owned_key, is_owned_bucket, is_owned_upload, is_part_used}
 use Rattle.bh_schema.specs.declared.rows.counts.TenantSum.{TenantSum}
 use Rattle.bh_schema.specs.declared.rows.counts.TenantSum.TheVariants as sum
-use Rattle.bh_schema.specs.declared.rows.counts.Entry.{Entry}
-use Rattle.bh_schema.specs.declared.rows.counts.Entry.TheVariants as entry
 
 abbrev pub how_many : TenantSum → Octets → Tables → ℕ
 how_many sum.Keys tenant tables = length (filter (is_owned_key tenant) tables.keys)
@@ -25,11 +23,3 @@ IsTextOf sum.Uploads sql =
     (sums : Totals) (tenant : Octets) → SumText (upload_form sums) host_schema 16 sql (Text tenant ∷ []) (is_owned_upload tenant) (λ _. 1)
 IsTextOf sum.PartBytes sql =
     (tenant : Octets) → SumText part_form host_schema 18 sql (Text tenant ∷ []) (λ p. is_part_used tenant (bare_part p)) (λ p. p.size)
-
--- as a column has it
-abbrev pub marker_of : Entry → ℕ
-marker_of entry.Version = 0
-marker_of entry.Marker = 1
-
-abbrev pub how_many_entries : Entry → Octets → Tables → ℕ
-how_many_entries kind tenant tables = length (filter (has_marker tenant (marker_of kind)) tables.versions)

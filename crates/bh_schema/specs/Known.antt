@@ -1,4 +1,4 @@
--- What the tables say of an access key.
+-- What the tables have about an access key.
 use Rattle.std.specs.Prelude.{is_some, find, if◌then◌else◌}
 use Rattle.bh_tables.specs.Schema.{Octets}
 use Rattle.bh_tables.specs.Typed.{Tables}

@@ -14,3 +14,4 @@ pub mod OwnNumbers
 pub mod Reading
 pub mod Named
 pub mod Tallies
+pub mod Digests

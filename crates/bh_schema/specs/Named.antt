@@ -1,4 +1,4 @@
--- Rows that a tenant has by name: the tables once one is gone, and what a text has to be that takes it away.
+-- A tenant's rows that have a name: the tables after one is deleted, and which SQL deletes it.
 use Rattle.std.specs.Prelude.{ℕ, List, [], ◌∷◌}
 use Rattle.sqlite.specs.declared.types.Value.TheVariants.{Text}
 use Rattle.sqlite_keyed.specs.Lists.{delete_where}

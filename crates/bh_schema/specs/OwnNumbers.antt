@@ -1,4 +1,4 @@
--- The numbers of a tenant's own row: the tables once one is another, and what a text has to be that sets it.
+-- The numbers in a tenant's own row: the tables after one is changed, and which SQL sets it.
 use Rattle.std.specs.Prelude.{ℕ, List, [], ◌∷◌}
 use Rattle.sqlite.specs.declared.types.Value.TheVariants.{Text}
 use Rattle.sqlite_keyed.specs.Lists.{update_where}

@@ -9,25 +9,25 @@ use Rattle.sqlite.specs.declared.types.Value.TheVariants.{Text}
 use Rattle.bh_tables.specs.Schema.{Octets}
 use Rattle.bh_tables.specs.Typed.{number}
 
--- what is shown of a row, and what a value says that is read of it
+-- a row as a query returns it, and the meaning of the value that is read from it
 pub record Reading (R : Type 0) : Type 1 where
   -- a row, as the tables have it
   pub Typed : Type 0
-  -- what is shown of such a row
+  -- the row as a query returns it
   pub shown : Typed → Row
-  -- what a value says
+  -- the meaning of a value
   pub Meaning : Type 0
   pub meaning : R → Meaning
-  -- what it says when it is read of such a row
+  -- its meaning when it is read from such a row
   pub told : Typed → Meaning
-  -- the texts in such a row are UTF-8, where there are some
+  -- the texts in such a row are UTF-8, if it has any
   pub IsReadable : Typed → Type 0
 
 abbrev pub read_as : {R Typed Meaning : Type 0} → (Typed → Row) → (R → Meaning) → (Typed → Meaning) → (Typed → Type 0) → Reading R
 read_as {R = R} {Typed = Typed} {Meaning = Meaning} shown meaning told IsReadable =
     record { Typed = Typed; shown = shown; Meaning = Meaning; meaning = meaning; told = told; IsReadable = IsReadable }
 
--- a row without texts: a value says itself
+-- a row without texts: a value is its own meaning
 abbrev pub textless : {R Typed : Type 0} → (Typed → Row) → (Typed → R) → Reading R
 textless shown told = read_as shown (λ value. value) told (λ _. Unit {0})
 

@@ -1,4 +1,5 @@
--- What the columns that are read stand for, which new rows no key forbids, and which bucket may go.
+-- The meaning of the columns that are read, which new rows no key forbids, and which bucket may be
+-- deleted.
 use Rattle.std.specs.Prelude.{◌≡◌, ℕ, true, false, List, filter, Option}
 use Rattle.std.specs.List.{list_any}
 use Rattle.sqlite_keyed.specs.Lists.{sort_by}
@@ -20,7 +21,7 @@ with_stamp n h = record h { latest = n }
 abbrev pub tenant_numbers : TenantRow → TenantNumbers
 tenant_numbers t = record { quota = t.quota; next_version = t.next_version; next_upload = t.next_upload; next_entry = t.next_entry }
 
--- with the bytes that its versions and parts have
+-- with the bytes of its versions and parts
 abbrev pub tenant_account : Tables → TenantRow → TenantAccount
 tenant_account tables t = record { numbers = tenant_numbers t; used = bytes_used tables.versions tables.parts t.tenant }
 
@@ -37,7 +38,7 @@ bucket_numbers b = record { created = b.created; state = b.state; days = b.days 
 abbrev pub listed_buckets : Octets → Tables → List BucketRow
 listed_buckets tenant tables = sort_by by_bucket (filter (is_owned_bucket tenant) tables.buckets)
 
--- a bucket's name, and when it was made in seconds since 1970
+-- a bucket's name, and its creation time in seconds since 1970
 abbrev pub entry_in : BucketRow → Octets × ℕ
 entry_in b = (b.bucket, b.created)
 
@@ -48,7 +49,7 @@ listed_rules tenant tables = sort_by by_bucket (filter (is_ruled tenant) tables.
 abbrev pub rule_in : BucketRow → Octets × Option ℕ
 rule_in b = (b.bucket, b.days)
 
--- the columns of a version but its bytes
+-- the columns of a version without its bytes
 pub record SeenHead : Type 0 where
   pub seq : ℕ
   pub id : ℕ
@@ -93,9 +94,9 @@ pub record IsNewRetain (tables : Tables) (tenant : Octets) (seq : ℕ) : Type 0 
   pub free : list_any (is_retain tenant seq) tables.retains ≡ false
   pub owned : list_any (is_entry tenant seq) tables.versions ≡ true
 
--- ---- a row that may be taken away
+-- ---- a row that may be deleted
 
--- no version, no marker and no upload is in the bucket, and it is not locked
+-- the bucket has no version, no marker and no upload, and is not locked
 pub record IsEmptyBucket (tables : Tables) (tenant bucket : Octets) : Type 0 where
   pub versions : list_any (is_in_bucket tenant bucket) tables.versions ≡ false
   pub uploads : list_any (is_upload_in tenant bucket) tables.uploads ≡ false

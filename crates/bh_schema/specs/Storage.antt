@@ -1,4 +1,4 @@
--- A host's connection, in the words of a host's storage.
+-- A host's connection, in terms of a host's storage.
 use Rattle.std.specs.Prelude.{◌≡◌, if◌then◌else◌, Option, Result}
 use Rattle.sqlite_trees.specs.declared.store.Store.{Ghosts}
 use Rattle.sqlite.specs.Effect.{Database, IsDatabase}
@@ -18,14 +18,15 @@ use Rattle.bh_cache.specs.Kept.{KeptBlocks, no_blocks, agrees}
 use Rattle.bh_schema.specs.Layer.{Standing, standing, Leaves}
 use Rattle.bh_schema.specs.Layer as layer
 
--- the tables that stand and that were committed, under the host's limits
+-- the current and the committed tables, with the host's limits
 abbrev pub shown : HostLimits → Standing → Seen
 shown limits x = record { now = tables_shown x.now; kept = tables_shown x.kept; inside = x.inside; limits = limits }
 
 unfoldable pub seen_in : HostLimits → State → Seen
 seen_in limits s = shown limits (standing s)
 
--- what is shown beside blocks that are kept in memory: where one of them is not the row of its name, no row is
+-- the storage's view, given the cached blocks: if one of them is not the row of its name, there are
+-- no rows
 unfoldable pub beside : KeptBlocks → Seen → Seen
 beside kept s = record s { now = if agrees kept s.now.blocks then s.now else no_rows }
 
@@ -33,7 +34,7 @@ beside kept s = record s { now = if agrees kept s.now.blocks then s.now else no_
 unfoldable pub left_in : State → Tables → Type 0
 left_in s x = (db : Database) × Leaves s db.trees × IsDatabase db × (x ≡ tables_shown db)
 
--- ---- a host, as its connection shows it
+-- ---- a host, as seen through its connection
 
 module _ {S D : Type 0} (g : Ghosts S) where
   -- its store has returned what was written to it
@@ -54,7 +55,8 @@ module _ {S D : Type 0} (g : Ghosts S) where
   abbrev pub left : Host S D → Tables → Type 0
   left host = left_in (state g host.connection)
 
-  -- while it is clean, a transaction is open on a sound host's tables, whose blocks are named by this function
+  -- while it is clean, a transaction is open on a sound host's tables, with blocks named by this
+  -- function
   abbrev pub Works : (Octets → Octets) → Host S D → Type 0
   Works digest host = IsClean host → IsWorking (IsSoundHost digest) (seen host)
 
@@ -62,22 +64,23 @@ module _ {S D : Type 0} (g : Ghosts S) where
   abbrev pub Keeps : Host S D → Host S D → Type 0
   Keeps = Within IsIntact IsOpen seen left
 
-  -- an answer means that the connection is open
+  -- a result means that the connection is open
   abbrev pub StaysOpen : Host S D → Host S D → Type 0
   StaysOpen old new = IsOpen old → IsIntact new → IsOpen new
 
-  -- a call leaves the digester, the limits, the tuning, the blocks in memory, and the limit on the steps of a text
+  -- a call doesn't change the digester, the limits, the tuning, the cached blocks, or the limit on
+  -- a statement's steps
   abbrev pub KeepsSettings : Host S D → Host S D → Type 0
   KeepsSettings old new = (new ≡ record old { connection = new.connection })
       × ((standing (state g new.connection)).limit ≡ (standing (state g old.connection)).limit)
 
-  -- a call leaves all of these but the blocks in memory, of which none is kept
+  -- a call changes none of these but the cached blocks, which it removes
   abbrev pub Empties : Host S D → Host S D → Type 0
   Empties old new = (new ≡ record old { connection = new.connection; cache = no_blocks old.cache.tuning })
       × ((standing (state g new.connection)).limit ≡ (standing (state g old.connection)).limit)
 
-  -- a tenant's step, which answers nothing, is carried out: nothing is committed and no setting changes; unless memory or the store
-  -- was wanting, the connection is open, and at work
+  -- a tenant's step without an answer is carried out: nothing is committed and no setting changes;
+  -- unless memory or the store failed, the connection is open, and at work
   pub record CarriesOut (digest : Octets → Octets) (old new : Host S D) (tenant : Octets)
       (step : Option Machine → Result Outcome Refusal) (result : Result Unit (StepError Refusal)) : Type 0 where
     pub within : Keeps old new

@@ -1,4 +1,4 @@
--- A tenant's tally, and what becomes of it when an entry of a key comes or goes.
+-- A tenant's tally, and its change when an entry of a key is added or deleted.
 use Rattle.std.specs.Prelude.{◌≡◌, ℕ, true, ◌==◌, if◌then◌else◌, pos, int_lt, length, filter, find, Option, Some, None, option_map}
 use Rattle.std.specs.List.{AllByRecursion}
 use Rattle.std.specs.Option.{option_map_or}
@@ -31,11 +31,11 @@ place_of v = record { seq = v.seq; id = v.id; marker = v.marker }
 abbrev pub place_reading : Reading Place
 place_reading = textless shown_place place_of
 
--- the newest once the entry with this id is gone
+-- the newest after the entry with this id is deleted
 abbrev pub place_after : ℕ → NewestPlaces → Option Place
 place_after id newest = option_map_or (λ (p : Place). if p.id == id then newest.second else Some p) newest.first None
 
--- 1 where there is an entry whose column `marker` is this, else 0
+-- 1 if there is an entry whose column `marker` is this, else 0
 abbrev pub marked_as : ℕ → Option ℕ → ℕ
 marked_as marker None = 0
 marked_as marker (Some m) = if m == marker then 1 else 0
@@ -43,7 +43,7 @@ marked_as marker (Some m) = if m == marker then 1 else 0
 abbrev pub marker_in : VersionRow → ℕ
 marker_in v = v.marker
 
--- an entry of this marker comes that is newer than all of its key
+-- an entry of this marker is added that is newer than all of its key
 abbrev pub coming : Octets → Octets → Octets → ℕ → Tables → EntryChange
 coming tenant bucket okey marker tables = record {
   come = Some marker;
@@ -52,7 +52,7 @@ coming tenant bucket okey marker tables = record {
   before = option_map marker_in (newest_at tenant bucket okey tables.versions);
 }
 
--- the entry with this id goes
+-- the entry with this id is deleted
 abbrev pub going : Octets → Octets → Octets → ℕ → Tables → EntryChange
 going tenant bucket okey id tables = record {
   come = None;
@@ -66,7 +66,7 @@ abbrev pub IsNewer : Octets → Octets → Octets → ℕ → Tables → Type 0
 IsNewer tenant bucket okey seq tables =
     AllByRecursion (λ (v : VersionRow). int_lt (pos v.seq) (pos seq) ≡ true) (filter (is_at tenant bucket okey) tables.versions)
 
--- what is kept, once the counts of a tenant are so changed
+-- the sums, after a tenant's counts changed in this way
 abbrev pub entries_changed : Octets → EntryChange → Totals → Totals
 entries_changed tenant change = tally_changed tenant (marked_as 0 change.come, marked_as 0 change.gone)
     (marked_as 1 change.come, marked_as 1 change.gone) (marked_as 0 change.after, marked_as 0 change.before)

@@ -1,4 +1,4 @@
--- An error of the store, as the trouble that is told.
+-- A store's error as the host's failure.
 use Rattle.sqlite.specs.declared.error.Error.{Error}
 use Rattle.sqlite.specs.declared.error.Error.TheVariants.{SqliteFailure}
 use Rattle.sqlite.specs.declared.error.ErrorCode.TheVariants.{OutOfMemory}

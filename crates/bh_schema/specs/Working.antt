@@ -1,4 +1,4 @@
--- A connection while a transaction is open on sound tables, in which the operations of tenants are carried out.
+-- A connection with a transaction on sound tables, in which tenants' operations are carried out.
 use Rattle.std.specs.Prelude.{◌≡◌}
 use Rattle.sqlite.specs.Held.{Held, state}
 use Rattle.sqlite.specs.State.{State}
@@ -12,7 +12,7 @@ use Rattle.bh_view.specs.View.{limits_in}
 use Rattle.bh_schema.specs.Layer.{standing, IsInside}
 use Rattle.bh_schema.specs.Connections.{IsClean, StaysWithin, StaysOpen}
 
--- the tables as they stand
+-- the current tables
 abbrev pub tables_at : State → Tables
 tables_at s = tables_in (standing s).now
 
@@ -22,13 +22,14 @@ pub record IsWorking (s : State) : Type 0 where
   pub sound : IsSound (tables_at s)
   pub bodies : HasBodies (tables_at s)
 
--- so is one, the limits that the tables keep are those that they kept before, and blocks are named by this function if they were
+-- so is one, the limits in the tables are unchanged, and blocks are named by this function if they
+-- were
 pub record StillWorkingBy (digest : Octets → Octets) (old new : State) : Type 0 where
   pub is : IsWorking new
   pub limits : limits_in (tables_at new) ≡ limits_in (tables_at old)
   pub digests : AreDigests digest (tables_at old).blocks → AreDigests digest (tables_at new).blocks
 
--- so it is still at work, for every function that may name blocks
+-- so it is still at work, for every digest function
 abbrev pub StillWorking : State → State → Type 0
 StillWorking old new = (digest : Octets → Octets) → StillWorkingBy digest old new
 
@@ -43,14 +44,14 @@ module _ {S : Type 0} (g : Ghosts S) where
   abbrev pub StillWorksBy : (Octets → Octets) → Held S → Held S → Type 0
   StillWorksBy digest old new = IsClean g new → StillWorkingBy digest (state g old) (state g new)
 
-  -- a call commits nothing, and doesn't shut the connection, which is still at work; the last two unless the call ended so that
-  -- neither is said
+  -- a call commits nothing, and doesn't shut the connection, which is still at work; the last two
+  -- unless the call ended in a way that leaves both open
   pub record WorksOn (Unless : Type 0 → Type 0) (old new : Held S) : Type 0 where
     pub within : StaysWithin g old new
     pub opens : Unless (StaysOpen g old new)
     pub working : Unless (StillWorks old new)
 
-  -- such a call, where blocks are named by this function
+  -- such a call, if blocks are named by this function
   pub record WorksOnBy (digest : Octets → Octets) (Unless : Type 0 → Type 0) (old new : Held S) : Type 0 where
     pub within : StaysWithin g old new
     pub opens : Unless (StaysOpen g old new)

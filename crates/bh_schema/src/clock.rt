@@ -29,8 +29,8 @@ impl<S: Alter + Drop, D: Digester + Drop> Host<S, D> {
         }
     }
 
-    /// Writes the stamp of a reading of the clock, in seconds since 1970, if it is not the last stamp
-    /// already: the greater of the two.
+    /// Writes the stamp of a reading of the clock, in seconds since 1970, unless it is the last
+    /// stamp already. The stamp is the greater of the two.
     pub fn stamp_reading(&mut self, reading: u64) -> Result<Moment, Trouble>
         requires in_range { reading ≤ last_reading }
         requires working { Works S.Store D.digest_of self.old }

@@ -12,7 +12,7 @@ use bh_types::refusal::Refusal;
 use sqlite::Alter;
 
 impl<S: Alter + Drop, D: Digester + Drop> Host<S, D> {
-    /// Whether an access key has this secret: InvalidAccessKeyId, AccessDenied.
+    /// Checks that an access key has this secret. Refusals: InvalidAccessKeyId, AccessDenied.
     pub fn authenticate(
         &mut self,
         key: &AccessKeyId,

@@ -1,5 +1,6 @@
-ghost use Rattle.std.specs.Prelude.{◌≡◌, ◌≤◌, ℕ, List};
+ghost use Rattle.std.specs.Prelude.{◌≡◌, ◌≤◌, ◌*◌, ℕ, List, length};
 ghost use Rattle.sha2.specs.Sha256.{sha256};
+ghost use Rattle.bh_schema.specs.Digests.{AreNamed};
 
 use bh_cache::blocks::BlockCache;
 use bh_storage::error::StepError;
@@ -7,7 +8,7 @@ use bh_types::limits::Limits;
 use bh_types::refusal::Refusal;
 use sqlite::{Alter, Connection};
 
-/// Some function from bytes to 32 bytes, one for each type, of which nothing else is assumed.
+/// A function from bytes to 32 bytes, one for each type. Nothing else is assumed about it.
 pub trait Digester {
     /// The digest of some bytes.
     ghost digest_of: { List ℕ → List ℕ };
@@ -15,30 +16,44 @@ pub trait Digester {
     fn digest(&self, bytes: &[u8]) -> [u8; 32]
         ensures { result ≡ digest_of bytes.now };
 
-    /// The digest of bytes whose SHA-256 digest (FIPS 180-4) is known: SHA-256 itself needn't read them again.
+    /// The digest of bytes whose SHA-256 digest (FIPS 180-4) is given: with SHA-256 they needn't be
+    /// hashed again.
     fn digest_known(&self, bytes: &[u8], checksum: &[u8; 32]) -> [u8; 32]
         requires { checksum.now ≡ sha256 bytes.now }
         ensures { result ≡ digest_of bytes.now };
+
+    /// The digests of the first eight blocks of `size` bytes each, in their order. A digester that
+    /// can compute them side by side has its own body.
+    fn digest_eight(&self, bytes: &[u8], size: usize) -> [[u8; 32]; 8]
+        requires all { 8 * size ≤ length bytes.now }
+        ensures { AreNamed digest_of size bytes.now result }
+    {
+        let mut digests = [[0u8; 32]; 8];
+        'blocks: for j in 0..8 {
+            digests[j] = self.digest(&bytes[j * size..(j + 1) * size]);
+        }
+        digests
+    }
 }
 
-/// How an operator's command ends that tells nothing where it is carried out.
+/// The result of an operator's command that returns no value.
 pub type Carried = Result<(), StepError<Refusal>>;
 
-/// A host of buckets over a SQL database.
+/// A host of buckets in a SQL database.
 #[derive(Drop)]
 pub struct Host<S: Alter + Drop, D: Digester + Drop> {
     /// The database.
     pub connection: Connection<S>,
     /// Names blocks of bytes.
     pub digester: D,
-    /// What the host was made with.
+    /// The limits that the host was created with.
     pub limits: Limits,
-    /// What this process is set to, and the blocks that it keeps in memory.
+    /// This process's settings, and its cache of blocks.
     pub cache: BlockCache,
 }
 
 impl<S: Alter + Drop, D: Digester + Drop> Host<S, D> {
-    /// The database, which is what is left of the host.
+    /// The host's database.
     pub fn into_connection(self) -> Connection<S>
         ensures { result ≡ self.connection }
     {
@@ -50,7 +65,7 @@ impl<S: Alter + Drop, D: Digester + Drop> Host<S, D> {
         } = self;
         connection
     }
-    /// How many blocks are kept in memory, at most as many as `cache_blocks` says.
+    /// How many blocks are cached, at most `cache_blocks`.
     pub fn cached(&self) -> usize
         ensures { result ≤ self.now.cache.tuning.cache_blocks }
     {

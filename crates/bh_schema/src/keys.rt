@@ -13,8 +13,8 @@ use sqlite::Alter;
 use std::alloc::Global;
 
 impl<S: Alter + Drop, D: Digester + Drop> Host<S, D> {
-    /// Adds an access key to a tenant: InvalidName for either name or the secret, NoSuchTenant,
-    /// KeyExists.
+    /// Adds an access key to a tenant. Refusals: InvalidName for either name or the secret,
+    /// NoSuchTenant, KeyExists.
     pub fn key_add(&mut self, alloc: Global, tenant: &str, name: &str, secret: &str) -> Carried
         requires { Works S.Store D.digest_of self.old }
         ensures { CarriesOut S.Store D.digest_of self.old self.new tenant.now (add_key tenant.now name.now secret.now) result }
@@ -31,7 +31,8 @@ impl<S: Alter + Drop, D: Digester + Drop> Host<S, D> {
         Ok(())
     }
 
-    /// Takes an access key of a tenant away: InvalidName for either name, NoSuchTenant, NoSuchKeyName.
+    /// Deletes a tenant's access key. Refusals: InvalidName for either name, NoSuchTenant,
+    /// NoSuchKeyName.
     pub fn key_remove(&mut self, alloc: Global, tenant: &str, name: &str) -> Carried
         requires { Works S.Store D.digest_of self.old }
         ensures { CarriesOut S.Store D.digest_of self.old self.new tenant.now (remove_key tenant.now name.now) result }

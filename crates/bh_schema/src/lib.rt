@@ -1,4 +1,4 @@
-//! A host of buckets over a SQL database: its transactions, stamps, tenants and access keys.
+//! A host of buckets in a SQL database: its transactions, stamps, tenants and access keys.
 #![tactic(auto)]
 
 mod clock;

@@ -1,4 +1,4 @@
-//! The SQL texts that a host runs, one call for each.
+//! The SQL statements of a host, one function each.
 
 pub mod buckets;
 pub mod contents;

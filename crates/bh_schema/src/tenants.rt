@@ -12,7 +12,7 @@ use sqlite::Alter;
 use std::alloc::Global;
 
 impl<S: Alter + Drop, D: Digester + Drop> Host<S, D> {
-    /// Adds a tenant with a quota in bytes: InvalidName, InvalidQuota, TenantExists.
+    /// Adds a tenant with a quota in bytes. Refusals: InvalidName, InvalidQuota, TenantExists.
     pub fn tenant_add(&mut self, alloc: Global, tenant: &str, quota: u64) -> Carried
         requires { Works S.Store D.digest_of self.old }
         ensures { CarriesOut S.Store D.digest_of self.old self.new tenant.now (add_tenant tenant.now quota) result }
@@ -30,7 +30,8 @@ impl<S: Alter + Drop, D: Digester + Drop> Host<S, D> {
         Ok(())
     }
 
-    /// Sets a tenant's quota in bytes, also below what it uses: InvalidName, InvalidQuota, NoSuchTenant.
+    /// Sets a tenant's quota in bytes, which may be below its use. Refusals: InvalidName,
+    /// InvalidQuota, NoSuchTenant.
     pub fn quota_set(&mut self, alloc: Global, tenant: &str, quota: u64) -> Carried
         requires { Works S.Store D.digest_of self.old }
         ensures { CarriesOut S.Store D.digest_of self.old self.new tenant.now (set_quota tenant.now quota) result }

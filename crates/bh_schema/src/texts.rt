@@ -4,14 +4,14 @@ ghost use Rattle.bh_types.specs.Names.{is_tenant_name, is_key_name, is_secret};
 use bh_types::names::{KeyName, Secret, TenantName};
 use std::alloc::{AllocError, Global};
 
-/// Whether a text is a tenant's name.
+/// Whether a text is a valid name of a tenant.
 pub fn is_tenant(alloc: Global, tenant: &str) -> Result<bool, AllocError>
     ensures { IfOk result (λ is. is ≡ is_tenant_name tenant.now) }
 {
     Ok(TenantName::read(alloc, tenant)?.is_some())
 }
 
-/// Whether two texts are names of a tenant and of a key of it.
+/// Whether two texts are valid names of a tenant and of a key.
 pub fn are_names(alloc: Global, tenant: &str, name: &str) -> Result<bool, AllocError>
     ensures { IfOk result (λ are. are ≡ (is_tenant_name tenant.now && is_key_name name.now)) }
 {
@@ -21,7 +21,7 @@ pub fn are_names(alloc: Global, tenant: &str, name: &str) -> Result<bool, AllocE
     Ok(KeyName::read(alloc, name)?.is_some())
 }
 
-/// Whether two texts are names of a tenant and of a key of it, and a third is a secret.
+/// Whether two texts are valid names of a tenant and of a key, and a third is a valid secret.
 pub fn are_texts(alloc: Global, tenant: &str, name: &str, secret: &str) -> Result<bool, AllocError>
     ensures { IfOk result (λ are. are ≡ (is_tenant_name tenant.now && is_key_name name.now && is_secret secret.now)) }
 {

@@ -11,7 +11,7 @@ use bh_storage::error::Trouble;
 use sqlite::Alter;
 
 impl<S: Alter + Drop, D: Digester + Drop> Host<S, D> {
-    /// Opens a transaction. A connection that a fault has shut refuses it.
+    /// Opens a transaction. Fails if a fault has shut the connection.
     pub fn begin(&mut self) -> Result<(), Trouble>
         requires { IsClean S.Store self.old → IsAtRest (IsSoundHost D.digest_of) (seen S.Store self.old) }
         ensures within { Keeps S.Store self.old self.new }
@@ -25,7 +25,7 @@ impl<S: Alter + Drop, D: Digester + Drop> Host<S, D> {
         Ok(())
     }
 
-    /// Commits the transaction. A crash then finds what was committed.
+    /// Commits the transaction. The changes then survive a crash.
     pub fn commit(&mut self) -> Result<(), Trouble>
         requires { Works S.Store D.digest_of self.old }
         ensures intact { IsIntact S.Store self.new → IsIntact S.Store self.old }
@@ -44,7 +44,8 @@ impl<S: Alter + Drop, D: Digester + Drop> Host<S, D> {
         Ok(())
     }
 
-    /// Ends the transaction, if one is open: what was committed stands, and no block is kept in memory.
+    /// Rolls back the transaction, if one is open: the tables are those that were committed. The
+    /// cache of blocks is emptied.
     pub fn take_back(&mut self)
         ensures intact { IsIntact S.Store self.new → IsIntact S.Store self.old }
         ensures opened { IsIntact S.Store self.new → IsOpen S.Store self.new → IsOpen S.Store self.old }

@@ -4,7 +4,7 @@ ghost use Rattle.bh_schema.specs.Troubles as spec;
 use bh_storage::error::Trouble;
 use sqlite::{Error, ErrorCode};
 
-/// An error of the database, as the trouble that a host tells: with its code, where it has one.
+/// A database error as the host's failure, with its code if it has one.
 pub fn trouble_of(error: Error) -> Trouble
     ensures { result ≡ spec.trouble_of error }
 {
@@ -15,7 +15,7 @@ pub fn trouble_of(error: Error) -> Trouble
     }
 }
 
-/// What a call on the database answered, with its error as trouble.
+/// The result of a database call, with its error as the host's failure.
 pub fn or_trouble<T>(outcome: Result<T, Error>) -> Result<T, Trouble>
     ensures ok { IfOk result (λ x. outcome ≡ Ok x) }
     ensures err { IfErr result (λ trouble. IsErrAnd outcome (λ e. trouble ≡ spec.trouble_of e)) }

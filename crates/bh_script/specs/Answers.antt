@@ -1,4 +1,5 @@
--- The text that a script is answered: the replies of a run over its events, and then its bad line; and how it is written.
+-- The output of a script: the replies of a run over its events, and then its bad line; and how it
+-- is written.
 use Rattle.std.specs.Prelude.{◌≡◌, ℕ, Bool, true, false, List, [], ◌∷◌, ◌++◌, take, codes, decimal, Option, Some, None, Result, MatchResult}
 use Rattle.std.specs.Io.KnownBytes.{Appends}
 use Rattle.std.specs.List.{flat_map}
@@ -18,7 +19,7 @@ use Rattle.bh_script.specs.declared.error.ScriptError.TheVariants as fault
 abbrev pub first_tables : HostLimits → BlockDigest → Tables
 first_tables limits digest = new_host limits.min_part limits.max_body (digest_number digest)
 
--- such a host, given these events one after another, gave these answers
+-- such a host, given these events one after another, returned these replies
 abbrev pub AnewRan : HostLimits → BlockDigest → List Arrival → List Told → Type 0
 AnewRan limits digest events dones = (end : Tables) × Ran events dones (first_tables limits digest) end
 
@@ -33,7 +34,7 @@ replies_text dones = flat_map reply_line dones
 abbrev pub bad_line_text : ℕ → List ℕ
 bad_line_text number = codes "bad line " ++ decimal number ++ 10 ∷ []
 
--- what follows the replies
+-- the text after the replies
 abbrev pub end_text : Option BadLine → List ℕ
 end_text None = []
 end_text (Some bad) = bad_line_text bad.number
@@ -41,13 +42,13 @@ end_text (Some bad) = bad_line_text bad.number
 abbrev pub answer_text : List Told → Option BadLine → List ℕ
 answer_text dones bad = replies_text dones ++ end_text bad
 
--- a text tells what such a host answered the events of an input, each on a line, and then the input's
+-- a text has such a host's replies to the events of an input, each on a line, and then the input's
 -- bad line
 abbrev pub AnswersScript : HostLimits → BlockDigest → List ℕ → List ℕ → Type 0
 AnswersScript limits digest input text =
     (dones : List Told) × AnewRan limits digest (events_of input) dones × (text ≡ answer_text dones (bad_line_of input))
 
--- a new host's run answers these events so, and each tenant is alone in it
+-- a new host's run has these replies to events, and each tenant is alone in it
 abbrev pub AnewAlone : HostLimits → BlockDigest → List Arrival → List Told → Type 0
 AnewAlone limits digest events dones =
     (end : Tables) × Ran events dones (first_tables limits digest) end
@@ -57,40 +58,42 @@ abbrev pub AnswersScriptAlone : HostLimits → BlockDigest → List ℕ → List
 AnswersScriptAlone limits digest input text =
     (dones : List Told) × AnewAlone limits digest (events_of input) dones × (text ≡ answer_text dones (bad_line_of input))
 
--- what a text tells of lines that are counted from a number on, by a host whose tables are `first` before them and `end` after
+-- the text for lines that are counted from a number on, by a host whose tables are `first` before
+-- them and `end` after
 abbrev pub AnswersLines : ℕ → List (List ℕ) → Tables → Tables → List ℕ → Type 0
 AnswersLines number lines first end text =
     (dones : List Told) × Ran (events_in lines) dones first end × (text ≡ answer_text dones (bad_line_from number lines))
 
--- ---- what a writer holds before and after
+-- ---- a writer's bytes before and after
 
--- a front of a text was appended
+-- the beginning of a text was appended
 abbrev pub AppendsFront : Option (List ℕ) → Option (List ℕ) → List ℕ → Type 0
 AppendsFront old new text = (sent : ℕ) × Appends old new (take sent text)
 
--- a text was appended: whole on Ok, and on Err a front of it
+-- a text was appended: whole on Ok, and on Err its beginning
 abbrev pub Writes : {X E : Type 0} → List ℕ → Result X E → Option (List ℕ) → Option (List ℕ) → Type 0
 Writes text result old new = MatchResult result (λ _. Appends old new text) (λ _. AppendsFront old new text)
 
--- an event was applied, and its reply and a line feed were appended: whole on Ok, and on Err a front of them
+-- an event was applied, and its reply and a line feed were appended: whole on Ok, and on Err their
+-- beginning
 abbrev pub WritesReply : {X E : Type 0} → Arrival → Tables → Tables → Result X E → Option (List ℕ) → Option (List ℕ) → Type 0
 WritesReply event before after result old new =
     (done : Told) × Ran (event ∷ []) (done ∷ []) before after × Writes (reply_line done) result old new
 
--- a text that answers lines was appended: whole on Ok, and on Err a front of it
+-- the replies to lines were appended: whole on Ok, and on Err their beginning
 abbrev pub WritesLines : {X E : Type 0} → ℕ → List (List ℕ) → Tables → Tables → Result X E → Option (List ℕ) → Option (List ℕ) → Type 0
 WritesLines number lines first end result old new = (text : List ℕ) × AnswersLines number lines first end text × Writes text result old new
 
--- a text that answers a script was appended: whole on Ok, and on Err a front of it
+-- the output of a script was appended: whole on Ok, and on Err its beginning
 abbrev pub WritesScript : {X E : Type 0} → HostLimits → BlockDigest → List ℕ → Result X E → Option (List ℕ) → Option (List ℕ) → Type 0
 WritesScript limits digest input result old new = (text : List ℕ) × AnswersScript limits digest input text × Writes text result old new
 
--- a text in which each tenant is alone was appended so
+-- a text in which each tenant is alone was appended
 abbrev pub WritesScriptAlone : {X E : Type 0} → HostLimits → BlockDigest → List ℕ → Result X E → Option (List ℕ) → Option (List ℕ) → Type 0
 WritesScriptAlone limits digest input result old new =
     (text : List ℕ) × AnswersScriptAlone limits digest input text × Writes text result old new
 
--- whether it is the writer that failed
+-- whether the writer failed
 abbrev pub is_write : ScriptError → Bool
 is_write (fault.Trouble trouble) = false
 is_write fault.WriteFailed = true

@@ -1,8 +1,8 @@
--- What a reader gave to whoever reads it to its end.
+-- The bytes of a reader that is read to its end.
 use Rattle.std.specs.Prelude.{ℕ, ◌<◌, List, length, Option, Some, None}
 use Rattle.std.specs.Io.KnownBytes.{Consumes, IsAtEnd}
 
--- the most bytes that a script may have
+-- the maximum size of a script in bytes
 abbrev pub greatest_script : ℕ
 greatest_script = 67108864
 

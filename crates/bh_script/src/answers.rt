@@ -18,11 +18,11 @@ use bh_storage::storage::Storage;
 use memchr::memchr;
 use std::alloc::Global;
 
-/// Applies the events that lines tell, up to the first line that tells none, to a host that no fault shuts. Each reply
-/// and a line's end are written before the next line is read, and then, for a line that tells no event, `bad line` and
-/// its number. Gives that line, if there is one.
+/// Applies the events of lines, up to the first invalid line, to a host whose store doesn't fail.
+/// Each reply and a line feed are written before the next line is read. For an invalid line,
+/// `bad line` and its number are written. Returns that line, if there is one.
 ///
-/// Of a line, its event and its reply nothing is held once the reply is written.
+/// Once its reply is written, nothing of a line, its event and its reply is held in memory.
 pub(crate) fn answer_lines<H: Storage, W: Sink>(
     alloc: Global,
     routes: &Routes,
@@ -52,7 +52,7 @@ pub(crate) fn answer_lines<H: Storage, W: Sink>(
     Ok(None)
 }
 
-/// The first line of some bytes, and what comes after its line feed, if it has one.
+/// The first line of some bytes, and the bytes after its line feed, if it has one.
 fn cut_line(bytes: &[u8]) -> (&[u8], Option<&[u8]>)
     ensures { MatchOption result.1 (lines bytes.now ≡ result.0.now ∷ [])
         (λ later. lines bytes.now ≡ result.0.now ∷ lines later.now) }
@@ -63,7 +63,7 @@ fn cut_line(bytes: &[u8]) -> (&[u8], Option<&[u8]>)
     }
 }
 
-/// Answers one line; an empty line with nothing.
+/// Answers one line. An empty line has no answer.
 fn answer_line<H: Storage, W: Sink>(
     alloc: Global,
     routes: &Routes,

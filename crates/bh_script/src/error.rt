@@ -6,7 +6,7 @@ use std::alloc::AllocError;
 /// Why a script was not answered to its end.
 #[derive(Clone, Copy)]
 pub enum ScriptError {
-    /// Memory was wanting for a line, or memory or the store for the new host.
+    /// Memory ran out for a line, or memory or the store failed for the new host.
     Trouble(Trouble),
     /// A write failed, or took none of some bytes.
     WriteFailed,

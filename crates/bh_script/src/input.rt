@@ -12,24 +12,24 @@ use std::alloc::{AllocError, Global};
 use std::io;
 use std::io::Read;
 
-/// The most bytes that a script may have.
+/// The maximum size of a script in bytes.
 const GREATEST_SCRIPT: usize = 1 << 26;
 
-/// A line that tells no event: its number, from 1, and why it tells none.
+/// A line that is not an event: its number, from 1, and the reason.
 #[derive(Clone, Copy)]
 pub struct BadLine {
     pub number: usize,
     pub flaw: Flaw,
 }
 
-/// A script: the events before the first line that tells none, and that line.
+/// A script: the events before the first invalid line, and that line.
 #[derive(Drop)]
 pub struct Script {
     pub events: Vec<Event>,
     pub bad_line: Option<BadLine>,
 }
 
-/// All bytes of a reader, or none where they are more than a script may have.
+/// All bytes of a reader, or `None` if they are more than a script may have.
 pub fn read_all<R: Read>(alloc: Global, reader: &mut R) -> io::Result<Option<Vec<u8>>>
     ensures { IfOk result (λ read. ReadsAll (R.remaining reader.old) (R.remaining reader.new) (option_map vec_items read)) }
 {
@@ -45,7 +45,7 @@ pub fn read_all<R: Read>(alloc: Global, reader: &mut R) -> io::Result<Option<Vec
     Ok(None)
 }
 
-/// Reads some bytes to the end of those that are there; 0 at the end.
+/// Reads some bytes and appends them; 0 at the end.
 fn read_piece<R: Read>(reader: &mut R, bytes: &mut Vec<u8>) -> io::Result<usize>
     ensures { IfOk result (λ n. (n ≡ 0 → IsAtEnd (R.remaining reader.new)) × ((piece : List ℕ) × (length piece ≡ n)
         × Consumes (R.remaining reader.old) (R.remaining reader.new) piece
@@ -57,7 +57,7 @@ fn read_piece<R: Read>(reader: &mut R, bytes: &mut Vec<u8>) -> io::Result<usize>
     Ok(count)
 }
 
-/// The script whose lines these bytes are; an empty line is skipped.
+/// The script in these bytes, a line each; empty lines are skipped.
 pub fn read_script(alloc: Global, bytes: &[u8]) -> Result<Script, AllocError>
     ensures events { IfOk result (λ script. map arrival script.events.items ≡ events_of bytes.now) }
     ensures bad_line { IfOk result (λ script. script.bad_line ≡ bad_line_of bytes.now) }

@@ -1,4 +1,4 @@
-//! Scripts of events: read from bytes, applied to a new host in memory, and answered.
+//! Scripts of events: parsed from bytes, applied to a new host in memory, and answered.
 #![tactic(auto)]
 
 mod answers;

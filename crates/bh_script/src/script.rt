@@ -22,12 +22,12 @@ use bh_types::limits::{Limits, Tuning};
 use sqlite::{Connection, MemStore};
 use std::alloc::Global;
 
-/// Applies the events of a script, up to the first line that tells none, to a new host in memory with these limits,
-/// whose blocks the digester names and which keeps that this function does. Each reply and a line's end are written
-/// before the next line is read, and then, for a line that tells no event, `bad line` and its number. Gives that line,
-/// if there is one.
+/// Applies a script's events, up to the first invalid line, to a new host in memory with these
+/// limits, this digester and the number of its function. Each reply and a line feed are written
+/// before the next line is read. For an invalid line, `bad line` and its number are written.
+/// Returns that line, if there is one.
 ///
-/// Of a line, its event and its reply nothing is held once the reply is written.
+/// Once its reply is written, nothing of a line, its event and its reply is held in memory.
 pub fn answer_script<W: Sink, D: Digester + Drop>(
     alloc: Global,
     bytes: &[u8],
@@ -49,7 +49,7 @@ pub fn answer_script<W: Sink, D: Digester + Drop>(
     answer_lines(alloc, &routes, &mut storage, bytes, writer)
 }
 
-/// A new host in memory, which keeps no block beside it yet, and nothing is remembered of it.
+/// A new host in memory, with an empty cache and no remembered facts.
 fn new_host<D: Digester + Drop>(
     alloc: Global,
     digester: D,

@@ -1,4 +1,4 @@
--- What contracts see of an answer.
+-- Answers, as contracts see them.
 use Rattle.std.specs.Prelude.{map}
 use Rattle.std.specs.String.{string_bytes}
 use Rattle.bh_docs.specs.Documents.{bucket_view, usage_view}
@@ -33,7 +33,7 @@ copied_answer v = model.Copied v.id v.modified (string_bytes v.checksum)
 abbrev pub head_answer : ObjectHead → model.Answer
 head_answer v = model.Head v.id v.size (string_bytes v.checksum)
 
--- a version that was found, by the tables from which its bytes are to be read
+-- a version that was found, by the tables from which its bytes are read
 abbrev pub found_answer : Tables → FoundVersion → model.Answer
 found_answer tables v = model.Object v.head.id v.head.size v.range (to_come v.plan tables) (string_bytes v.head.checksum)
 
@@ -66,7 +66,7 @@ answer_view (Completed upload) = completed_answer upload
 answer_view (Used usage) = used_answer usage
 answer_view (Keys names) = model.Keys (map string_bytes names.items)
 
--- what an operation answers, by the tables that it leaves
+-- an operation's answer, by the tables after it
 abbrev pub offer_view : Tables → Offer → model.Answer
 offer_view tables (Whole answer) = answer_view answer
 offer_view tables (Planned found) = found_answer tables found

@@ -1,5 +1,5 @@
--- What a call on the storage does, in the words that a host needs: what is seen and committed, the machine's steps, and
--- what a crash leaves.
+-- A storage call's effect, as a host needs it: the current and the committed tables, the machine's
+-- steps, and what a crash leaves.
 use Rattle.std.specs.Prelude.{◌≡◌, ◌≢◌, ◌⊎◌, ℕ, Bool, true, false, List, map, Option, Result, Ok, Err}
 use Rattle.bh_types.specs.Limits.{HostLimits}
 use Rattle.bh_model.specs.Runs.{stamp_of, purged_tenant}
@@ -18,14 +18,15 @@ use Rattle.bh_storage.specs.declared.report.TenantReport.{TenantReport}
 use Rattle.bh_storage.specs.declared.error.StepError.{StepError}
 use Rattle.bh_storage.specs.declared.error.StepError.TheVariants.{Refused, Failed}
 
--- what stands now, what was committed, whether a transaction is open, and the limits that requests are read by
+-- the current tables, the committed ones, whether a transaction is open, and the limits for
+-- requests
 pub record Seen : Type 0 where
   pub now : Tables
   pub kept : Tables
   pub inside : Bool
   pub limits : HostLimits
 
--- no transaction is open, all is committed, the tables are sound, and the limits are those that they keep
+-- no transaction is open, all is committed, the tables are sound, and they have these limits
 pub record IsAtRest (IsSound : Tables → Type 0) (s : Seen) : Type 0 where
   pub outside : s.inside ≡ false
   pub committed : s.kept ≡ s.now
@@ -38,25 +39,26 @@ pub record IsWorking (IsSound : Tables → Type 0) (s : Seen) : Type 0 where
   pub sound : IsSound s.now
   pub limits : limits_in s.now ≡ s.limits
 
--- sound tables stand: all of them are committed, or a transaction is open on them
+-- the current tables are sound, and either all of them are committed or a transaction is open on
+-- them
 abbrev pub IsReadable : (Tables → Type 0) → Seen → Type 0
 IsReadable IsSound s = IsAtRest IsSound s ⊎ IsWorking IsSound s
 
--- the store gave back what was written to it, and no fault has shut it
+-- the store returned what was written to it, and no fault has shut it
 abbrev pub Clean : {H : Type 0} → (H → Type 0) → (H → Type 0) → H → Type 0
 Clean IsIntact IsOpen host = IsIntact host × IsOpen host
 
--- unless memory or the store was wanting
+-- unless memory or the store failed
 abbrev pub Unless : {X E : Type 0} → Result X (StepError E) → Type 0 → Type 0
 Unless (Ok x) P = P
 Unless (Err (Refused r)) P = P
 Unless (Err (Failed trouble)) P = Unit {0}
 
--- what a crash may leave from then on, it might have left before
+-- what a crash may leave from then on was possible before
 abbrev pub LeavesNothingNew : {H : Type 0} → (H → Tables → Type 0) → H → H → Type 0
 LeavesNothingNew left old new = (x : Tables) → left new x → left old x
 
--- what a crash may leave from then on, it might have left before, or it is sound: a host can be opened on it
+-- what a crash may leave from then on was possible before, or is sound: a host can be opened on it
 abbrev pub LeavesSound : {H : Type 0} → (Tables → Type 0) → (H → Tables → Type 0) → H → H → Type 0
 LeavesSound IsSound left old new = (x : Tables) → left new x → left old x ⊎ IsSound x
 
@@ -68,45 +70,46 @@ pub record Within {H : Type 0} (IsIntact IsOpen : H → Type 0) (seen : H → Se
   pub kept : Clean IsIntact IsOpen new → (seen new).kept ≡ (seen old).kept
   pub limits : (seen new).limits ≡ (seen old).limits
 
--- such a call does not shut the store, and the transaction goes on with sound tables; `Done` says when: on Ok, or unless memory or
--- the store was wanting
+-- such a call does not shut the store, and the transaction goes on with sound tables; `Done` tells
+-- when: on Ok, or unless memory or the store failed
 pub record StaysAtWork {H : Type 0} (IsIntact IsOpen : H → Type 0) (IsSound : Tables → Type 0) (seen : H → Seen)
     (left : H → Tables → Type 0) (Done : Type 0 → Type 0) (old new : H) : Type 0 where
   pub within : Within IsIntact IsOpen seen left old new
   pub opens : Done (IsOpen old → IsIntact new → IsOpen new)
   pub working : Done (Clean IsIntact IsOpen new → IsWorking IsSound (seen new))
 
--- the transaction is committed: what stood then stands
+-- the transaction is committed: the current tables are the committed ones
 pub record Commits (old new : Seen) : Type 0 where
   pub now : new.now ≡ old.now
   pub kept : new.kept ≡ old.now
   pub outside : new.inside ≡ false
 
--- the transaction is taken back: what was committed stands
+-- the transaction is rolled back: the committed tables are the current ones
 pub record TakesBack (old new : Seen) : Type 0 where
   pub now : new.now ≡ old.kept
   pub kept : new.kept ≡ old.kept
   pub outside : new.inside ≡ false
 
--- all tenants but one see what they saw
+-- all tenants but one see no change
 abbrev pub OthersSame : Octets → Tables → Tables → Type 0
 OthersSame t old new = (u : Octets) → u ≢ t → view new u ≡ view old u
 
--- a reading's stamp is written as the last one; each tenant sees what it saw
+-- a reading's stamp is written as the last one; no tenant sees a change
 pub record Stamps (reading m : ℕ) (old new : Tables) : Type 0 where
   pub stamp : stamp_of reading (latest_of old) ≡ Ok m
   pub is : new ≡ with_latest m old
   pub latest : latest_of new ≡ m
   pub views : (u : Octets) → view new u ≡ view old u
 
--- a tenant's uploads that are stale at a moment are gone, and nothing else
+-- a tenant's uploads that are stale at a moment are removed, and nothing else
 pub record Purges (t : Octets) (at : ℕ) (old new : Tables) : Type 0 where
   pub is : new ≡ rows_purged t at old
   pub own : view new t ≡ purged_tenant (view old t) at
   pub others : OthersSame t old new
   pub latest : latest_of new ≡ latest_of old
 
--- a step of a tenant: the machine's step of its state gives the answer and the state, and what all tenants share is kept
+-- a tenant's step: the machine's step returns the answer and the state, and what all tenants share
+-- is unchanged
 pub record GivesStep {Y E : Type 0} (t : Octets) (step : Option State → Result (Y × Option State) E) (y : Y) (old new : Tables) :
     Type 0 where
   pub gives : step (view old t) ≡ Ok (y, view new t)
@@ -114,23 +117,24 @@ pub record GivesStep {Y E : Type 0} (t : Octets) (step : Option State → Result
   pub latest : latest_of new ≡ latest_of old
   pub shared : KeepsShared old new
 
--- the step's answer and state, or its refusal with the tables as they were
+-- the step's answer and state, or its refusal with unchanged tables
 abbrev pub Carries : {X Y E : Type 0} → (X → Y) → Octets → (Option State → Result (Y × Option State) E) → Tables → Tables
     → Result X (StepError E) → Type 0
 Carries shown t step old new (Ok x) = GivesStep t step (shown x) old new
 Carries shown t step old new (Err (Refused r)) = (step (view old t) ≡ Err r) × (new ≡ old)
 Carries shown t step old new (Err (Failed trouble)) = Unit {0}
 
--- ---- a step whose body comes in pieces
+-- ---- a step whose body is received in pieces
 
--- unless memory or the store was wanting, the body did not come whole, or the tables are spoilt
+-- unless memory or the store failed, the body was incomplete, or the tables are spoilt
 abbrev pub UnlessSpoilt : {X E : Type 0} → Result (Outcome X E) (StepError E) → Type 0 → Type 0
 UnlessSpoilt (Ok (Done x)) P = P
 UnlessSpoilt (Ok (Spoilt r)) P = Unit {0}
 UnlessSpoilt (Err (Refused r)) P = P
 UnlessSpoilt (Err (Failed trouble)) P = Unit {0}
 
--- the machine's step gives the answer and the state; or it is refused, and the tables are as they were, or are to be taken back
+-- the machine's step returns the answer and the state; or it refuses, and the tables are unchanged
+-- or have to be rolled back
 abbrev pub Receives : {X Y E : Type 0} → (X → Y) → Octets → (Option State → Result (Y × Option State) E) → Tables → Tables
     → Result (Outcome X E) (StepError E) → Type 0
 Receives shown t step old new (Ok (Done x)) = GivesStep t step (shown x) old new
@@ -138,13 +142,13 @@ Receives shown t step old new (Ok (Spoilt r)) = step (view old t) ≡ Err r
 Receives shown t step old new (Err (Refused r)) = (step (view old t) ≡ Err r) × (new ≡ old)
 Receives shown t step old new (Err (Failed trouble)) = Unit {0}
 
--- wherever a step is decided, all of its body came
+-- if a step was decided, all of its body was received
 abbrev pub IsDecided : {X E : Type 0} → Result (Outcome X E) (StepError E) → Coming → Type 0
 IsDecided (Ok outcome) body = IsWhole body
 IsDecided (Err (Refused r)) body = IsWhole body
 IsDecided (Err (Failed trouble)) body = MayBreak body
 
--- some bytes of a body came, by which the step is judged
+-- some bytes of a body were received, by which the step is judged
 pub record Operates {X Y E : Type 0} (shown : X → Y) (t : Octets) (step : Octets → Option State → Result (Y × Option State) E)
     (clean : Type 0) (before after : Coming) (old new : Tables) (result : Result (Outcome X E) (StepError E)) : Type 0 where
   pub given : Octets
@@ -152,13 +156,13 @@ pub record Operates {X Y E : Type 0} (shown : X → Y) (t : Octets) (step : Octe
   pub decided : IsDecided result after
   pub carries : clean → Receives shown t (step given) old new result
 
--- where a step is done
+-- if a step is done
 abbrev pub IfDone : {X E : Type 0} → Result (Outcome X E) (StepError E) → Type 0 → Type 0
 IfDone (Ok (Done x)) P = P
 IfDone (Ok (Spoilt r)) P = Unit {0}
 IfDone (Err e) P = Unit {0}
 
--- a step by a body's bytes, of which more is said where it is done
+-- a step on a body's bytes, with more clauses if it is done
 pub record OperatesBy {X Y E : Type 0} (shown : X → Y) (t : Octets) (step : Octets → Option State → Result (Y × Option State) E)
     (Says : Octets → Type 0) (clean : Type 0) (before after : Coming) (old new : Tables) (result : Result (Outcome X E) (StepError E)) :
     Type 0 where
@@ -168,25 +172,26 @@ pub record OperatesBy {X Y E : Type 0} (shown : X → Y) (t : Octets) (step : Oc
   pub carries : clean → Receives shown t (step given) old new result
   pub says : IfDone result (clean → Says given)
 
--- a question, which changes nothing
+-- a query, which changes nothing
 abbrev pub Decides : {X Y E : Type 0} → (X → Y) → Result Y E → Tables → Tables → Result X (StepError E) → Type 0
 Decides shown answer old new (Ok x) = (answer ≡ Ok (shown x)) × (new ≡ old)
 Decides shown answer old new (Err (Refused r)) = (answer ≡ Err r) × (new ≡ old)
 Decides shown answer old new (Err (Failed trouble)) = Unit {0}
 
--- of what is due, whosever it is, the first so many are gone and counted; each tenant's state, once purged, is as before
+-- the first `limit` of what is due, whoever's it is, are removed and counted; each tenant's state,
+-- once purged, is unchanged
 pub record Sweeps (at limit : ℕ) (report : SweepReport) (old new : Tables) : Type 0 where
   pub is : new ≡ swept at limit old
   pub counted : report ≡ sweep_counts at limit old
   pub views : (t : Octets) → purged_tenant (view new t) at ≡ purged_tenant (view old t) at
   pub latest : latest_of new ≡ latest_of old
 
--- what is stored is counted, and stays
+-- the counts of what is stored; nothing changes
 pub record Reports (report : StoreReport) (old new : Tables) : Type 0 where
   pub counted : report ≡ store_counts old
   pub same : new ≡ old
 
--- all tenants are told, and all tables stay
+-- all tenants are returned, and no table changes
 pub record Lists (listed : List TenantReport) (old new : Tables) : Type 0 where
   pub told : map tenant_view listed ≡ tenants_told old
   pub same : new ≡ old

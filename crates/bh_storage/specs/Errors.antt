@@ -1,4 +1,4 @@
--- Errors as one another.
+-- Conversions of errors.
 use Rattle.bh_types.specs.Rejections.{plain}
 use Rattle.bh_types.specs.declared.error.RequestError.{RequestError}
 use Rattle.bh_types.specs.declared.error.RequestError.TheVariants as request
@@ -15,7 +15,7 @@ abbrev pub request_rejected : RequestError → StepError Rejection
 request_rejected (request.Refused refusal) = Refused (plain refusal)
 request_rejected request.OutOfMemory = Failed Memory
 
--- why a body was not taken whole, as trouble
+-- the failure for a body that was not read whole
 abbrev pub uncollected : CollectError → Trouble
 uncollected (collect.Broken cause) = Body
 uncollected collect.OutOfMemory = Memory

@@ -1,4 +1,4 @@
--- What sweeps, reports and lists of tenants tell.
+-- The results of sweeps, reports and lists of tenants.
 use Rattle.std.specs.Prelude.{ℕ, nat_lt, List, length, filter, map}
 use Rattle.std.specs.List.{sum_by}
 use Rattle.std.specs.String.{string_bytes}
@@ -11,7 +11,7 @@ use Rattle.bh_storage.specs.declared.report.SweepReport.{SweepReport}
 use Rattle.bh_storage.specs.declared.report.StoreReport.{StoreReport}
 use Rattle.bh_storage.specs.declared.report.TenantReport.{TenantReport}
 
--- what a sweep at a moment with a limit removes
+-- the result of a sweep at a moment with a limit
 abbrev pub sweep_counts : ℕ → ℕ → Tables → SweepReport
 sweep_counts at limit tables = record {
   uploads = length (uploads_swept at limit tables);
@@ -19,8 +19,8 @@ sweep_counts at limit tables = record {
   complete = is_complete at limit tables;
 }
 
--- a block's bytes are stored once, and referred to once for each place of a body that they stand at; a block whose ordinal
--- is above 0 had the digest of another when it was stored
+-- a block's bytes are stored once, and referred to once by each place of a body that has them. A
+-- block with an ordinal above 0 had another block's digest when it was stored
 abbrev pub store_counts : Tables → StoreReport
 store_counts tables = record {
   blocks = length tables.blocks;
@@ -29,8 +29,8 @@ store_counts tables = record {
   clashes = length (filter (λ (b : BlockRow). nat_lt 0 b.ord) tables.blocks);
 }
 
--- a tenant as an operator is told of it: its name, its quota and the bytes that its versions and parts have, and how many access
--- keys it has. None of its keys' names or secrets is told
+-- a tenant as an operator sees it: its name, its quota, the bytes of its versions and parts, and
+-- its number of access keys. None of their names or secrets is included
 pub record TenantTold : Type 0 where
   pub name : Octets
   pub quota : ℕ

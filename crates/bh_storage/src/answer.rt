@@ -5,10 +5,10 @@ use bh_types::id::{UploadId, VersionId};
 use bh_types::moment::Moment;
 use bh_types::range::RangePlan;
 
-/// What a step answers where nothing is refused.
+/// The answer to a step that was not refused.
 #[derive(Drop)]
 pub enum Answer {
-    /// Nothing but that it is done.
+    /// It was done, and there is no value.
     Done,
     Removed(RemovedEntry),
     Stored(StoredVersion),
@@ -25,52 +25,52 @@ pub enum Answer {
     Uploads(UploadsPage),
     /// A page of an upload's parts.
     Parts(PartsPage),
-    /// The days after which a bucket's uploads go that are left unfinished.
+    /// The number of days after which a bucket's unfinished uploads are removed.
     Lifecycle(u16),
-    /// The moment until which a version is kept, if it has one.
+    /// The moment until which a version is retained, if it has one.
     Retention(Option<Moment>),
     Begun(BegunUpload),
     /// A part was put: the base64 (RFC 4648) of the SHA-256 digest (FIPS 180-4) of its bytes.
     PartStored(String),
     Completed(CompletedUpload),
-    /// What a tenant uses.
+    /// A tenant's usage.
     Used(Usage),
     /// The names of a tenant's access keys, in byte order.
     Keys(Vec<String>),
 }
 
-/// What an operation of a tenant answers where nothing is refused.
+/// The answer to a tenant's operation that was not refused.
 #[derive(Drop)]
 pub enum Offer {
-    /// An answer that is there as a whole.
+    /// An answer that is complete.
     Whole(Answer),
     /// An object, whose bytes are still to be read.
     Planned(FoundVersion),
 }
 
-/// What a delete answers.
+/// The answer to a delete.
 #[derive(Clone, Copy, PartialEq, Eq)]
 pub struct RemovedEntry {
-    /// The id of the delete marker that was made, or of the entry that was taken out by its id, where the bucket is
-    /// or was versioned.
+    /// The id of the delete marker that was made, or of the entry that was deleted by its id, if
+    /// the bucket is or was versioned.
     pub id: Option<VersionId>,
-    /// Whether a delete marker was made, or taken out by its id.
+    /// Whether a delete marker was made, or deleted by its id.
     pub marker: bool,
 }
 
-/// What a put answers.
+/// The answer to a put.
 #[derive(Drop)]
 pub struct StoredVersion {
-    /// The new version's id, where its bucket is or was versioned.
+    /// The new version's id, if its bucket is or was versioned.
     pub id: Option<VersionId>,
     /// The base64 (RFC 4648) of the SHA-256 digest (FIPS 180-4) of the object's bytes.
     pub checksum: String,
 }
 
-/// What a copy answers.
+/// The answer to a copy.
 #[derive(Drop)]
 pub struct CopiedVersion {
-    /// The new version's id, where its bucket is or was versioned.
+    /// The new version's id, if its bucket is or was versioned.
     pub id: Option<VersionId>,
     /// The new version's moment.
     pub modified: Moment,
@@ -78,10 +78,10 @@ pub struct CopiedVersion {
     pub checksum: String,
 }
 
-/// What is told of a version without its bytes.
+/// A version's metadata, without its bytes.
 #[derive(Drop)]
 pub struct ObjectHead {
-    /// The version's id, where its bucket is or was versioned.
+    /// The version's id, if its bucket is or was versioned.
     pub id: Option<VersionId>,
     /// The object's length in bytes.
     pub size: u64,
@@ -89,40 +89,40 @@ pub struct ObjectHead {
     pub checksum: String,
 }
 
-/// What a get answers.
+/// The answer to a get.
 #[derive(Drop)]
 pub struct FoundVersion {
-    /// The version, of which `size` and `checksum` are those of the whole object.
+    /// The version; `size` and `checksum` are those of the whole object.
     pub head: ObjectHead,
-    /// Which of the object's bytes are answered.
+    /// The range of the object that is returned.
     pub range: RangePlan,
-    /// What is to come of them: all.
+    /// The plan of those bytes, from the first one on.
     pub plan: Plan,
 }
 
-/// What beginning a multipart upload answers.
+/// The answer to the beginning of a multipart upload.
 #[derive(Drop)]
 pub struct BegunUpload {
-    /// The bucket's name, without a tenant.
+    /// The bucket's own name.
     pub bucket: String,
-    /// The key that the object will have.
+    /// The key of the future object.
     pub key: String,
     /// The new upload's id.
     pub upload: UploadId,
-    /// When the upload will be stale, where its bucket has a rule for that.
+    /// The moment at which the upload becomes stale, if its bucket has a rule for that.
     pub abort: Option<Moment>,
 }
 
-/// What completing a multipart upload answers.
+/// The answer to the completion of a multipart upload.
 #[derive(Drop)]
 pub struct CompletedUpload {
-    /// The bucket's name, without a tenant.
+    /// The bucket's own name.
     pub bucket: String,
     /// The object's key.
     pub key: String,
-    /// The new version's id, where its bucket is or was versioned.
+    /// The new version's id, if its bucket is or was versioned.
     pub id: Option<VersionId>,
-    /// The text of the object's checksum: the base64 of the digest of its parts' digests, `-`, and how many parts
-    /// they are (Amazon S3 User Guide, "Checking object integrity").
+    /// The text of the object's checksum: the base64 of the digest of its parts' digests, `-`, and
+    /// the number of parts (Amazon S3 User Guide, "Checking object integrity").
     pub checksum: String,
 }

@@ -6,16 +6,16 @@ use sqlite::ErrorCode;
 use std::alloc::AllocError;
 use std::fmt;
 
-/// Why a call was not carried out though nothing is wrong with what it asks.
+/// Why a valid call failed.
 #[derive(Clone, Copy, PartialEq, Eq)]
 pub enum Trouble {
-    /// A growth of memory was refused.
+    /// Memory ran out.
     Memory,
-    /// The store refused a call, with this code.
+    /// The store failed, with this code.
     StoreRefused(ErrorCode),
-    /// What the store gave can't be read, or it failed without a code.
+    /// The store's data can't be read, or it failed without a code.
     Store,
-    /// The body of a request did not come whole.
+    /// The body of a request was incomplete.
     Body,
 }
 
@@ -67,22 +67,22 @@ impl From<CollectError> for Trouble {
     }
 }
 
-/// What a step came to that was not refused outright.
+/// The result of a step that was not refused at once.
 #[derive(Drop)]
 pub enum Outcome<T, E> {
     Done(T),
-    /// A refusal that came to light when rows were written: of the rows nothing is said until the transaction is taken
-    /// back.
+    /// A refusal that was found after rows were written. The rows are unspecified until the
+    /// transaction is rolled back.
     Spoilt(E),
 }
 
-/// Why a step of a tenant gave nothing: refused for a reason `E`, or for want of memory or the store.
+/// Why a step of a tenant failed: it was refused for a reason `E`, or memory or the store failed.
 #[derive(Clone, Copy, PartialEq, Eq)]
 pub enum StepError<E> {
-    /// A numbered refusal: the tables are as they were.
+    /// A numbered refusal: the tables are unchanged.
     Refused(E),
-    /// Memory or the store was wanting, or the body did not come whole: of the rows nothing is said until the transaction
-    /// is taken back.
+    /// Memory or the store failed, or the body was incomplete. The rows are unspecified until the
+    /// transaction is rolled back.
     Failed(Trouble),
 }
 

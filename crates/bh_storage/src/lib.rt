@@ -1,4 +1,4 @@
-//! What a host may use of its storage: the calls that `apply` makes, and what each of them promises.
+//! The storage of a host: the calls that `apply` makes, and their contracts.
 #![tactic(auto)]
 
 pub mod answer;

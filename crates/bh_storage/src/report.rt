@@ -1,35 +1,35 @@
-/// What a sweep removed.
+/// The result of a sweep.
 #[derive(Clone, Copy, PartialEq, Eq)]
 pub struct SweepReport {
-    /// So many stale uploads.
+    /// How many stale uploads were removed.
     pub uploads: u32,
-    /// So many blocks that nothing referred to.
+    /// How many unreferenced blocks were removed.
     pub blocks: u32,
-    /// Nothing that was due is left.
+    /// Whether nothing more is due.
     pub complete: bool,
 }
 
-/// A tenant, as an operator is told of it.
+/// A tenant, as it is described to an operator.
 #[derive(Drop)]
 pub struct TenantReport {
     pub name: String,
-    /// The most that its versions and parts may take, in bytes.
+    /// The maximum bytes of its versions and parts.
     pub quota: u64,
-    /// The bytes that they have.
+    /// The bytes of its versions and parts.
     pub used: u64,
-    /// How many access keys it has.
+    /// Its number of access keys.
     pub keys: u64,
 }
 
-/// How much all tenants together have stored.
+/// The sizes of what all tenants have stored.
 #[derive(Clone, Copy, PartialEq, Eq)]
 pub struct StoreReport {
-    /// Blocks, of which no two hold equal bytes.
+    /// The number of blocks, which all have different bytes.
     pub blocks: u64,
     /// Their bytes.
     pub stored: u64,
-    /// The bytes of all bodies, in which a block counts as often as it is referred to.
+    /// The bytes of all bodies; a block counts once for each reference.
     pub referred: u128,
-    /// Blocks whose digest an earlier block of other bytes had.
+    /// The number of blocks whose digest an earlier, different block had.
     pub clashes: u64,
 }

@@ -26,33 +26,33 @@ use bh_types::refusal::Refusal;
 use bh_types::rejection::Rejection;
 use std::alloc::Global;
 
-/// The calls of a host's storage. All but `limits`, `begin`, `take_back` and `next_piece` work in an open transaction. A call
-/// that refuses leaves the tables as they were; where memory or the store was wanting, `take_back` brings back
-/// what was committed.
+/// A host's storage. All calls but `limits`, `begin`, `take_back` and `next_piece` need an open
+/// transaction. A call that refuses leaves the tables unchanged. If memory or the store failed,
+/// `take_back` restores what was committed.
 ///
-/// What is said of replies and of a crash holds of a store that gives back what was written to it, whatever
-/// errors it reports; what is said of the tables holds while no fault has shut it.
+/// The clauses on replies and on crashes assume a store that returns what was written to it,
+/// whatever errors it reports. The clauses on tables hold until a fault shuts the store.
 pub trait Storage {
-    /// What stands, what was committed, whether a transaction is open, and the limits.
+    /// The current tables, the committed ones, whether a transaction is open, and the limits.
     ghost seen: { Self → Seen };
 
-    /// The store gave back what was written to it.
+    /// The store returned what was written to it.
     ghost IsIntact: { Self → Type 0 };
 
     /// No fault has shut the store.
     ghost IsOpen: { Self → Type 0 };
 
-    /// What holds of its tables between events.
+    /// The invariant of its tables between events.
     ghost IsSoundStore: { Tables → Type 0 };
 
-    /// What a crash at this moment may leave.
+    /// The tables that a crash at this moment may leave.
     ghost left: { Self → Tables → Type 0 };
 
-    /// The limits that the host was made with.
+    /// The limits that the host was created with.
     fn limits(&self) -> Limits
         ensures { result ≡ (seen self.now).limits };
 
-    /// Opens a transaction. A store that a fault has shut refuses it.
+    /// Opens a transaction. Fails if a fault has shut the store.
     fn begin(&mut self) -> Result<(), Trouble>
         requires { Clean IsIntact IsOpen self.old → IsAtRest IsSoundStore (seen self.old) }
         ensures within { Within IsIntact IsOpen seen left self.old self.new }
@@ -74,7 +74,7 @@ pub trait Storage {
         ensures kept { OnErr result (Clean IsIntact IsOpen self.new → (seen self.new).kept ≡ (seen self.old).kept) }
         ensures limits { (seen self.new).limits ≡ (seen self.old).limits };
 
-    /// Ends the transaction, if one is open: what was committed stands.
+    /// Rolls back the transaction, if one is open: the tables are those that were committed.
     fn take_back(&mut self)
         ensures intact { IsIntact self.new → IsIntact self.old }
         ensures opened { IsIntact self.new → IsOpen self.new → IsOpen self.old }
@@ -82,20 +82,21 @@ pub trait Storage {
         ensures back { Clean IsIntact IsOpen self.new → TakesBack (seen self.old) (seen self.new) }
         ensures limits { (seen self.new).limits ≡ (seen self.old).limits };
 
-    /// Writes the stamp of a reading, in seconds since 1970: the greater of it and the last stamp.
+    /// Writes the stamp of a reading, in seconds since 1970. It is the greater of the reading and
+    /// the last stamp.
     fn stamp(&mut self, reading: u64) -> Result<Moment, Trouble>
         requires in_range { reading ≤ last_reading }
         requires working { Clean IsIntact IsOpen self.old → IsWorking IsSoundStore (seen self.old) }
         ensures goes_on { StaysAtWork IsIntact IsOpen IsSoundStore seen left (OnOk result) self.old self.new }
         ensures stamps { IfOk result (λ m. Clean IsIntact IsOpen self.new → Stamps reading m (seen self.old).now (seen self.new).now) };
 
-    /// Takes away a tenant's uploads that are stale at a moment.
+    /// Removes a tenant's uploads that are stale at a moment.
     fn purge(&mut self, alloc: Global, tenant: &TenantName, at: Moment) -> Result<(), Trouble>
         requires { Clean IsIntact IsOpen self.old → IsWorking IsSoundStore (seen self.old) }
         ensures goes_on { StaysAtWork IsIntact IsOpen IsSoundStore seen left (OnOk result) self.old self.new }
         ensures purges { OnOk result (Clean IsIntact IsOpen self.new → Purges tenant.now at (seen self.old).now (seen self.new).now) };
 
-    /// Whether an access key has this secret: InvalidAccessKeyId, AccessDenied.
+    /// Checks that an access key has this secret. Refusals: InvalidAccessKeyId, AccessDenied.
     fn authenticate(
         &mut self,
         alloc: Global,
@@ -108,8 +109,9 @@ pub trait Storage {
             → Decides (λ _. tt) (machine.authenticate key.now secret.now (view (seen self.old).now key.now.tenant)) (seen self.old).now
             (seen self.new).now result };
 
-    /// Carries out an operation of a tenant, at a moment that is not after the last stamp. Its body comes as it is wanted, and
-    /// all of it comes wherever the operation is decided. Of an object that is answered no byte is read yet.
+    /// Carries out a tenant's operation at a moment that is not after the last stamp. Its body is
+    /// read as it is needed, and to the end before the operation is decided. If the answer is an
+    /// object, none of its bytes has been read yet.
     fn operate<B: Body>(
         &mut self,
         alloc: Global,
@@ -127,8 +129,9 @@ pub trait Storage {
             (Clean IsIntact IsOpen self.new) (B.coming body.old) (B.coming body.new) (seen self.old).now (seen self.new).now result }
         ensures measured { IfPlanned result (λ found. Clean IsIntact IsOpen self.new → IsMeasured (seen self.new).now found) };
 
-    /// The next bytes of an object, of one block at most: `None` where none are left. It may be called in a transaction, and
-    /// outside. An error leaves the plan as it was; of the rows nothing is said until `take_back`.
+    /// The next bytes of an object, of at most one block; `None` at the end. It may be called
+    /// inside a transaction and outside. An error leaves the plan unchanged, and the rows
+    /// unspecified until `take_back`.
     fn next_piece(&mut self, alloc: Global, plan: &mut Plan) -> Result<Option<Vec<u8>>, Trouble>
         requires { Clean IsIntact IsOpen self.old → IsReadable IsSoundStore (seen self.old) }
         ensures within { Within IsIntact IsOpen seen left self.old self.new }
@@ -149,8 +152,8 @@ pub trait Storage {
             → Carries answer_view (tenant_of (order_of command.now)) (ordered (order_of command.now)) (seen self.old).now
             (seen self.new).now result };
 
-    /// Takes away what is due at a moment, at most `limit` of it: first stale uploads of all tenants by tenant and
-    /// number, and then blocks that nothing refers to by digest and ordinal.
+    /// Removes at most `limit` of what is due at a moment: first stale uploads of all tenants, by
+    /// tenant and number, then unreferenced blocks, by digest and ordinal.
     fn sweep(&mut self, alloc: Global, at: Moment, limit: u32) -> Result<SweepReport, Trouble>
         requires { Clean IsIntact IsOpen self.old → IsWorking IsSoundStore (seen self.old) }
         ensures goes_on { StaysAtWork IsIntact IsOpen IsSoundStore seen left (OnOk result) self.old self.new }

@@ -1,4 +1,4 @@
--- What the columns of a stored row hold.
+-- The columns of a stored row.
 use Rattle.std.specs.Prelude.{ℕ, pos, negsuc, Bool, true, false, ◌&&◌, List, [], ◌∷◌, drop}
 use Rattle.sqlite.specs.declared.types.Value.{Value}
 use Rattle.sqlite.specs.declared.types.Value.TheVariants.{Null, Int, Text, Blob}

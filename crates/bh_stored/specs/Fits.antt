@@ -48,7 +48,7 @@ retain_kinds = kind.Text ∷ kind.Number ∷ kind.Number ∷ []
 abbrev pub tally_kinds : List Kind
 tally_kinds = kind.Text ∷ kind.Number ∷ kind.Number ∷ kind.Number ∷ []
 
--- rows of these kinds, whose numbers rise
+-- rows of these kinds, whose numbers ascend
 pub record AreFit (kinds : List Kind) (rows : List Row) : Type 0 where
   pub fit : list_all (is_fit kinds) rows ≡ true
   pub rises : IsTable rows

@@ -16,7 +16,7 @@ has_tallies First = false
 has_tallies Second = false
 has_tallies Third = true
 
--- the rows of a database, of which a table that a host of its edition does not have has none
+-- the rows of a database; a table that a host of its edition does not have is empty
 abbrev pub seen : Edition → Trees → Trees
 seen edition d t = if ((t == 26 || t == 28) && not (has_locks edition)) || (t == 30 && not (has_tallies edition)) then [] else d t
 

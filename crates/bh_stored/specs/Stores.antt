@@ -10,7 +10,7 @@ pub record KeepsTrees (old new : View) : Type 0 where
   pub opened : IsClean new → new.is_open ≡ old.is_open
   pub trees : IsClean new → new.trees ≡ old.trees
 
--- some rows of a tree were read, and the cursor has the others to give
+-- some rows of a tree were read, and the cursor has the rest
 pub record HasRead (old new : View) (cursor tree : ℕ) (rows : List Row) : Type 0 where
   pub keeps : KeepsTrees old new
   pub rest : IsClean new → (left : List Row) × (new.cursors cursor ≡ Some left) × (rows ++ left ≡ old.trees tree)

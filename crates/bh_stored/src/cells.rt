@@ -11,10 +11,10 @@ ghost use Rattle.bh_stored.specs.Cells.{suits, are_suited, is_fit};
 use sqlite_value::row::Row;
 use sqlite_value::value::ValueRef;
 
-/// What a column holds.
+/// The kind of a column's values.
 #[derive(Clone, Copy)]
 pub enum Kind {
-    /// NULL: the row's number stands for the column.
+    /// NULL: the column's value is the row's number.
     Key,
     Text,
     Blob,
@@ -93,7 +93,7 @@ pub fn is_fit(kinds: &[Kind], row: &Row) -> bool
     0 < row.len() && is_whole(row.get(0)) && are_suited(kinds, row, 1)
 }
 
-/// The bytes of a text or a blob; none of another value.
+/// The bytes of a text or a blob; empty for another value.
 pub fn bytes_in(row: &Row, at: usize) -> &[u8]
     ensures { result.now ≡ bytes_of (column row.now at) }
 {
@@ -104,7 +104,7 @@ pub fn bytes_in(row: &Row, at: usize) -> &[u8]
     }
 }
 
-/// The number, without its sign; 0 of another value.
+/// The number, without its sign; 0 for another value.
 pub fn number_in(row: &Row, at: usize) -> u64
     ensures { result ≡ column_number (column row.now at) }
 {
@@ -114,7 +114,7 @@ pub fn number_in(row: &Row, at: usize) -> u64
     }
 }
 
-/// The number, without its sign; nothing of another value.
+/// The number without its sign; `None` for another value.
 pub fn maybe_number_in(row: &Row, at: usize) -> Option<u64>
     ensures { result ≡ maybe_number (column row.now at) }
 {

@@ -1,14 +1,14 @@
 use sqlite_trees::error::StoreError;
 use std::alloc::AllocError;
 
-/// Why no answer is given.
+/// Why there is no answer.
 #[derive(Clone, Copy, PartialEq, Eq)]
 pub enum Failure {
     /// The store failed, or memory ran out.
     Store(StoreError),
-    /// The row of this number, in this tree, has other columns than a host's.
+    /// The row of this number, in this tree, has columns that a host's tables don't.
     Misfit(u32, u64),
-    /// A sum grows past 2^64 - 1, as that of no sound host does.
+    /// A sum is above 2^64 - 1, as no sound host's is.
     TooMuch,
 }
 

@@ -1,4 +1,4 @@
-//! The rows of a host's tables as a store has them, read by its cursors.
+//! The rows of a host's tables, read through a store's cursors.
 #![tactic(auto)]
 
 pub mod cells;

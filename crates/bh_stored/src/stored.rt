@@ -45,7 +45,7 @@ const RETAINS: [Kind; 3] = [Text, Number, Number];
 
 const TALLIES: [Kind; 4] = [Text, Number, Number, Number];
 
-/// The edition of a host, by its version, which says what tables it has.
+/// The edition of a host, by its version, which determines its tables.
 #[derive(Clone, Copy, PartialEq, Eq)]
 pub enum Edition {
     First,
@@ -73,7 +73,7 @@ pub struct Stored {
     pub tallies: Vec<Row>,
 }
 
-/// The number of the first row that has other columns than of these kinds.
+/// The number of the first row whose columns aren't of these kinds.
 fn first_misfit(kinds: &[Kind], rows: &[Row]) -> Option<u64>
     ensures { result ≡ None → list_all (is_fit kinds.now) rows.now ≡ true }
 {
@@ -127,7 +127,7 @@ impl Stored {
         })
     }
 
-    /// Those, and the rows of the tables of locks and of dates.
+    /// The same rows, and those of the tables of locks and of dates.
     fn read_second<S: Store>(alloc: Global, store: &mut S) -> Result<Stored, Failure>
         ensures keeps { OnOk result (KeepsTrees (S.view store.old) (S.view store.new)) }
         ensures stored { IfOk result (λ it. IsClean (S.view store.new) → AreStoredIn (seen Second (S.view store.old).trees) it) }
@@ -139,7 +139,7 @@ impl Stored {
         Ok(stored)
     }
 
-    /// And those of the table of tallies.
+    /// The same rows, and those of the table of tallies.
     fn read_third<S: Store>(alloc: Global, store: &mut S) -> Result<Stored, Failure>
         ensures keeps { OnOk result (KeepsTrees (S.view store.old) (S.view store.new)) }
         ensures stored { IfOk result (λ it. IsClean (S.view store.new) → AreStoredIn (seen Third (S.view store.old).trees) it) }
@@ -150,7 +150,8 @@ impl Stored {
         Ok(stored)
     }
 
-    /// All rows of the store of a database of a host of this edition. Of a table that it does not have there are none.
+    /// All rows of a store with the database of a host of this edition. A table that it doesn't
+    /// have is empty.
     pub fn read<S: Store>(alloc: Global, store: &mut S, edition: Edition) -> Result<Stored, Failure>
         ensures keeps { OnOk result (KeepsTrees (S.view store.old) (S.view store.new)) }
         ensures stored { IfOk result (λ it. IsClean (S.view store.new) → AreStoredIn (seen edition (S.view store.old).trees) it) }

@@ -1,4 +1,4 @@
-//! The rows of a store, as they are stored.
+//! The stored rows of a store.
 
 ghost use Rattle.std.specs.Prelude.{◌≡◌, IfOk, OnOk};
 ghost use Rattle.sqlite_trees.specs.Tree.{IsTable};
@@ -10,7 +10,7 @@ use sqlite_trees::store::{Direction, Shape, Store};
 use sqlite_value::row::Row;
 use std::alloc::Global;
 
-/// The cursor that goes over the rows.
+/// The cursor that reads the rows.
 const CURSOR: u16 = 0;
 
 /// The rows of a table's tree.
@@ -30,7 +30,7 @@ pub fn tree_rows<S: Store>(alloc: Global, store: &mut S, tree: u32) -> Result<Ve
     Err(StoreError::Unstorable)
 }
 
-/// The rows of a tree whose numbers rise, as those of a table do.
+/// The rows of a tree, whose numbers ascend, as those of a table do.
 pub fn table_rows<S: Store>(alloc: Global, store: &mut S, tree: u32) -> Result<Vec<Row>, StoreError>
     ensures keeps { OnOk result (KeepsTrees (S.view store.old) (S.view store.new)) }
     ensures rows { IfOk result (λ rows. IsClean (S.view store.new) → rows.items ≡ (S.view store.old).trees tree) }

@@ -1,4 +1,4 @@
--- What is stored, counted from the rows.
+-- Counts of what is stored, from the rows.
 use Rattle.std.specs.Prelude.{ℕ, ◌<◌, ◌^◌, length}
 use Rattle.std.specs.List.{sum_by}
 use Rattle.bh_tables.specs.Typed.{BlockRow, TenantRow, Tables, bytes_used}
@@ -9,10 +9,10 @@ use Rattle.bh_storage.specs.declared.report.StoreReport.{StoreReport}
 abbrev pub used_by : Tables → TenantRow → ℕ
 used_by tables t = bytes_used tables.versions tables.parts t.tenant
 
--- what all bodies have is what the tenants use
+-- the bytes of all bodies are what the tenants use
 abbrev pub rows_counted : Tables → StoreReport
 rows_counted tables = record (store_counts tables) { referred = sum_by (used_by tables) tables.tenants }
 
--- the store can count the blocks, and add up the bytes that they have: both are below 2^63
+-- the store can count the blocks, and add up their bytes: both are below 2^63
 abbrev pub AreCountable : Tables → Type 0
 AreCountable tables = (length tables.blocks < 2 ^ 63) × (sum_by (λ (b : BlockRow). length b.bytes) tables.blocks < 2 ^ 63)

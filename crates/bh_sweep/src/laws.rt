@@ -1,8 +1,8 @@
-//! Laws of the definitions, each the contract of a function that does nothing.
+//! Laws of the definitions, each as the contract of a function that does nothing.
 ghost use Rattle.bh_view.specs.Laws.{CompleteSweeps};
 
-/// After a complete sweep no upload that is stale is left, and of the blocks those that a reference names, in their
-/// order and no others.
+/// After a complete sweep no stale upload is left, and of the blocks exactly those that a reference
+/// names, in their order.
 pub fn complete_sweeps()
     ensures { CompleteSweeps }
 {}

@@ -1,5 +1,5 @@
-//! Sweeps: what is stale goes, of all tenants, and then the blocks that nothing refers to. Reports: how much all tenants
-//! together have stored.
+//! Sweeps, which remove stale uploads of all tenants and then unreferenced blocks. Reports, which
+//! count what all tenants have stored.
 #![tactic(auto)]
 
 pub mod laws;

@@ -34,8 +34,9 @@ fn count_rows<S: Alter>(connection: &mut Connection<S>) -> Result<StoreReport, E
     })
 }
 
-/// Counts what all tenants together have stored. Its trouble is that of memory or the store, where there are fewer than 2^63
-/// blocks with fewer than 2^63 bytes; what refers to them may come to any number of bytes.
+/// Counts what all tenants have stored. It fails only if memory or the store fails, given fewer
+/// than 2^63 blocks with fewer than 2^63 bytes in all. References to them may add up to any number
+/// of bytes.
 pub fn report<S: Alter>(connection: &mut Connection<S>) -> Result<StoreReport, Trouble>
     requires { Works S.Store connection.old }
     ensures within { StaysWithin S.Store connection.old connection.new }

@@ -1,4 +1,4 @@
-//! The SQL texts over the blocks of all tenants and what these use, one call for each.
+//! The SQL statements on the blocks of all tenants and on their use, one function each.
 ghost use Rattle.std.specs.Prelude.{◌≡◌, ◌∷◌, [], ◌<◌, ◌^◌, List, true, nat_lt, length, filter, map, IfOk, IfErr, OnOk};
 ghost use Rattle.std.specs.List.{sum_by};
 ghost use Rattle.bh_rows.specs.Means.{is_trouble};
@@ -61,7 +61,7 @@ fn clash_rows<S: Alter>(connection: &mut Connection<S>) -> Result<Vec<Row>, Erro
     connection.query_all("SELECT coalesce(sum(1), 0) FROM blocks WHERE ord > 0", &[])
 }
 
-/// How many blocks there are.
+/// The number of blocks.
 pub fn block_count<S: Alter>(connection: &mut Connection<S>) -> Result<u64, Error>
     requires inside { InTransaction S.Store connection.old }
     ensures within { StaysWithin S.Store connection.old connection.new }
@@ -98,7 +98,7 @@ fn read_used(row: &Row) -> Result<u64, Error>
     row.get(0)
 }
 
-/// What tenants use, added up. Fewer than 2^64 numbers below 2^64 come to less than 2^128.
+/// The sum of what tenants use. Fewer than 2^64 numbers below 2^64 add up to less than 2^128.
 fn add_used(rows: &[Row]) -> Result<u128, Error>
     ensures read { IfOk result (λ n. (tables : Tables) (ts : List TenantRow)
         → rows.now ≡ map (shown_used (totals_of tables)) ts → n ≡ sum_by (used_by tables) ts) }
@@ -112,7 +112,7 @@ fn add_used(rows: &[Row]) -> Result<u128, Error>
     Ok(total)
 }
 
-/// What all tenants together use, in bytes.
+/// The bytes that all tenants together use.
 pub fn used_total<S: Alter>(connection: &mut Connection<S>) -> Result<u128, Error>
     requires inside { InTransaction S.Store connection.old }
     ensures within { StaysWithin S.Store connection.old connection.new }
@@ -126,7 +126,8 @@ pub fn used_total<S: Alter>(connection: &mut Connection<S>) -> Result<u128, Erro
     add_used(&rows)
 }
 
-/// How many blocks have an ordinal above 0: when they were stored, another block had their digest.
+/// The number of blocks with an ordinal above 0: when they were stored, another block had their
+/// digest.
 pub fn clash_count<S: Alter>(connection: &mut Connection<S>) -> Result<u64, Error>
     requires inside { InTransaction S.Store connection.old }
     ensures within { StaysWithin S.Store connection.old connection.new }

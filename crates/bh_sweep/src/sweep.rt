@@ -21,7 +21,7 @@ use bh_uploads::stale::{any_stale, remove_stale};
 use sqlite::{Alter, Connection};
 use std::alloc::Global;
 
-/// Takes the first blocks away that nothing refers to, with what is kept of them in memory, and tells how many.
+/// Deletes the first unreferenced blocks, removes them from the cache, and returns how many.
 fn remove_blocks<S: Alter>(
     connection: &mut Connection<S>,
     cache: &mut BlockCache,
@@ -54,9 +54,9 @@ fn neither(stale: bool, left: bool) -> bool
     !stale && !left
 }
 
-/// Takes the first of what is due at a moment away, at most `limit` of it: the stale uploads of all tenants by tenant
-/// and number with their parts, and then the blocks that nothing refers to by digest and ordinal, with what is kept of
-/// these in memory.
+/// Removes the first `limit` of what is due at a moment. First come stale uploads of all tenants
+/// with their parts, by tenant and number; then unreferenced blocks, by digest and ordinal. These
+/// are removed from the cache too.
 pub fn sweep<S: Alter>(
     connection: &mut Connection<S>,
     cache: &mut BlockCache,

@@ -214,18 +214,3 @@ version_deleted tenant bucket okey version = record {
   accepts = refl;
   tests = λ id v. then_term (at_texts false Eq v.tenant tenant) (then_term (at_texts false Eq v.bucket bucket) (then_term (at_blobs false Eq v.okey okey) (last_term (at_ints false Eq (pos v.id) (pos version)))));
 }
-
--- 1 for each row
-pub entries_counted : (tenant : Octets) (marker : ℕ)
-    → SumText version_form host_schema 7 (codes "SELECT coalesce(sum(1), 0) FROM versions WHERE tenant = ?1 AND marker = ?2") (Text tenant ∷ number marker ∷ []) (λ v. has_marker tenant marker (bare v)) (λ _. 1)
-unfolding understood everything
-entries_counted tenant marker = record {
-  test = is 1 0 ∷ is 6 1 ∷ [];
-  argument = lit (Int (pos 1));
-  names = codes "coalesce(sum(1), 0)" ∷ [];
-  means = record { is = refl; plain = (refl, refl); unlisted = refl; whole = refl; given = refl };
-  low = refl;
-  accepts = refl;
-  tests = λ id v. then_term (at_texts false Eq v.tenant tenant) (last_term (at_ints false Eq (pos v.marker) (pos marker)));
-  reads = λ id v. refl;
-}

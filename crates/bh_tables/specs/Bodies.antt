@@ -1,4 +1,5 @@
--- The bytes of a body: those of the blocks that its references name, by place; and the versions and parts whose bytes they are.
+-- The bytes of a body: those of its references' blocks, by place; and the versions and parts with
+-- these bytes.
 use Rattle.std.specs.Prelude.{ℕ, Bool, ◌&&◌, pos, List, [], ◌∷◌, filter, flat_map, Option, Some, None}
 use Rattle.std.specs.Option.{option_map_or}
 use Rattle.std.specs.Ordering.{int_eq, int_cmp}
@@ -18,7 +19,7 @@ matching is key k = filter (λ r. is (key r) k)
 
 -- ---- names
 
--- of a block its digest and ordinal, of a body its tenant and entry number
+-- of a block its digest and ordinal; of a body its tenant and entry number
 abbrev pub Name : Type 0
 Name = Octets × ℕ
 
@@ -29,11 +30,11 @@ same_name a b = bytes_eq a.0 b.0 && int_eq (pos a.1) (pos b.1)
 abbrev pub block_name : BlockRow → Name
 block_name b = (b.digest, b.ord)
 
--- the block that a reference names
+-- the block of a reference
 abbrev pub ref_name : RefRow → Name
 ref_name r = (r.digest, r.ord)
 
--- the body that a reference is of
+-- the body of a reference
 abbrev pub body_name : RefRow → Name
 body_name r = (r.tenant, r.body)
 
@@ -46,7 +47,7 @@ by_place a b = int_cmp (pos a.place) (pos b.place)
 abbrev pub row_at : List BlockRow → Name → Option BlockRow
 row_at blocks q = first (matching same_name block_name q blocks)
 
--- the bytes of the block of this name, none where there is no such row
+-- the bytes of the block of this name, or none if there is no such row
 abbrev pub block_at : List BlockRow → Name → Octets
 block_at blocks q = option_map_or (λ (b : BlockRow). b.bytes) (row_at blocks q) []
 
@@ -101,7 +102,7 @@ columns_of v = record {
 abbrev pub resolved : List RefRow → List BlockRow → VersionColumns → VersionRow
 resolved refs blocks c = with_bytes (whole refs blocks (c.tenant, c.seq)) (bare c)
 
--- with the bytes that its body has among these rows
+-- with the bytes of its body among these rows
 abbrev pub resolved_again : List RefRow → List BlockRow → VersionRow → VersionRow
 resolved_again refs blocks v = with_bytes (whole refs blocks (version_name v)) v
 
@@ -143,6 +144,6 @@ part_columns_of p = record {
 abbrev pub resolved_part : List RefRow → List BlockRow → PartColumns → PartRow
 resolved_part refs blocks c = part_with_bytes (whole refs blocks (c.tenant, c.body)) (bare_part c)
 
--- with the bytes that its body has among these rows
+-- with the bytes of its body among these rows
 abbrev pub resolved_part_again : List RefRow → List BlockRow → PartRow → PartRow
 resolved_part_again refs blocks p = part_with_bytes (whole refs blocks (part_name p)) p

@@ -1,4 +1,4 @@
--- The versions and markers of a tenant that are counted.
+-- The counted versions and markers of a tenant.
 use Rattle.std.specs.Prelude.{ℕ, Bool, ◌&&◌, not, pos, List, filter, int_lt, Option, Some, None, if◌then◌else◌}
 use Rattle.std.specs.List.{list_any}
 use Rattle.std.specs.Ordering.{int_eq}
@@ -19,11 +19,11 @@ is_later v later = bytes_eq later.tenant v.tenant
 abbrev pub is_current : Octets → List VersionRow → VersionRow → Bool
 is_current tenant versions v = bytes_eq v.tenant tenant && (int_eq (pos v.marker) (pos 0) && not (list_any (is_later v) versions))
 
--- the versions that are
+-- the versions that are the newest
 abbrev pub current_versions : Octets → List VersionRow → List VersionRow
 current_versions tenant versions = filter (is_current tenant versions) versions
 
--- 1 where there is an entry whose column `marker` is this, else 0
+-- 1 if there is an entry whose column `marker` is this, else 0
 abbrev pub marked : ℕ → Option VersionRow → ℕ
 marked marker None = 0
 marked marker (Some v) = if int_eq (pos v.marker) (pos marker) then 1 else 0

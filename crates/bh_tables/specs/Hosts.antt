@@ -1,5 +1,5 @@
--- Whether a database is a host's, as a test, and what it then shows; and what one of a host of version 1 or 2 shows once it is brought
--- over.
+-- Whether a database is a host's, as a test, and its tables then; and the tables of a host of
+-- version 1 or 2 once it is upgraded.
 use Rattle.std.specs.Prelude.{◌≡◌, ◌==◌, ℕ, Bool, true, false, ◌&&◌, List, [], ◌∷◌, map, if◌then◌else◌}
 use Rattle.std.specs.List.{list_all}
 use Rattle.std.specs.Ordering.{is_lt}
@@ -18,7 +18,7 @@ use Rattle.bh_tables.specs.Typed.{HostRow, Tables, Totals, totals_of, untallied,
 use Rattle.bh_tables.specs.Typed.{first_tables_in, IsFirstHost, IsSecondHost, no_rows, host_form, tenant_form, key_form, bucket_form}
 use Rattle.bh_tables.specs.Typed.{version_form, block_form, ref_form, upload_form, part_form, use_form, lock_form, retain_form, tally_form}
 
--- ---- equality, by the codes that the logic gives to values
+-- ---- equality, by the codes of values
 
 abbrev pub same_code : Gv → Gv → Bool
 same_code gnil gnil = true
@@ -43,14 +43,14 @@ ascends (r ∷ rows) = list_all (λ s. is_lt (value_cmp (rowid r) (rowid s))) ro
 abbrev pub coded_row : Coded Row
 coded_row = coded_list value.the_row.coded
 
--- the stored row is its number and the columns of the typed row that it reads as
+-- the stored row is its number and the columns of its typed row
 abbrev pub is_row : {T : Type 0} → Form T → Row → Bool
 is_row form r = same coded_row r (Int (id_in (rowid r)) ∷ form.encode (form.decode r))
 
 abbrev pub are_rows : {T : Type 0} → Form T → List Row → Bool
 are_rows form rows = list_all (is_row form) rows && ascends rows
 
--- the stored rows are read as these
+-- the typed rows of the stored rows
 abbrev pub are_these : {T : Type 0} → Form T → List Row → List T → Bool
 are_these form rows xs = same (coded_list coded_row) (map form.encode (typed form rows)) (map form.encode xs)
 
@@ -65,11 +65,12 @@ are_held sums r = are_rows host_form r.host && (are_rows (tenant_form sums) r.te
 
 -- ---- databases
 
--- The schema is a host's, each row is typed, and what is kept of other rows, as a tenant's `used`, is what they have
+-- The schema is a host's, each row is typed, and each sum over other rows, as a tenant's `used`, is
+-- right
 unfoldable pub is_host : Database → Bool
 is_host db = same schema.the_row.coded db.schema host_schema && are_held (totals_of (tables_in db)) (raw db.trees)
 
--- a host's database under the second schema, in which no tally is kept
+-- a host's database under the second schema, which has no tallies
 unfoldable pub is_second_host : Database → Bool
 is_second_host db = same schema.the_row.coded db.schema second_schema
     && are_held (untallied (totals_of (tables_in db))) (second_raw db.trees)
@@ -89,7 +90,8 @@ is_of_version n h = h.version == n
 abbrev pub brought_over : Tables → Tables
 brought_over tables = record tables { host = map (with_version 3) tables.host }
 
--- what a host of an earlier version shows once it is brought over, if its row tells that version; else it shows no row
+-- the tables of a host of an earlier version once it is upgraded, if its row has that version;
+-- otherwise no rows
 abbrev pub earlier_shown : ℕ → Tables → Tables
 earlier_shown n tables = if list_all (is_of_version n) tables.host then brought_over tables else no_rows
 
@@ -102,11 +104,11 @@ pub record IsOfVersion2 (db : Database) : Type 0 where
   pub second : IsSecondHost db
   pub version : list_all (is_of_version 2) (tables_in db).host ≡ true
 
--- a host's tables; a database that is no host's shows no row
+-- a host's tables; a database that is not a host's has no rows
 unfoldable pub tables_shown : Database → Tables
 tables_shown db = if is_host db then tables_in db else no_rows
 
--- what it shows once it is opened as a host's, of any version
+-- its tables once it is opened as a host's, of any version
 unfoldable pub tables_opened : Database → Tables
 tables_opened db = if is_first_host db then earlier_shown 1 (first_tables_in db)
     else (if is_second_host db then earlier_shown 2 (tables_in db) else tables_shown db)

@@ -1,4 +1,4 @@
--- The schema as its tables and indexes are made, one after another.
+-- The schema while its tables and indexes are created, one after another.
 use Rattle.sqlite.specs.Schema.{Schema}
 use Rattle.sqlite.specs.Change.{created, indexed}
 use Rattle.bh_tables.specs.Schema.{no_schema, host_table, tenants_table, keys_table, buckets_table, versions_table, blocks_table}

@@ -1,4 +1,4 @@
--- The rows of each table as typed records, with the columns that each is stored as.
+-- The rows of each table as typed records, with their stored columns.
 use Rattle.std.specs.Prelude.{◌≡◌, ℕ, ℤ, pos, List, [], ◌∷◌, Option, Some, None, refl, unsigned_abs}
 use Rattle.sqlite.specs.declared.types.Value.{Value}
 use Rattle.sqlite.specs.declared.types.Value.TheVariants.{Null, Int, Text, Blob}
@@ -24,9 +24,10 @@ pub maybe_back : (o : Option ℕ) → maybe_number (or_null number o) ≡ o
 maybe_back None = refl
 maybe_back (Some n) = refl
 
--- ---- what is kept of other rows: of a tenant the bytes that its versions and parts have, of an upload those of its parts, of each
--- block, in the order of the blocks, how many references name it, and of each tenant, in the order of the tenants, how many versions,
--- markers and current versions it has. The columns and the tables that hold it have CHECKs from 0 to 2^62
+-- ---- sums over other rows. A tenant has the bytes of its versions and parts, and an upload those
+-- of its parts. Each block, in the order of the blocks, has its number of references. Each tenant,
+-- in the order of the tenants, has its numbers of versions, markers and current versions. The
+-- columns and the tables of these sums have CHECKs from 0 to 2^62
 
 pub record UseRow : Type 0 where
   pub digest : Octets
@@ -69,7 +70,7 @@ pub record Totals : Type 0 where
   pub uses : List UseRow
   pub tallies : List TallyRow
 
--- ---- the host: one row, whose id is the row's number and so is no column of the record
+-- ---- the host: one row, whose id is the row's number and so is not a column of the record
 
 pub record HostRow : Type 0 where
   pub version : ℕ
@@ -156,7 +157,7 @@ pub record BucketRow : Type 0 where
   pub created : ℕ
   -- 0, 1, 2: Unversioned, Enabled, Suspended
   pub state : ℕ
-  -- after so many days an upload that was begun is stale, if the bucket has that rule
+  -- the number of days after which an upload is stale, if the bucket has that rule
   pub days : Option ℕ
 
 abbrev pub bucket_columns : BucketRow → Row
@@ -241,7 +242,7 @@ pub record VersionRow : Type 0 where
   pub checksum : Octets
   pub bytes : Octets
 
--- ---- the moments before which versions may not be deleted
+-- ---- the retention dates of versions
 
 pub record RetainRow : Type 0 where
   pub tenant : Octets
@@ -307,7 +308,7 @@ ref_of r = record {
 abbrev pub ref_form : Form RefRow
 ref_form = record { encode = ref_columns; decode = ref_of; back = λ _ x. refl }
 
--- ---- multipart uploads that are neither completed nor aborted
+-- ---- unfinished multipart uploads
 
 pub record UploadRow : Type 0 where
   pub tenant : Octets

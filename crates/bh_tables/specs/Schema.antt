@@ -1,5 +1,6 @@
--- The schema of a host as a value: thirteen tables and five indexes, each as its CREATE text defines it. The second schema, of
--- hosts of version 2, is that without the last table, and the first, of hosts of version 1, without the last three.
+-- The schema of a host as a value: thirteen tables and five indexes, each as its CREATE statement
+-- defines it. The second schema, of version 2, lacks the last table; the first, of version 1, lacks
+-- the last three.
 use Rattle.std.specs.Prelude.{ℕ, true, false, [], ◌∷◌, ◌++◌, List, map, Some, None, codes, pos}
 use Rattle.sqlite.specs.Collation.TheVariants.{Binary}
 use Rattle.sqlite.specs.declared.types.Value.TheVariants.{Null, Int, Text as Words}
@@ -29,7 +30,7 @@ given name kind = record { name = name; kind = kind; is_strict = true; not_null 
 abbrev pub maybe : Octets → Kind → Column
 maybe name kind = record (given name kind) { not_null = false }
 
--- CHECK (column >= 0), where the first column after the row's number is at place 1
+-- CHECK (column >= 0); the first column after the row's number is at place 1
 abbrev pub is_natural : ℕ → Term
 is_natural place = op2 (Compare Ge Binary) (col 1 place) (lit (Int (pos 0)))
 
@@ -72,7 +73,7 @@ host_table = record (table (codes "host") (maybe (codes "id") Integer ∷ given 
       orders = [];
     }
 
--- each with the bytes that its versions and parts have
+-- each with the bytes of its versions and parts
 abbrev pub tenants_table : Table
 tenants_table = table (codes "tenants") (given (codes "tenant") Text ∷ given (codes "quota") Integer ∷ given (codes "next_version") Integer
     ∷ given (codes "next_upload") Integer ∷ given (codes "next_entry") Integer ∷ given (codes "used") Integer ∷ [])
@@ -104,24 +105,25 @@ abbrev pub blocks_table : Table
 blocks_table = table (codes "blocks") (given (codes "digest") Blob ∷ given (codes "ord") Integer ∷ given (codes "bytes") Blob ∷ [])
     (1 ∷ 2 ∷ []) [] [] (is_natural 2 ∷ [])
 
--- how many references name each block. It is no column of blocks, since an UPDATE writes a row whole, its bytes too
+-- how many references name each block. It is not a column of blocks, since an UPDATE writes a row
+-- whole, its bytes too
 abbrev pub uses_table : Table
 uses_table = table (codes "uses") (given (codes "digest") Blob ∷ given (codes "ord") Integer ∷ given (codes "uses") Integer ∷ [])
     (1 ∷ 2 ∷ []) [] [] (is_natural 2 ∷ is_natural 3 ∷ is_small 3 ∷ [])
 
--- the block at each place of a body, which is an entry number of the tenant
+-- the block at each place of a body, whose name is an entry number of the tenant
 abbrev pub refs_table : Table
 refs_table = table (codes "refs") (given (codes "tenant") Text ∷ given (codes "body") Integer ∷ given (codes "place") Integer
     ∷ given (codes "digest") Blob ∷ given (codes "ord") Integer ∷ given (codes "size") Integer ∷ [])
     (1 ∷ 2 ∷ 3 ∷ []) [] (refers (4 ∷ 5 ∷ []) (codes "blocks") ∷ []) (is_natural 2 ∷ is_natural 3 ∷ is_natural 5 ∷ is_natural 6 ∷ [])
 
--- uploads that are neither completed nor aborted, each with the bytes that its parts have
+-- unfinished uploads, each with the bytes of its parts
 abbrev pub uploads_table : Table
 uploads_table = table (codes "uploads") (given (codes "tenant") Text ∷ given (codes "upload") Integer ∷ given (codes "bucket") Text
     ∷ given (codes "okey") Blob ∷ given (codes "begun") Integer ∷ given (codes "bytes_kept") Integer ∷ [])
     (1 ∷ 2 ∷ []) [] (refers (1 ∷ 3 ∷ []) (codes "buckets") ∷ []) (is_natural 2 ∷ is_natural 5 ∷ is_natural 6 ∷ is_small 6 ∷ [])
 
--- the parts of uploads, each with its body, which is an entry number of the tenant
+-- the parts of uploads, each with its body, whose name is an entry number of the tenant
 abbrev pub parts_table : Table
 parts_table = table (codes "parts")
     (given (codes "tenant") Text ∷ given (codes "upload") Integer ∷ given (codes "number") Integer ∷ given (codes "size") Integer
@@ -135,28 +137,30 @@ abbrev pub locks_table : Table
 locks_table = table (codes "locks") (given (codes "tenant") Text ∷ given (codes "bucket") Text ∷ []) (1 ∷ 2 ∷ []) []
     (refers (1 ∷ 2 ∷ []) (codes "buckets") ∷ []) []
 
--- the moment before which a version may not be deleted, in seconds since 1970
+-- the retention date of a version, in seconds since 1970
 abbrev pub retains_table : Table
 retains_table = table (codes "retains") (given (codes "tenant") Text ∷ given (codes "seq") Integer ∷ given (codes "until") Integer ∷ [])
     (1 ∷ 2 ∷ []) [] (refers (1 ∷ 2 ∷ []) (codes "versions") ∷ []) (is_natural 2 ∷ is_natural 3 ∷ [])
 
--- how many versions, markers and current versions each tenant has. They are no columns of tenants, since the store can't add any
+-- how many versions, markers and current versions each tenant has. They are not columns of tenants,
+-- since the store can't add any
 abbrev pub tallies_table : Table
 tallies_table = table (codes "tallies") (given (codes "tenant") Text ∷ given (codes "versions") Integer ∷ given (codes "markers") Integer
     ∷ given (codes "objects") Integer ∷ []) (1 ∷ []) [] (refers (1 ∷ []) (codes "tenants") ∷ [])
     (is_natural 2 ∷ is_small 2 ∷ is_natural 3 ∷ is_small 3 ∷ is_natural 4 ∷ is_small 4 ∷ [])
 
--- ---- the schema of them all
+-- ---- the schema of all tables
 
--- the table, kept in this tree
+-- the table in this tree
 abbrev pub at : ℕ → Table → Table
 at tree t = record t { tree = tree }
 
--- the index that a key makes
+-- the index of a key
 abbrev pub auto : Octets → ℕ → ℕ → List ℕ → Index
 auto name tree owner columns = record { name = name; tree = tree; table = owner; columns = columns; order = plain; is_unique = true }
 
--- versions by bucket and key, the newest first. The order has a digit to base 8 for each column, the lowest for the first; 1 is DESC
+-- versions by bucket and key, the newest first. The order has an octal digit for each column, the
+-- lowest for the first; 1 is DESC
 abbrev pub newest : Index
 newest = record {
   name = codes "newest";
@@ -189,7 +193,7 @@ uploads_by_key = record {
   is_unique = false;
 }
 
--- uploads by bucket, moment of beginning and number
+-- uploads by bucket, beginning and number
 abbrev pub uploads_by_moment : Index
 uploads_by_moment = record {
   name = codes "uploads_by_moment";
@@ -200,7 +204,7 @@ uploads_by_moment = record {
   is_unique = false;
 }
 
--- blocks by how many references name them, those of none first
+-- blocks by the number of references to them, the unreferenced ones first
 abbrev pub uses_by_count : Index
 uses_by_count = record {
   name = codes "uses_by_count";

@@ -1,4 +1,4 @@
--- Which rows a text finds, and what it shows of each.
+-- The rows that a query finds, and the columns that it returns.
 use Rattle.std.specs.Prelude.{ℕ, Bool, ◌&&◌, ◌||◌, not, pos, List, [], ◌∷◌, filter, take, is_some, int_lt, if◌then◌else◌}
 use Rattle.std.specs.List.{list_any}
 use Rattle.std.specs.Ordering.{int_eq, int_cmp, ordering_then}
@@ -33,12 +33,12 @@ is_lock tenant bucket l = bytes_eq l.tenant tenant && bytes_eq l.bucket bucket
 abbrev pub is_retain : Octets → ℕ → RetainRow → Bool
 is_retain tenant seq r = bytes_eq r.tenant tenant && int_eq (pos r.seq) (pos seq)
 
--- the version of this id, where 0 is `null`
+-- the version of this id; 0 is `null`
 abbrev pub is_version : Octets → Octets → Octets → ℕ → VersionRow → Bool
 is_version tenant bucket okey id v =
     bytes_eq v.tenant tenant && (bytes_eq v.bucket bucket && (bytes_eq v.okey okey && int_eq (pos v.id) (pos id)))
 
--- the version of this entry number, of which a tenant gives each once
+-- the version with this entry number, which is unique in a tenant
 abbrev pub is_entry : Octets → ℕ → VersionRow → Bool
 is_entry tenant seq v = bytes_eq v.tenant tenant && int_eq (pos v.seq) (pos seq)
 
@@ -88,7 +88,7 @@ is_at_place q place r = bytes_eq r.tenant q.0 && (int_eq (pos r.body) (pos q.1) 
 abbrev pub has_digest : Octets → BlockRow → Bool
 has_digest digest b = bytes_eq b.digest digest
 
--- the block of this digest that holds these bytes
+-- the block of this digest with these bytes
 abbrev pub is_copy : Octets → Octets → BlockRow → Bool
 is_copy digest bytes b = bytes_eq b.digest digest && bytes_eq b.bytes bytes
 
@@ -101,11 +101,11 @@ by_ord a b = int_cmp (pos a.ord) (pos b.ord)
 abbrev pub by_name : BlockRow → BlockRow → Ordering
 by_name a b = ordering_then (bytes_cmp a.digest b.digest) (int_cmp (pos a.ord) (pos b.ord))
 
--- at most so many blocks that no reference names, by digest and ordinal
+-- the first unreferenced blocks by digest and ordinal, up to a limit
 abbrev pub unreferenced : ℕ → List RefRow → List BlockRow → List BlockRow
 unreferenced limit refs blocks = take limit (sort_by by_name (filter (is_unreferenced refs) blocks))
 
--- the count of a block that no reference names
+-- the count of an unreferenced block
 abbrev pub is_unused : UseRow → Bool
 is_unused u = int_eq u.uses (pos 0)
 
@@ -141,19 +141,19 @@ has_body q p = same_name (part_name p) q
 abbrev pub by_part : PartRow → PartRow → Ordering
 by_part a b = int_cmp (pos a.part) (pos b.part)
 
--- one of this bucket that was begun before a moment
+-- one of this bucket that began before a moment
 abbrev pub is_begun_before : Octets → Octets → ℕ → UploadRow → Bool
 is_begun_before tenant bucket moment u = bytes_eq u.tenant tenant && (bytes_eq u.bucket bucket && int_lt (pos u.begun) (pos moment))
 
--- by moment of beginning and number, the order of the index on moments
+-- by beginning and number, the order of the index on moments
 abbrev pub by_begun : UploadRow → UploadRow → Ordering
 by_begun a b = ordering_then (int_cmp (pos a.begun) (pos b.begun)) (int_cmp (pos a.upload) (pos b.upload))
 
--- a bucket of a tenant with a rule for uploads that are left unfinished
+-- a bucket of a tenant with a rule for unfinished uploads
 abbrev pub is_ruled : Octets → BucketRow → Bool
 is_ruled tenant b = bytes_eq b.tenant tenant && is_some b.days
 
--- ---- the rows of a tenant, whose sizes are added up
+-- ---- the rows of a tenant, for sums of sizes
 
 abbrev pub is_version_of : Octets → VersionRow → Bool
 is_version_of tenant v = bytes_eq v.tenant tenant
@@ -192,7 +192,7 @@ keys_by_name tenant keys = sort_by by_key_name (filter (is_owned_key tenant) key
 abbrev pub tenants_by_name : List TenantRow → List TenantRow
 tenants_by_name tenants = sort_by by_tenant tenants
 
--- ---- the columns that are asked for
+-- ---- the columns of queries
 
 abbrev pub shown_latest : HostRow → Row
 shown_latest h = number h.latest ∷ []
@@ -200,7 +200,7 @@ shown_latest h = number h.latest ∷ []
 abbrev pub shown_tenant : TenantRow → Row
 shown_tenant t = number t.quota ∷ number t.next_version ∷ number t.next_upload ∷ number t.next_entry ∷ []
 
--- a tenant's numbers, with the bytes that it uses
+-- a tenant's numbers, with its bytes in use
 abbrev pub shown_account : Totals → TenantRow → Row
 shown_account sums t = number t.quota ∷ number t.next_version ∷ number t.next_upload ∷ number t.next_entry ∷ Int (sums.used t.tenant) ∷ []
 
@@ -208,7 +208,7 @@ shown_account sums t = number t.quota ∷ number t.next_version ∷ number t.nex
 abbrev pub shown_quota : Totals → TenantRow → Row
 shown_quota sums t = Text t.tenant ∷ number t.quota ∷ Int (sums.used t.tenant) ∷ []
 
--- the bytes that a tenant uses, alone
+-- a tenant's bytes in use, alone
 abbrev pub shown_used : Totals → TenantRow → Row
 shown_used sums t = Int (sums.used t.tenant) ∷ []
 
@@ -243,7 +243,7 @@ shown_until r = number r.until ∷ []
 abbrev pub shown_head : VersionRow → Row
 shown_head v = number v.seq ∷ number v.id ∷ number v.marker ∷ number v.stamp ∷ number v.size ∷ Text v.checksum ∷ []
 
--- its place among the entries of its key, and what it is
+-- its place among the entries of its key, and its kind
 abbrev pub shown_place : VersionRow → Row
 shown_place v = number v.seq ∷ number v.id ∷ number v.marker ∷ []
 
@@ -253,7 +253,7 @@ shown_seq v = number v.seq ∷ []
 abbrev pub shown_ord : BlockRow → Row
 shown_ord b = number b.ord ∷ []
 
--- its ordinal, and whether it holds these bytes
+-- its ordinal, and whether it has these bytes
 abbrev pub shown_match : Octets → BlockRow → Row
 shown_match bytes b = number b.ord ∷ Int (pos (if bytes_eq b.bytes bytes then 1 else 0)) ∷ []
 
@@ -266,7 +266,7 @@ shown_use_name u = Blob u.digest ∷ number u.ord ∷ []
 abbrev pub shown_bytes : BlockRow → Row
 shown_bytes b = Blob b.bytes ∷ []
 
--- the block that a reference names, and its size in bytes
+-- the block of a reference, and its size in bytes
 abbrev pub shown_ref : RefRow → Row
 shown_ref r = Blob r.digest ∷ number r.ord ∷ number r.size ∷ []
 
@@ -284,6 +284,6 @@ shown_number u = number u.upload ∷ []
 abbrev pub shown_part : PartRow → Row
 shown_part p = number p.part ∷ number p.size ∷ Text p.checksum ∷ number p.stamp ∷ number p.body ∷ []
 
--- where its bytes are stored, and how many
+-- the name of its bytes' body, and their number
 abbrev pub shown_body : PartRow → Row
 shown_body p = number p.body ∷ number p.size ∷ []

@@ -1,4 +1,4 @@
--- The tables that a state of the store shows, each as a list of typed rows.
+-- The tables of a state of the store, each as a list of typed rows.
 use Rattle.std.specs.Prelude.{◌≡◌, ℕ, Bool, ◌+◌, ◌+ℤ◌, ◌-ℤ◌, ◌&&◌, if◌then◌else◌, pos, List, [], ◌∷◌, map, filter, length, IsTrue}
 use Rattle.std.specs.List.{sum_by}
 use Rattle.std.specs.Ordering.{int_eq}
@@ -106,7 +106,7 @@ tables_of r = record {
   retains = typed retain_form r.retains;
 }
 
--- the tables with other references and blocks, of which the versions and parts have their bytes
+-- the tables with other references and blocks, which have the bytes of versions and parts
 abbrev pub rebodied : Tables → List RefRow → List BlockRow → Tables
 rebodied tables refs blocks = record tables {
   versions = map (resolved_again refs blocks) tables.versions;
@@ -115,7 +115,7 @@ rebodied tables refs blocks = record tables {
   blocks = blocks;
 }
 
--- each stored row is the columns of a typed row, and what is kept of other rows is this
+-- each stored row is the columns of a typed row, and the sums over other rows are these
 pub record AreHeld (sums : Totals) (r : Raw) : Type 0 where
   pub host : AreRows host_form r.host
   pub tenants : AreRows (tenant_form sums) r.tenants
@@ -133,22 +133,23 @@ pub record AreHeld (sums : Totals) (r : Raw) : Type 0 where
   pub tallies : AreRows tally_form r.tallies
   pub tallied : typed tally_form r.tallies ≡ sums.tallies
 
--- what a database has in its tables, and a state of the store in those of the database that it sees
+-- a database's tables, and those of the database in a state of the store
 abbrev pub tables_in : Database → Tables
 tables_in db = tables_of (raw db.trees)
 
 abbrev pub tables : State → Tables
 tables s = tables_in s.now
 
--- and what one of the first schema has; under the second it has what it has under a host's, since tallies are no table of these
+-- and those under the first schema; under the second it has those that it has under a host's, which
+-- have no tallies
 abbrev pub first_tables_in : Database → Tables
 first_tables_in db = tables_of (first_raw db.trees)
 
--- how many references name a block
+-- the number of references to each block
 abbrev pub use_among : List RefRow → BlockRow → UseRow
 use_among refs b = record { digest = b.digest; ord = b.ord; uses = pos (length (filter (λ r. same_name (ref_name r) (block_name b)) refs)) }
 
--- the bytes that a tenant's versions and parts have, and those that an upload's parts have
+-- the bytes of a tenant's versions and parts, and of an upload's parts
 abbrev pub bytes_used : List VersionRow → List PartRow → Octets → ℕ
 bytes_used versions parts tenant = sum_by (λ (v : VersionRow). v.size) (filter (λ v. bytes_eq v.tenant tenant) versions)
     + sum_by (λ (p : PartRow). p.size) (filter (λ p. bytes_eq p.tenant tenant) parts)
@@ -162,12 +163,12 @@ abbrev pub tally : Octets → ℕ → ℕ → ℕ → TallyRow
 tally tenant versions markers objects =
     record { tenant = tenant; versions = pos versions; markers = pos markers; objects = pos objects }
 
--- how many versions, markers and current versions a tenant has
+-- a tenant's numbers of versions, markers and current versions
 abbrev pub tally_of : List VersionRow → TenantRow → TallyRow
 tally_of versions t = tally t.tenant (length (filter (has_marker t.tenant 0) versions))
     (length (filter (has_marker t.tenant 1) versions)) (length (current_versions t.tenant versions))
 
--- what is to be kept of rows
+-- the right sums over rows
 abbrev pub totals_of : Tables → Totals
 totals_of t = record {
   used = λ tenant. pos (bytes_used t.versions t.parts tenant);
@@ -176,7 +177,7 @@ totals_of t = record {
   tallies = map (tally_of t.versions) t.tenants;
 }
 
--- where there is no table of tallies
+-- if there is no table of tallies
 abbrev pub untallied : Totals → Totals
 untallied sums = record sums { tallies = [] }
 
@@ -184,7 +185,7 @@ untallied sums = record sums { tallies = [] }
 abbrev pub is_named : Name → UseRow → Bool
 is_named q u = same_name (u.digest, u.ord) q
 
--- other counts are kept
+-- with other counts
 abbrev pub counted : (List UseRow → List UseRow) → Totals → Totals
 counted change sums = record sums { uses = change sums.uses }
 
@@ -195,7 +196,7 @@ raised q = update_where (is_named q) (λ u. record u { uses = u.uses +ℤ pos 1 
 abbrev pub lowered : Name → List UseRow → List UseRow
 lowered q = update_where (is_named q) (λ u. record u { uses = u.uses -ℤ pos 1 })
 
--- one use fewer for each of these references
+-- one use less for each of these references
 abbrev pub lowered_by : List RefRow → List UseRow → List UseRow
 lowered_by [] uses = uses
 lowered_by (r ∷ rs) uses = lowered_by rs (lowered (ref_name r) uses)
@@ -204,14 +205,14 @@ lowered_by (r ∷ rs) uses = lowered_by rs (lowered (ref_name r) uses)
 abbrev pub is_tally : Octets → TallyRow → Bool
 is_tally tenant t = bytes_eq t.tenant tenant
 
--- other tallies are kept
+-- with other tallies
 abbrev pub tallied : (List TallyRow → List TallyRow) → Totals → Totals
 tallied change sums = record sums { tallies = change sums.tallies }
 
 abbrev pub set_to : ℕ → ℕ → ℕ → TallyRow → TallyRow
 set_to versions markers objects t = tally t.tenant versions markers objects
 
--- of each count of a tenant so many more and so many fewer
+-- adds to and subtracts from each count of a tenant
 abbrev pub recounted : ℕ × ℕ → ℕ × ℕ → ℕ × ℕ → TallyRow → TallyRow
 recounted versions markers objects t = record t {
   versions = t.versions +ℤ pos versions.0 -ℤ pos versions.1;
@@ -222,7 +223,7 @@ recounted versions markers objects t = record t {
 abbrev pub tally_changed : Octets → ℕ × ℕ → ℕ × ℕ → ℕ × ℕ → Totals → Totals
 tally_changed tenant versions markers objects = tallied (update_where (is_tally tenant) (recounted versions markers objects))
 
--- so many bytes more and so many fewer are kept of a tenant, and of an upload
+-- adds to and subtracts from the bytes of a tenant, and of an upload
 abbrev pub used_changed : Octets → ℕ → ℕ → Totals → Totals
 used_changed tenant more less sums =
     record sums { used = λ t. if bytes_eq t tenant then sums.used t +ℤ pos more -ℤ pos less else sums.used t }
@@ -231,12 +232,13 @@ abbrev pub kept_changed : Name → ℕ → ℕ → Totals → Totals
 kept_changed upload more less sums =
     record sums { kept = λ q. if same_name q upload then sums.kept q +ℤ pos more -ℤ pos less else sums.kept q }
 
--- the database is a host's, but for what is kept of other rows, which is this: it has the schema, and rows that are typed rows
+-- the database is a host's, except that the sums over other rows are these: it has the schema, and
+-- rows that are typed rows
 pub record IsHostBy (sums : Totals) (db : Database) : Type 0 where
   pub schema : db.schema ≡ host_schema
   pub held : AreHeld sums (raw db.trees)
 
--- the database is a host's: what is kept of other rows is what they have
+-- the database is a host's: the sums over other rows are right
 abbrev pub IsHost : Database → Type 0
 IsHost db = IsHostBy (totals_of (tables_in db)) db
 

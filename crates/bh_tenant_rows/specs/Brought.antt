@@ -1,5 +1,5 @@
--- The tables once the rows of a tenant have come to them, after those that they have. The bodies of its versions and parts come with
--- them: each is stored, cut into blocks of a size, before the row that has it.
+-- The tables after the rows of a tenant were added to them. Each body of its versions and parts is
+-- stored, cut into blocks of a size, before the row that has it.
 use Rattle.std.specs.Prelude.{◌≡◌, ◌≢◌, ℕ, if◌then◌else◌, max, List, [], ◌∷◌, ◌++◌, map}
 use Rattle.sqlite_keyed.specs.Lists.{update_where}
 use Rattle.bh_model.specs.State.{Octets}
@@ -10,7 +10,7 @@ use Rattle.bh_view.specs.Grouped.{same_number}
 use Rattle.bh_view.specs.View.{TenantRows, view, latest_of, limits_in}
 use Rattle.bh_view.specs.Bodies.{pieces, body_stored, IsSoundHost}
 
--- ---- rows that have no bytes
+-- ---- rows without bytes
 
 abbrev pub with_tenants : List TenantRow → Tables → Tables
 with_tenants rs tables = record tables { tenants = tables.tenants ++ rs }
@@ -56,7 +56,7 @@ module _ (digest : Octets → Octets) (size : ℕ) where
   with_parts [] tables = tables
   with_parts (p ∷ ps) tables = with_parts ps (with_part p tables)
 
-  -- ---- what its buckets hold
+  -- ---- its buckets
 
   abbrev pub with_contents : TenantRows → Tables → Tables
   with_contents rows tables =
@@ -70,14 +70,14 @@ with_names own rows tables = with_locks rows.locks (with_buckets rows.buckets (w
 abbrev pub with_rows : (Octets → Octets) → ℕ → TenantRows → Tables → Tables
 with_rows digest size rows tables = with_contents digest size rows (with_names rows.tenants rows tables)
 
--- the tenant's next entry takes this number
+-- the tenant's next entry gets this number
 abbrev pub IsNext : Octets → ℕ → Tables → Type 0
 IsNext t next tables = update_where (is_tenant t) (λ r. record r { next_entry = next }) tables.tenants ≡ tables.tenants
 
--- ---- what that is to the tenants
+-- ---- the effect on the tenants
 
--- a tenant of other tables is there as it is in those, all other tenants, the limits and which function names blocks stay, and the
--- last stamp is the later one
+-- a tenant of other tables is in these as it is there. All other tenants, the limits and the digest
+-- function are unchanged, and the last stamp is the later one
 pub record IsBrought (digest : Octets → Octets) (t : Octets) (from old new : Tables) : Type 0 where
   pub sound : IsSoundHost digest new
   pub shown : view new t ≡ view from t
@@ -86,7 +86,7 @@ pub record IsBrought (digest : Octets → Octets) (t : Octets) (from old new : T
   pub named : map (λ (r : HostRow). r.digest) new.host ≡ map (λ (r : HostRow). r.digest) old.host
   pub latest : latest_of new ≡ max (latest_of old) (latest_of from)
 
--- so it is where both were sound
+-- so it is if both were sound
 abbrev pub IsMoved : (Octets → Octets) → Octets → Tables → Tables → Tables → Type 0
 IsMoved digest t from old new =
     (other : Octets → Octets) → IsSoundHost other from → IsSoundHost digest old → IsBrought digest t from old new

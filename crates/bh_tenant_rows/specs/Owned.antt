@@ -1,4 +1,5 @@
--- The tables in which each tenant has rows: what is shown of its rows, and what a text has to be that shows them.
+-- The tables in which each tenant has rows: its rows as a query returns them, and which SQL does
+-- so.
 use Rattle.std.specs.Prelude.{ℕ, [], ◌∷◌, List, map}
 use Rattle.sqlite.specs.Order.{Row}
 use Rattle.sqlite.specs.declared.types.Value.TheVariants.{Text}
@@ -14,7 +15,7 @@ use Rattle.bh_tenant_rows.specs.Shown.{shown_key, shown_bucket, shown_lock, show
 use Rattle.bh_tenant_rows.specs.declared.reads.Owned.{Owned}
 use Rattle.bh_tenant_rows.specs.declared.reads.Owned.TheVariants as owned
 
--- what is shown of the rows that a tenant has in the table
+-- a tenant's rows in the table, as a query returns them
 abbrev pub shown_in : Owned → TenantRows → List Row
 shown_in owned.Keys rows = map shown_key rows.keys
 shown_in owned.Buckets rows = map shown_bucket rows.buckets
@@ -24,7 +25,7 @@ shown_in owned.Uploads rows = map shown_upload rows.uploads
 shown_in owned.Parts rows = map shown_part rows.parts
 shown_in owned.Retains rows = map shown_retain rows.retains
 
--- a text that shows a tenant's rows of the table in this tree
+-- SQL that returns a tenant's rows of the table in this tree
 abbrev pub Selects : {T : Type 0} → Form T → ℕ → (T → Octets) → (T → Row) → List ℕ → Type 0
 Selects form tree owner view sql =
     (tenant : Octets) → SelectText form host_schema tree sql (Text tenant ∷ []) (λ x. bytes_eq (owner x) tenant) view no_limit

@@ -1,4 +1,4 @@
--- What is shown of each row of a tenant: all of its columns but the tenant, and no bytes.
+-- A tenant's rows as queries return them: all of their columns but the tenant, and no bytes.
 use Rattle.std.specs.Prelude.{[], ◌∷◌}
 use Rattle.sqlite.specs.Order.{Row}
 use Rattle.sqlite.specs.declared.types.Value.TheVariants.{Text, Blob}

@@ -1,4 +1,4 @@
-//! The rows of one tenant: all of them read, and the tables that have them after others.
+//! The rows of one tenant: reading all of them, and the tables after they are added to others.
 #![tactic(auto)]
 
 pub mod reads;

@@ -1,4 +1,4 @@
-//! The SQL texts that read a tenant's rows, all of one table. Where they are a tenant's, the tenant is no column.
+//! The SQL queries of a tenant's rows, all of one table. The column of the tenant is left out.
 
 ghost use Rattle.std.specs.Prelude.{◌≡◌, map, IfOk};
 ghost use Rattle.bh_view.specs.View.{rows_of};
@@ -15,15 +15,15 @@ use sqlite::{Alter, Connection, Error, Row};
 pub enum Owned {
     /// The names and secrets of its access keys.
     Keys,
-    /// Its buckets, with what each was made with, its state and its rule.
+    /// Its buckets, with creation time, state and rule.
     Buckets,
-    /// Which of its buckets are locked.
+    /// The locks of its buckets.
     Locks,
     /// Its versions and delete markers, without their bytes.
     Versions,
-    /// Its uploads that are neither completed nor aborted.
+    /// Its unfinished uploads.
     Uploads,
-    /// The parts of those, without their bytes.
+    /// The parts of those uploads, without their bytes.
     Parts,
     /// The dates of its versions.
     Retains,
@@ -49,7 +49,7 @@ impl Owned {
     }
 }
 
-/// The rows that a tenant has in a table.
+/// A tenant's rows in a table.
 pub fn owned_rows<S: Alter>(
     connection: &mut Connection<S>,
     table: Owned,

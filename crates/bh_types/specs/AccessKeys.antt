@@ -21,10 +21,11 @@ key_named text = if is_key_name text then Some text else None
 abbrev pub access_key_of : List ℕ → List ℕ → Option AccessKeyId
 access_key_of tenant name = option_map (λ t. record { tenant = t; name = key_named name }) (tenant_named tenant)
 
--- the tenant is what stands before the first '$', the key's name what stands after it. Neither needs to be there
+-- the tenant is the text before the first '$', the key's name the text after it. Either may be
+-- missing
 abbrev pub access_key : List ℕ → Option AccessKeyId
 access_key id = option_and_then (λ i. access_key_of (take i id) (drop (i + 1) id)) (position is_dollar id)
 
--- the tenant that an access key belongs to. It need not have been added, nor need the key be there
+-- the tenant of an access key. Neither the tenant nor the key need exist
 abbrev pub tenant_of_key : List ℕ → Option (List ℕ)
 tenant_of_key id = option_map (λ (key : AccessKeyId). key.tenant) (access_key id)

@@ -1,13 +1,13 @@
 -- A tenant's counters.
 use Rattle.std.specs.Prelude.{ℕ, ◌≤◌, ◌^◌}
 
--- the next number that each counter gives
+-- the next number of each counter
 pub record Counts : Type 0 where
   pub version : ℕ
   pub upload : ℕ
   pub entry : ℕ
 
--- from 1; 2^62 says that the last number, 2^62 - 1, is given
+-- from 1; 2^62 means that the last number, 2^62 - 1, was given
 abbrev pub IsNext : ℕ → Type 0
 IsNext n = (1 ≤ n) × (n ≤ 2 ^ 62)
 

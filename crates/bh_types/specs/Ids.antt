@@ -8,12 +8,12 @@ use Rattle.bh_types.specs.declared.id.VersionId.{VersionId}
 use Rattle.bh_types.specs.declared.id.VersionId.TheVariants.{Null, Numbered}
 use Rattle.bh_types.specs.declared.id.UploadId.{UploadId}
 
--- 16 lower hexadecimal digits
+-- 16 lower-case hexadecimal digits
 -- RFC 4648, section 8, in lower case
 abbrev pub number_text : ℕ → List ℕ
 number_text n = encode_lower (to_be_bytes w64 n)
 
--- the number whose text this is, if it is one's
+-- the number with this text, if there is one
 abbrev pub if_text_of : List ℕ → ℕ → Option ℕ
 if_text_of text n = if bytes_eq (number_text n) text then Some n else None
 

@@ -1,7 +1,7 @@
--- What a host and its process are set to.
+-- The settings of a host and of its process.
 use Rattle.std.specs.Prelude.{ℕ, ◌≤◌, ◌^◌}
 
--- bytes: the least size of a part that isn't the last, and the greatest body
+-- in bytes: the minimum size of a part that isn't the last, and the maximum size of a body
 pub record HostLimits : Type 0 where
   pub min_part : ℕ
   pub max_body : ℕ
@@ -14,7 +14,7 @@ AreLimits min_part max_body = (min_part ≤ 2 ^ 30) × (1 ≤ max_body) × (max_
 abbrev pub default_limits : HostLimits
 default_limits = record { min_part = 5_242_880; max_body = 16_777_216 }
 
--- the bytes of a block, and how many blocks stay in memory
+-- the size of a block in bytes, and the maximum number of cached blocks
 pub record HostTuning : Type 0 where
   pub block_size : ℕ
   pub cache_blocks : ℕ
@@ -22,7 +22,7 @@ pub record HostTuning : Type 0 where
 abbrev pub IsTuning : ℕ → ℕ → Type 0
 IsTuning block_size cache_blocks = (1 ≤ block_size) × (block_size ≤ 1_048_576) × (cache_blocks ≤ 65_536)
 
--- 64 KiB, and none
+-- 64 KiB, and no cache
 abbrev pub default_tuning : HostTuning
 default_tuning = record { block_size = 65_536; cache_blocks = 0 }
 

@@ -10,12 +10,12 @@ pub record Day : Type 0 where
   pub month : ℕ
   pub day : ℕ
 
--- every fourth year, of the full hundreds only every fourth hundred
+-- every fourth year, but of the full hundreds only every fourth
 -- RFC 3339, appendix C
 abbrev pub is_leap_year : ℕ → Bool
 is_leap_year year = year % 4 == 0 && (not (year % 100 == 0) || year % 400 == 0)
 
--- thirty days have April, June, September and November
+-- April, June, September and November have thirty days
 -- RFC 3339, section 5.7
 abbrev pub days_in_month : ℕ → ℕ → ℕ
 days_in_month year month =
@@ -29,7 +29,7 @@ next_day d =
     else if nat_lt d.month 12 then record { year = d.year; month = d.month + 1; day = 1 }
     else record { year = d.year + 1; month = 1; day = 1 }
 
--- the day that so many days follow 1 January 1970
+-- the day that is that many days after 1 January 1970
 unfoldable pub day_at : ℕ → Day
 day_at zero = record { year = 1970; month = 1; day = 1 }
 day_at (suc n) = next_day (day_at n)
@@ -54,17 +54,17 @@ time_text s = two_digits (s / 3600) ++ 58 ∷ two_digits (s / 60 % 60) ++ 58 ∷
 abbrev pub moment_text : ℕ → List ℕ
 moment_text m = day_text (day_at (m / 86400)) ++ (84 ∷ (time_text (m % 86400) ++ 90 ∷ []))
 
--- the moment, in this many nanoseconds since 1970, whose text this is, if it is one's
+-- the moment, in this many nanoseconds since 1970, with this text, if there is one
 abbrev pub if_text_of : List ℕ → ℕ → Option ℕ
 if_text_of text n = if bytes_eq (moment_text (n / 1_000_000_000)) text
     && nat_le n 251_000_000_000_000_000_000 then Some (n / 1_000_000_000) else None
 
--- the moment that a text is
+-- the moment in a text
 abbrev pub moment_of : List ℕ → Option ℕ
 moment_of text = option_and_then (λ n. if_text_of text (unsigned_abs n)) (result_ok (parse_timestamp text))
 
--- when an upload begun then is stale under a rule of so many days: at the midnight that ends the day
--- which is so many days later
+-- when an upload that began at a moment becomes stale under a rule of some days: the midnight at
+-- the end of the day that is that many days later
 -- Amazon S3 API Reference, AbortIncompleteMultipartUpload, and x-amz-abort-date of CreateMultipartUpload
 abbrev pub abort_moment : ℕ → ℕ → ℕ
 abort_moment begun days = 86400 * (begun / 86400 + days + 1)

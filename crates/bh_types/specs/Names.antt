@@ -1,10 +1,10 @@
--- Which texts are names, as tests that compute.
+-- The rules for names, as tests that compute.
 use Rattle.std.specs.Prelude.{ℕ, ◌+◌, ◌-◌, Bool, ◌&&◌, ◌||◌, not, nat_le, ◌==◌, List, length, take, drop, if◌then◌else◌, false, Option}
 use Rattle.std.specs.Prelude.{Some, None, position, unwrap_or, option_map, option_and_then, slice_index}
 use Rattle.std.specs.List.{list_all, list_any, zip}
 use Rattle.std.specs.Char.{is_ascii_lowercase, is_ascii_digit}
 
--- so many bytes
+-- the number of bytes is in a range
 abbrev pub has_length : ℕ → ℕ → List ℕ → Bool
 has_length low high text = nat_le low (length text) && nat_le (length text) high
 
@@ -47,7 +47,7 @@ has_dots_together text = list_any (λ p. is_dot p.0 && is_dot p.1) (zip text (dr
 abbrev pub is_group : List ℕ → Bool
 is_group text = has_length 1 3 text && list_all is_ascii_digit text
 
--- what follows a group and a dot
+-- the text after a group and a dot
 abbrev pub after_group : List ℕ → Option (List ℕ)
 after_group text =
     option_and_then (λ at. if is_group (take at text) then Some (drop (at + 1) text) else None) (position is_dot text)

@@ -19,7 +19,7 @@ abbrev pub Fails : {Y : Type 0} → RequestError → Result Y Refusal → Type 0
 Fails OutOfMemory answer = Unit {0}
 Fails (Refused r) answer = answer ≡ Err r
 
--- what a function returned, seen by view, is the answer, unless memory ran out
+-- the result, through view, is the answer, unless memory ran out
 abbrev pub Gives : {X Y : Type 0} → (X → Y) → Result X RequestError → Result Y Refusal → Type 0
 Gives view (Ok x) answer = answer ≡ Ok (view x)
 Gives view (Err e) answer = Fails e answer

@@ -51,7 +51,8 @@ pub record Row : Type 0 where
 abbrev pub row : ℕ → ℕ → List ℕ → Row
 row number status code = record { number = number; status = status; code = code }
 
--- The codes are those of Amazon S3 API Reference, "Error responses", where it has one; the statuses are those of RFC 9110, section 15
+-- The codes are those of Amazon S3 API Reference, "Error responses", if it has one; the statuses
+-- are those of RFC 9110, section 15
 abbrev pub row_of : Refusal → Row
 row_of BadRequest = row 1 400 (codes "BadRequest")
 row_of NotImplemented = row 2 501 (codes "NotImplemented")

@@ -1,4 +1,4 @@
--- Which refusals may come of something.
+-- The possible refusals of something.
 use Rattle.std.specs.Prelude.{◌≡◌, Bool, true, IfErr, Result}
 use Rattle.bh_types.specs.declared.refusal.Refusal.{Refusal}
 

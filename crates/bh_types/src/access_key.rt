@@ -4,18 +4,18 @@ ghost use Rattle.bh_types.specs.AccessKeys as spec;
 use crate::names::{KeyName, TenantName};
 use std::alloc::{AllocError, Global};
 
-/// An access key's id, `tenant$name`, as it was sent: the tenant need not have been added, and what
-/// follows the first `$` need not be a key's name.
+/// An access key's id, `tenant$name`, as it was sent. The tenant may not exist, and the text after
+/// the first `$` may not be a key's name.
 #[derive(Drop)]
 pub struct AccessKeyId {
     pub tenant: TenantName,
-    /// The key's name within its tenant, or `None` where the text after the first `$` is no name.
+    /// The key's name within its tenant, or `None` if the text after the first `$` is not a name.
     pub name: Option<KeyName>,
 }
 
 impl AccessKeyId {
-    /// The id that bytes are, or `None` where the text before their first `$` is no tenant's name. An
-    /// error says that memory ran out.
+    /// Parses an id. `None` if the text before the first `$` is not a tenant's name. Fails if
+    /// memory runs out.
     pub fn read(alloc: Global, id: &[u8]) -> Result<Option<AccessKeyId>, AllocError>
         ensures { IfOk result (λ found. found ≡ spec.access_key id.now) }
     {

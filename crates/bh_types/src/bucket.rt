@@ -7,12 +7,13 @@ ghost use Rattle.bh_types.specs.Names as spec;
 use crate::bytes::{has_length, is_name_byte};
 use crate::text::{Text, TextRule};
 
-/// A bucket's name: 3 to 63 of a to z, 0 to 9, dot and hyphen, the first and the last a letter or
-/// digit, no two dots together, and no four groups of 1 to 3 digits joined by dots. These are the
-/// rules of the Amazon S3 User Guide, "General purpose bucket naming rules", without its forbidden beginnings and ends.
+/// A bucket's name: 3 to 63 characters of a to z, 0 to 9, dot and hyphen. The first and the last
+/// are a letter or digit. It has no two dots together, and isn't four groups of 1 to 3 digits
+/// joined by dots. These are the rules of the Amazon S3 User Guide, "General purpose bucket naming
+/// rules", without its forbidden prefixes and suffixes.
 pub type BucketName = Text<BucketRule>;
 
-/// Which texts are buckets' names.
+/// The rule for buckets' names.
 #[derive(Clone, Drop)]
 pub struct BucketRule;
 

@@ -1,11 +1,11 @@
 ghost use Rattle.std.specs.Prelude.{◌≡◌, ◌≢◌, IfSome, IfNone};
 
-/// Whether a bucket keeps the versions of its objects, as S3's versioning has it.
+/// A bucket's versioning state, as in S3.
 #[derive(Clone, Copy, PartialEq, Eq)]
 pub enum BucketState {
     /// A new bucket: each key has at most one version, `null`.
     Unversioned,
-    /// Each put makes a numbered version, and keeps what was there.
+    /// Each put adds a numbered version, and keeps the others.
     Enabled,
     /// Each put replaces the version `null`, and keeps the numbered ones.
     Suspended,
@@ -15,7 +15,7 @@ impl BucketState {
     ghost use Rattle.bh_types.specs.BucketStates.{state_number};
     ghost use Rattle.bh_types.specs.declared.bucket_state.BucketState.{BucketState as State};
 
-    /// The number by which a table's column keeps the state: 0, 1 or 2.
+    /// Its number in a table's column: 0, 1 or 2.
     pub fn number(self) -> u64
         ensures { result ≡ state_number self }
     {
@@ -26,7 +26,7 @@ impl BucketState {
         }
     }
 
-    /// The state that a column's number stands for, or `None` where it stands for none.
+    /// The state with a column's number, or `None` if no state has it.
     pub fn from_number(number: u64) -> Option<BucketState>
         ensures value { IfSome result (λ state. state_number state ≡ number) }
         ensures none { IfNone result ((state : State) → state_number state ≢ number) }

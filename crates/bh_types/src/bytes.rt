@@ -2,7 +2,7 @@ ghost use Rattle.std.specs.Prelude.{◌≡◌, ℕ};
 ghost use Rattle.std.specs.List.{list_all};
 ghost use Rattle.bh_types.specs.Names as spec;
 
-/// Whether there are so many bytes.
+/// Whether the number of bytes is from `low` to `high`.
 pub fn has_length(low: usize, high: usize, text: &[u8]) -> bool
     ensures { result ≡ spec.has_length low high text.now }
 {

@@ -1,4 +1,4 @@
-//! Checksums as S3 gives them: base64 (RFC 4648) of SHA-256 digests (FIPS 180-4).
+//! Checksums in S3's form: base64 (RFC 4648) of SHA-256 digests (FIPS 180-4).
 
 ghost use Rattle.std.specs.Prelude.{◌≡◌, ◌≢◌, ℕ, List, length, Some, IfOk, IfSome, IfNone};
 ghost use Rattle.std.specs.List.{flat_map};
@@ -19,24 +19,25 @@ pub fn digest_of(bytes: &[u8]) -> [u8; 32]
     Sha256::digest(bytes)
 }
 
-/// The checksum text of a digest: its base64 (RFC 4648, section 4), 44 characters. An error says that memory ran out.
+/// A digest's checksum text: its base64 (RFC 4648, section 4), 44 characters. Fails if memory runs
+/// out.
 pub fn checksum_of_digest(alloc: Global, digest: &[u8; 32]) -> Result<String, AllocError>
     ensures { IfOk result (λ text. string_bytes text ≡ digest_text digest.now) }
 {
     STANDARD.encode(alloc, digest.as_slice())
 }
 
-/// The checksum text of an object's or a part's bytes: the base64 of their SHA-256 digest. An error
-/// says that memory ran out.
+/// The checksum text of an object's or a part's bytes: the base64 of their SHA-256 digest. Fails if
+/// memory runs out.
 pub fn checksum_of(alloc: Global, bytes: &[u8]) -> Result<String, AllocError>
     ensures { IfOk result (λ text. string_bytes text ≡ checksum_text bytes.now) }
 {
     checksum_of_digest(alloc, &digest_of(bytes))
 }
 
-/// The checksum text of an object that was joined from parts with these digests: S3's composite
-/// checksum, which is that of the digests one after another, `-`, and the number of parts. An error
-/// says that memory ran out.
+/// The checksum text of an object that was completed from parts with these digests. It is S3's
+/// composite checksum: the checksum of the joined digests, `-`, and the number of parts. Fails if
+/// memory runs out.
 pub fn joined_checksum(alloc: Global, digests: &[[u8; 32]]) -> Result<String, AllocError>
     ensures { IfOk result (λ text. string_bytes text ≡ joined_text digests.now) }
 {
@@ -56,8 +57,7 @@ fn digest_of_all(digests: &[[u8; 32]]) -> [u8; 32]
     hasher.finalize()
 }
 
-/// The digest whose checksum text this is, or `None` where it is that of no digest. An error says
-/// that memory ran out.
+/// The digest with this checksum text, or `None` if no digest has it. Fails if memory runs out.
 pub fn read_checksum(alloc: Global, text: &str) -> Result<Option<[u8; 32]>, AllocError>
     ensures value { IfOk result (λ r. IfSome r (λ digest. text.now ≡ digest_text digest)) }
     ensures found { (digest : List ℕ) → length digest ≡ 32 → IsBytes digest → text.now ≡ digest_text digest

@@ -4,18 +4,18 @@ ghost use Rattle.bh_types.specs.Counts.{AreCounters, IsNext};
 
 use std::marker::Model;
 
-/// What a counter holds once its last number, 2^62 - 1, is given.
+/// The value of a counter whose last number, 2^62 - 1, was given.
 pub const COUNTER_END: u64 = 1 << 62;
 
-/// The next number that each of a tenant's counters gives, from 1; [`COUNTER_END`] where the
-/// counter is used up.
+/// The next number of each of a tenant's counters, from 1; [`COUNTER_END`] if the counter is
+/// exhausted.
 #[derive(Clone, Copy, PartialEq, Eq)]
 pub struct Counters {
     /// For numbered version ids.
     pub version: u64,
     /// For upload ids.
     pub upload: u64,
-    /// For versions, markers and parts, in the order in which they are made.
+    /// For versions, markers and parts, in the order of their creation.
     pub entry: u64,
 }
 
@@ -32,7 +32,7 @@ impl Model for Counters {
 }
 
 impl Counters {
-    /// The counters, or `None` where one lies outside of 1 to [`COUNTER_END`].
+    /// The counters, or `None` if one is outside of 1 to [`COUNTER_END`].
     pub fn new(version: u64, upload: u64, entry: u64) -> Option<Counters>
         ensures { SomeIff result (AreCounters version upload entry)
             (record { version = version; upload = upload; entry = entry }) }

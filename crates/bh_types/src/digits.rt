@@ -11,7 +11,7 @@ pub fn is_number(text: &[u8]) -> bool
     !text.is_empty() && are_digits(text)
 }
 
-/// The number that decimal digits write, if it is below 2^64.
+/// The value of decimal digits, if it is below 2^64.
 pub fn number_of(digits: &[u8]) -> Option<u64>
     requires { spec.is_number digits.now ≡ true }
     ensures some { IfSome result (λ n. n ≡ digits_value 10 digits.now) }

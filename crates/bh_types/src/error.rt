@@ -1,12 +1,12 @@
 use crate::refusal::Refusal;
 use std::alloc::AllocError;
 
-/// Why a step of a request gave nothing: it was refused, or memory ran out.
+/// Why a step of a request failed: it was refused, or memory ran out.
 #[derive(Clone, Copy, PartialEq, Eq)]
 pub enum RequestError {
     /// The request is refused.
     Refused(Refusal),
-    /// No memory was left for the answer; nothing is said of the request.
+    /// No memory was left for the answer; nothing is known about the request.
     OutOfMemory,
 }
 

@@ -11,7 +11,7 @@ use std::alloc::{AllocError, Global};
 /// lower hexadecimal digits (RFC 4648, section 8).
 #[derive(Clone, Copy, PartialEq, Eq)]
 pub enum VersionId {
-    /// The version that a bucket without versioning keeps.
+    /// The only version of a key in a bucket without versioning.
     Null,
     /// The version of this number.
     Numbered(u64),
@@ -20,12 +20,12 @@ pub enum VersionId {
 /// An upload's id: the tenant's upload counter in 16 lower hexadecimal digits (RFC 4648, section 8).
 #[derive(Clone, Copy, PartialEq, Eq, PartialOrd, Ord)]
 pub struct UploadId {
-    /// The number that the digits are.
+    /// The number in the digits.
     pub number: u64,
 }
 
 impl VersionId {
-    /// The id that a text is, or `None` where it is none. Takes no memory.
+    /// Parses an id. `None` if the text is not one. It allocates nothing.
     pub fn read(text: &str) -> Option<VersionId>
         ensures is { result ≡ version_of text.now }
         ensures value { IfSome result (λ id. version_text id ≡ text.now) }
@@ -40,7 +40,7 @@ impl VersionId {
         }
     }
 
-    /// The id as text. An error says that memory ran out.
+    /// The id as text. Fails if memory runs out.
     pub fn print(self, alloc: Global) -> Result<String, AllocError>
         ensures { IfOk result (λ text. string_bytes text ≡ version_text self) }
     {
@@ -52,7 +52,7 @@ impl VersionId {
 }
 
 impl UploadId {
-    /// The id that a text is, or `None` where it is none. Takes no memory.
+    /// Parses an id. `None` if the text is not one. It allocates nothing.
     pub fn read(text: &str) -> Option<UploadId>
         ensures is { result ≡ upload_of text.now }
         ensures value { IfSome result (λ id. upload_text id ≡ text.now) }
@@ -64,7 +64,7 @@ impl UploadId {
         }
     }
 
-    /// The id as text. An error says that memory ran out.
+    /// The id as text. Fails if memory runs out.
     pub fn print(self, alloc: Global) -> Result<String, AllocError>
         ensures { IfOk result (λ text. string_bytes text ≡ upload_text self) }
     {
@@ -72,7 +72,7 @@ impl UploadId {
     }
 }
 
-/// The number that 16 lower hexadecimal digits are, or `None` where the text is not that.
+/// Parses a number of 16 lower-case hexadecimal digits, or returns `None`.
 fn read_number(text: &str) -> Option<u64>
     ensures is { result ≡ number_of text.now }
     ensures value { IfSome result (λ n. number_text n ≡ text.now) }
@@ -83,7 +83,7 @@ fn read_number(text: &str) -> Option<u64>
         return None;
     };
     let number = u64::from_be_bytes(bytes);
-    // The decoder takes upper case too.
+    // The decoder accepts upper case too.
     if is_number_text(number, text) {
         Some(number)
     } else {
@@ -91,7 +91,7 @@ fn read_number(text: &str) -> Option<u64>
     }
 }
 
-/// Whether a text is the print of a number.
+/// Whether a text is a number's 16 digits.
 fn is_number_text(number: u64, text: &str) -> bool
     ensures { IsTrue result ↔ (number_text number ≡ text.now) }
 {

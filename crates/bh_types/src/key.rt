@@ -1,10 +1,10 @@
 use crate::bytes::has_length;
 use crate::text::{Text, TextRule};
 
-/// An object's key: 1 to 1,024 bytes of UTF-8, as the Amazon S3 User Guide has them ("Naming Amazon S3 objects").
+/// An object's key: 1 to 1,024 bytes of UTF-8 (Amazon S3 User Guide, "Naming Amazon S3 objects").
 pub type ObjectKey = Text<ObjectKeyRule>;
 
-/// Which texts are objects' keys.
+/// The rule for objects' keys.
 #[derive(Clone, Drop)]
 pub struct ObjectKeyRule;
 

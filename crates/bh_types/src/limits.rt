@@ -4,31 +4,32 @@ ghost use Rattle.bh_types.specs.Limits.{HostLimits, AreLimits, default_limits, H
 
 use std::marker::Model;
 
-/// The greatest `min_part`, in bytes.
+/// The maximum of `min_part`, in bytes.
 pub const GREATEST_MIN_PART: u64 = 1 << 30;
-/// The `min_part` that S3 has: 5 MiB (Amazon S3 User Guide, "Amazon S3 multipart upload limits").
+/// The default of `min_part`, as in S3: 5 MiB (Amazon S3 User Guide, "Amazon S3 multipart upload
+/// limits").
 pub const DEFAULT_MIN_PART: u64 = 5_242_880;
-/// The greatest `max_body`, in bytes.
+/// The maximum of `max_body`, in bytes.
 pub const GREATEST_MAX_BODY: u64 = 1 << 30;
-/// The `max_body` where none is given: 16 MiB.
+/// The default of `max_body`: 16 MiB.
 pub const DEFAULT_MAX_BODY: u64 = 16_777_216;
-/// The greatest `block_size`, in bytes.
+/// The maximum of `block_size`, in bytes.
 pub const GREATEST_BLOCK_SIZE: u64 = 1_048_576;
-/// The `block_size` where none is given: 64 KiB.
+/// The default of `block_size`: 64 KiB.
 pub const DEFAULT_BLOCK_SIZE: u64 = 65_536;
-/// The greatest `cache_blocks`.
+/// The maximum of `cache_blocks`.
 pub const GREATEST_CACHE_BLOCKS: u64 = 65_536;
-/// The `cache_blocks` where none is given: no cache.
+/// The default of `cache_blocks`: no cache.
 pub const DEFAULT_CACHE_BLOCKS: u64 = 0;
-/// The greatest quota of a tenant, in bytes.
+/// The maximum quota of a tenant, in bytes.
 pub const MAX_QUOTA: u64 = 1 << 60;
 
-/// What a host is made with and keeps.
+/// The limits of a host, fixed when it is created.
 #[derive(Clone, Copy, Debug, PartialEq, Eq)]
 pub struct Limits {
-    /// The least size in bytes of an upload's part, the last one left out.
+    /// The minimum size in bytes of an upload's part, except the last one.
     pub min_part: u64,
-    /// The greatest size in bytes of a request's body.
+    /// The maximum size in bytes of a request's body.
     pub max_body: u64,
 }
 
@@ -43,7 +44,7 @@ impl Model for Limits {
 }
 
 impl Limits {
-    /// The limits, or `None` where `min_part` is above [`GREATEST_MIN_PART`], or `max_body` is 0 or
+    /// The limits, or `None` if `min_part` is above [`GREATEST_MIN_PART`], or `max_body` is 0 or
     /// above [`GREATEST_MAX_BODY`].
     pub fn new(min_part: u64, max_body: u64) -> Option<Limits>
         ensures { SomeIff result (AreLimits min_part max_body) (record { min_part = min_part; max_body = max_body }) }
@@ -67,12 +68,12 @@ impl Default for Limits {
     }
 }
 
-/// What a process is set to; it may differ each time that a host is opened.
+/// The settings of a process; they may differ each time that a host is opened.
 #[derive(Clone, Copy, PartialEq, Eq)]
 pub struct Tuning {
-    /// The size in bytes of the blocks that bodies are cut into.
+    /// The size in bytes of the blocks into which bodies are cut.
     pub block_size: u64,
-    /// How many blocks may be kept in memory; 0 is no cache.
+    /// The maximum number of cached blocks; 0 means no cache.
     pub cache_blocks: u64,
 }
 
@@ -87,7 +88,7 @@ impl Model for Tuning {
 }
 
 impl Tuning {
-    /// The tuning, or `None` where `block_size` is 0 or above [`GREATEST_BLOCK_SIZE`], or
+    /// The tuning, or `None` if `block_size` is 0 or above [`GREATEST_BLOCK_SIZE`], or
     /// `cache_blocks` is above [`GREATEST_CACHE_BLOCKS`].
     pub fn new(block_size: u64, cache_blocks: u64) -> Option<Tuning>
         ensures { SomeIff result (IsTuning block_size cache_blocks) (record { block_size = block_size; cache_blocks = cache_blocks }) }
@@ -117,7 +118,7 @@ impl Default for Tuning {
     }
 }
 
-/// Whether a number of bytes may be a tenant's quota: at most [`MAX_QUOTA`].
+/// Whether a number of bytes is a valid quota: at most [`MAX_QUOTA`].
 pub fn is_quota(bytes: u64) -> bool
     ensures { IsTrue result ↔ IsQuota bytes }
 {

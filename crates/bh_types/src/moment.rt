@@ -13,8 +13,8 @@ use std::marker::Model;
 /// The last moment, in seconds since 1970: 9923-11-16T14:13:20Z.
 pub const LAST_MOMENT: u64 = 251_000_000_000;
 
-/// The last moment that a clock may read, in seconds since 1970. Moments that are computed from
-/// readings come after it.
+/// The last valid reading of a clock, in seconds since 1970. Moments that are computed from
+/// readings may be later.
 pub const LAST_READING: u64 = 250_000_000_000;
 
 const SECONDS_A_DAY: u64 = 86_400;
@@ -38,7 +38,7 @@ impl Model for Moment {
 }
 
 impl Moment {
-    /// The moment, or `None` past [`LAST_MOMENT`].
+    /// The moment, or `None` after [`LAST_MOMENT`].
     pub fn new(seconds: u64) -> Option<Moment>
         ensures { SomeIff result (seconds ≤ 251_000_000_000) seconds }
     {
@@ -49,7 +49,7 @@ impl Moment {
         }
     }
 
-    /// The moment that a clock reads, or `None` past [`LAST_READING`].
+    /// The moment of a clock's reading, or `None` after [`LAST_READING`].
     pub fn from_reading(seconds: u64) -> Option<Moment>
         ensures { SomeIff result (seconds ≤ 250_000_000_000) seconds }
     {
@@ -60,8 +60,8 @@ impl Moment {
         }
     }
 
-    /// The moment that a text is, as [`moment_text`] writes it and in no other form, or `None` where it is none. Takes
-    /// no memory.
+    /// Parses a moment in exactly the form that [`moment_text`] writes, or returns `None`. It
+    /// allocates nothing.
     pub fn read(text: &str) -> Option<Moment>
         ensures is { result ≡ spec.moment_of text.now }
         ensures value { IfSome result (λ m. spec.moment_text m ≡ text.now) }
@@ -91,8 +91,7 @@ impl Moment {
     }
 }
 
-/// The moment as `YYYY-MM-DDTHH:MM:SSZ`, in UTC, as RFC 3339 (section 5.6) writes it. An error says that memory
-/// ran out.
+/// The moment as `YYYY-MM-DDTHH:MM:SSZ`, in UTC (RFC 3339, section 5.6). Fails if memory runs out.
 pub fn moment_text(alloc: Global, moment: Moment) -> Result<String, AllocError>
     ensures { IfOk result (λ text. string_bytes text ≡ spec.moment_text moment) }
 {
@@ -102,7 +101,8 @@ pub fn moment_text(alloc: Global, moment: Moment) -> Result<String, AllocError>
     format!(in alloc; "{date}T{time}Z")
 }
 
-/// The moment of an instant, or `None` where it has a fraction of a second, or is before 1970 or past [`LAST_MOMENT`].
+/// The moment of an instant, or `None` if it has a fraction of a second, or is before 1970 or after
+/// [`LAST_MOMENT`].
 fn moment_at(timestamp: Timestamp) -> Option<Moment>
     ensures value { IfSome result (λ m. timestamp.nanosecond ≡ pos (m * 1_000_000_000)) }
     ensures found { (m : ℕ) → m ≤ 251_000_000_000 → timestamp.nanosecond ≡ pos (m * 1_000_000_000) → result ≡ Some m }
@@ -123,8 +123,9 @@ fn is_print(timestamp: Timestamp, text: &str) -> bool
     printed.as_str() == text
 }
 
-/// When an upload that was begun then is stale under a rule of so many days: the midnight, in UTC,
-/// that ends the day which is so many days later. S3 so rounds `x-amz-abort-date`.
+/// When an upload that began at a moment becomes stale under a rule of `days` days. It is the
+/// midnight, in UTC, at the end of the day that is `days` days later. S3 rounds `x-amz-abort-date`
+/// so.
 pub fn abort_moment(begun: Moment, days: u16) -> Moment
     requires begun { begun ≤ 250_000_000_000 }
     requires low { 1 ≤ days }
@@ -144,7 +145,7 @@ fn epoch() -> Date
     date(1970, 1, 1)
 }
 
-/// When the date that so many days follow 1 January 1970 begins, in seconds since then.
+/// The first second of the date `days` days after 1 January 1970, in seconds since then.
 fn midnight(days: u32) -> u64
     requires { days ≤ 2_932_896 }
     ensures { result ≡ 86400 * days }
@@ -153,7 +154,7 @@ fn midnight(days: u32) -> u64
     passed.as_secs() as u64
 }
 
-/// The date that so many days follow 1 January 1970, up to the calendar's last, 9999-12-31.
+/// The date `days` days after 1 January 1970, up to the calendar's last, 9999-12-31.
 fn date_after(days: u32) -> Date
     requires { days ≤ 2_932_896 }
     ensures { epoch_day result ≡ pos days }
@@ -165,7 +166,7 @@ fn date_after(days: u32) -> Date
     }
 }
 
-/// The date that so many days follow 1 January 1970, as the calendar of `specs` tells it.
+/// The date `days` days after 1 January 1970, by the calendar of `specs`.
 fn day_after(days: u32) -> Date
     requires { days ≤ 2_932_896 }
     ensures { date_text result ≡ spec.day_text (spec.day_at days) }

@@ -5,17 +5,18 @@ ghost use Rattle.bh_types.specs.Names as spec;
 use crate::bytes::{are_name_bytes, has_length};
 use crate::text::{Text, TextRule};
 
-/// A tenant's name: 1 to 32 of a to z, 0 to 9. Tenants are those of the Ceph Object Gateway ("Multitenancy").
+/// A tenant's name: 1 to 32 characters of a to z, 0 to 9. Tenants are like those of the Ceph Object
+/// Gateway ("Multitenancy").
 pub type TenantName = Text<TenantRule>;
 
-/// An access key's name within its tenant: 1 to 32 of a to z, 0 to 9.
+/// An access key's name within its tenant: 1 to 32 characters of a to z, 0 to 9.
 pub type KeyName = Text<KeyRule>;
 
-/// An access key's secret: 8 to 64 visible ASCII characters, `!` to `~` (RFC 5234, appendix B.1). It has no `Debug`, so that
-/// none is printed by mistake.
+/// An access key's secret: 8 to 64 visible ASCII characters, `!` to `~` (RFC 5234, appendix B.1).
+/// It has no `Debug`, so that it can't be printed by mistake.
 pub type Secret = Text<SecretRule>;
 
-/// Which texts are tenants' names.
+/// The rule for tenants' names.
 #[derive(Clone, Drop)]
 pub struct TenantRule;
 
@@ -29,7 +30,7 @@ impl TextRule for TenantRule {
     }
 }
 
-/// Which texts are access keys' names.
+/// The rule for access keys' names.
 #[derive(Clone, Drop)]
 pub struct KeyRule;
 
@@ -43,7 +44,7 @@ impl TextRule for KeyRule {
     }
 }
 
-/// Which texts are secrets.
+/// The rule for secrets.
 #[derive(Clone, Drop)]
 pub struct SecretRule;
 

@@ -1,8 +1,8 @@
-/// Which bytes of an object are answered, by their positions from 0.
+/// The bytes of an object to return, by their positions from 0.
 #[derive(Clone, Copy, PartialEq, Eq)]
 pub enum RangePlan {
-    /// All of them.
+    /// All bytes.
     Whole,
-    /// Those from the first to the last position, both included.
+    /// The bytes from the first to the last position, both included.
     Part { first: u64, last: u64 },
 }

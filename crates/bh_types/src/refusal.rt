@@ -1,15 +1,15 @@
 ghost use Rattle.std.specs.Prelude.{◌≡◌, List, ℕ};
 ghost use Rattle.bh_types.specs.Refusals.{number_of, status_of, code_of, OneNumberEach};
 
-/// Why something was refused.
+/// The reason of a refusal.
 ///
-/// The codes of 1 to 31 are answers to requests, most of them as the Amazon S3 API Reference names
-/// them; those of 41 to 48 are answers to the operator's commands and never go out as HTTP.
+/// The codes of 1 to 31 answer requests, and most have their names in the Amazon S3 API Reference.
+/// Those of 41 to 48 answer operators' commands and are never sent over HTTP.
 #[derive(Clone, Copy, Debug, PartialEq, Eq)]
 pub enum Refusal {
-    /// The bytes are no request head that is read, or the head's framing is at fault.
+    /// The bytes can't be parsed as a request head, or the head's framing is invalid.
     BadRequest,
-    /// The request asks for what this host does not do.
+    /// The request needs a feature that this host doesn't have.
     NotImplemented,
     /// A `PUT` or `POST` without `Content-Length`.
     MissingContentLength,
@@ -19,15 +19,15 @@ pub enum Refusal {
     AccessDenied,
     /// No access key has this id.
     InvalidAccessKeyId,
-    /// The target has no route, or does not decode to text.
+    /// The target has no route, or can't be decoded to text.
     InvalidUri,
-    /// The text is no bucket name.
+    /// The text is not a bucket name.
     InvalidBucketName,
     /// The key is longer than 1,024 bytes.
     KeyTooLong,
-    /// A parameter, a header or a number of a document is out of its range or form.
+    /// A parameter, a header field or a number in a document is out of range or in a wrong form.
     InvalidArgument,
-    /// The document is not of its shape.
+    /// The document has a wrong shape.
     MalformedJson,
     /// The tenant has no bucket of this name.
     NoSuchBucket,
@@ -37,35 +37,35 @@ pub enum Refusal {
     NoSuchVersion,
     /// No live upload of this bucket and key has this id.
     NoSuchUpload,
-    /// The target does not take this method.
+    /// The target doesn't support this method.
     MethodNotAllowed,
     /// The tenant has this bucket already.
     BucketAlreadyOwnedByYou,
-    /// The bucket holds versions, markers or live uploads.
+    /// The bucket has versions, markers or live uploads.
     BucketNotEmpty,
-    /// The bucket's lock does not let its versioning be suspended.
+    /// The bucket is locked, so its versioning can't be suspended.
     InvalidBucketState,
     /// The bucket has no lifecycle rule.
     NoSuchLifecycleConfiguration,
-    /// A named part is not there, or has another checksum.
+    /// A named part doesn't exist, or has another checksum.
     InvalidPart,
-    /// The named parts do not ascend.
+    /// The numbers of the named parts do not ascend.
     InvalidPartOrder,
-    /// A part other than the last is below the least size.
+    /// A part other than the last is smaller than the minimum.
     EntityTooSmall,
     /// The change would raise the tenant's use above its quota.
     QuotaExceeded,
-    /// The range lies outside of the object.
+    /// The range has none of the object's bytes.
     InvalidRange,
-    /// The bytes have another checksum than the request says.
+    /// The bytes' checksum isn't the one in the request.
     BadDigest,
-    /// Fewer bytes came than were announced.
+    /// The body has fewer bytes than were announced.
     IncompleteBody,
-    /// The request does not fit the thing that it names.
+    /// The request isn't valid for its target.
     InvalidRequest,
-    /// The tenant has used up one of its counters.
+    /// One of the tenant's counters is exhausted.
     CounterExhausted,
-    /// The clock's reading is past the last one that the host takes.
+    /// The clock's reading is after the last valid one.
     ClockOutOfRange,
     /// Memory or the store failed; nothing was changed.
     ServiceUnavailable,
@@ -77,18 +77,18 @@ pub enum Refusal {
     KeyExists,
     /// The tenant has no access key of this name.
     NoSuchKeyName,
-    /// The text is no name, or no secret.
+    /// The text is not a name, or not a secret.
     InvalidName,
     /// The quota is above 2^60 bytes.
     InvalidQuota,
-    /// There is no host, or something stands already where a new one was to be made.
+    /// There is no host, or a new one was to be created in a file that isn't empty.
     NotAHostFile,
     /// Memory or the store failed under an operator's command; nothing was changed.
     Unavailable,
 }
 
 impl Refusal {
-    /// The refusal's own number: 1 to 31 for requests, 41 to 48 for operator commands.
+    /// The refusal's own number: 1 to 31 for requests, 41 to 48 for operators' commands.
     pub fn number(self) -> u16
         ensures { result ≡ number_of self }
     {
@@ -135,8 +135,8 @@ impl Refusal {
         }
     }
 
-    /// The status code of RFC 9110 (section 15) with which a request is so refused. An operator's command is
-    /// answered without HTTP: those refusals have the status that fits their meaning.
+    /// The status code of the response (RFC 9110, section 15). An operator's command is answered
+    /// without HTTP: those refusals have the status that fits their meaning.
     pub fn status(self) -> u16
         ensures { result ≡ status_of self }
     {
@@ -183,7 +183,7 @@ impl Refusal {
         }
     }
 
-    /// The refusal's code, as error documents and the field `x-refusal` show it.
+    /// The refusal's code, as in error documents and in the field `x-refusal`.
     pub fn code(self) -> &'static str
         ensures { result.now ≡ code_of self }
     {

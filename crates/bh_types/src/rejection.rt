@@ -1,19 +1,22 @@
 use crate::refusal::Refusal;
 
-/// What the response to a refusal tells beside the refusal.
+/// The response's details beside the refusal.
 #[derive(Clone, Copy, PartialEq, Eq)]
 pub enum Detail {
-    /// Nothing more.
+    /// No details.
     Nothing,
     /// The newest entry of the key is a delete marker.
     CurrentMarker,
-    /// The id that was given is that of a delete marker.
+    /// The given id is that of a delete marker.
     NamedMarker,
-    /// The object has so many bytes, and none of them was asked for.
+    /// The given id, in an operation on a date, is that of a delete marker. The response has only the
+    /// methods that a marker permits.
+    UndatedMarker,
+    /// The object has this many bytes, and the requested range has none of them.
     ObjectSize(u64),
 }
 
-/// A refusal, with what its response tells.
+/// A refusal with its response's details.
 #[derive(Clone, Copy, PartialEq, Eq)]
 pub struct Rejection {
     pub refusal: Refusal,

@@ -4,17 +4,17 @@ ghost use Rattle.std.specs.String.{string_bytes};
 use std::alloc::{AllocError, Global};
 use std::marker::{Model, PhantomData};
 
-/// A rule that says which texts are of a kind.
+/// A rule for the texts of a kind.
 pub trait TextRule: Clone + Drop {
-    /// Whether the rule takes these bytes.
+    /// Whether the rule accepts these bytes.
     ghost takes: { List ℕ → Bool };
 
-    /// Whether the rule takes these bytes.
+    /// Whether the rule accepts these bytes.
     fn takes(text: &[u8]) -> bool
         ensures { result ≡ takes text.now };
 }
 
-/// A text that a rule takes.
+/// A text that a rule accepts.
 #[derive(Clone, Drop)]
 pub struct Text<R: TextRule> {
     text: String,
@@ -33,7 +33,7 @@ impl<R: TextRule> Model for Text<R> {
 }
 
 impl<R: TextRule> Text<R> {
-    /// The text, or `None` where the rule does not take it. An error says that memory ran out.
+    /// The text, or `None` if the rule refuses it. Fails if memory runs out.
     pub fn read(alloc: Global, text: &str) -> Result<Option<Text<R>>, AllocError>
         ensures value { IfOk result (λ found. IfSome found (λ name. name ≡ text.now)) }
         ensures found { IfOk result (λ found. IsSome found ↔ IsTrue (R.takes text.now)) }
@@ -47,7 +47,7 @@ impl<R: TextRule> Text<R> {
         }))
     }
 
-    /// The text that a `String` is, which it takes over, or `None` where the rule does not take it.
+    /// Takes over a `String` as a text, or returns `None` if the rule refuses it.
     pub fn from_string(text: String) -> Option<Text<R>>
         ensures value { IfSome result (λ name. name ≡ string_bytes text) }
         ensures found { IsSome result ↔ IsTrue (R.takes (string_bytes text)) }

@@ -1,4 +1,4 @@
-//! Continuation tokens: the name after which a listing goes on, in hexadecimal.
+//! Continuation tokens: the name after which a listing continues, in hexadecimal.
 
 ghost use Rattle.std.specs.Prelude.{◌≡◌, IfOk};
 ghost use Rattle.std.specs.String.{string_bytes};
@@ -10,8 +10,8 @@ use crate::refusal::Refusal;
 use hex::FromHexError;
 use std::alloc::{AllocError, Global};
 
-/// The token of a name's bytes: two lower case hexadecimal digits for each (RFC 4648, section 8).
-/// An error says that memory ran out.
+/// The token of a name's bytes: two lower-case hexadecimal digits for each (RFC 4648, section 8).
+/// Fails if memory runs out.
 pub fn token_text(alloc: Global, bytes: &[u8]) -> Result<String, AllocError>
     ensures text { IfOk result (λ text. string_bytes text ≡ spec.token_text bytes.now) }
     ensures reads_back { IfOk result (λ text. spec.token_of (string_bytes text) ≡ Ok bytes.now) }
@@ -19,8 +19,8 @@ pub fn token_text(alloc: Global, bytes: &[u8]) -> Result<String, AllocError>
     hex::encode(alloc, bytes)
 }
 
-/// The bytes that a token stands for: hexadecimal digits in either case, an even number of them,
-/// also none. Any other text is refused with `InvalidArgument`; the other error is want of memory.
+/// The bytes of a token: an even number of hexadecimal digits in either case, or no digits. Fails
+/// with `InvalidArgument` for another text, and if memory runs out.
 pub fn read_token(alloc: Global, text: &str) -> Result<Vec<u8>, RequestError>
     ensures { Gives (λ bytes. bytes.items) result (spec.token_of text.now) }
 {

@@ -1,17 +1,17 @@
 use crate::id::VersionId;
 
-/// Which version of a key a request speaks of.
+/// The version of a key in a request.
 #[derive(Clone, Copy, PartialEq, Eq)]
 pub enum Wanted {
-    /// No id is given: the newest.
+    /// No id is given: the newest version.
     Current,
-    /// The version or marker of this id.
+    /// The version or marker with this id.
     Named(VersionId),
-    /// The given text is no id, so no version has it.
+    /// The given text is not an id, so no version has it.
     Unknown,
 }
 
-/// A part as the completion of an upload names it.
+/// A part in the request to complete an upload.
 #[derive(Clone, PartialEq, Eq, Drop)]
 pub struct Named {
     /// The part's number.

@@ -1,4 +1,4 @@
--- What contracts see of a part that is read for a listing.
+-- A part in a listing, as contracts see it.
 use Rattle.std.specs.String.{string_bytes}
 use Rattle.bh_model.specs.Pages.{PartItem}
 use Rattle.bh_tables.specs.Typed.{PartRow}

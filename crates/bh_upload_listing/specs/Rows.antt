@@ -1,4 +1,4 @@
--- The rows of an upload's parts in the order of a listing, and what is read of each.
+-- The rows of an upload's parts in the order of a listing, and their values.
 use Rattle.std.specs.Prelude.{ℕ, pos, Bool, ◌&&◌, int_lt, List, [], ◌∷◌, filter, take}
 use Rattle.std.specs.Ordering.{int_eq}
 use Rattle.sqlite.specs.declared.types.Value.TheVariants.{Text}
@@ -21,6 +21,6 @@ shown_part p = number p.part ∷ number p.size ∷ Text p.checksum ∷ number p.
 abbrev pub parts_from : Octets → ℕ → ℕ → ℕ → List PartRow → List PartRow
 parts_from tenant upload n count parts = take count (sort_by by_part (filter (is_part_after tenant upload n) parts))
 
--- what a listing tells of a row
+-- a row in a listing of parts
 abbrev pub part_item : PartRow → PartItem
 part_item p = record { number = p.part; moment = p.stamp; size = p.size; checksum = p.checksum }

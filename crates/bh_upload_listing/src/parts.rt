@@ -26,23 +26,23 @@ use bh_uploads::reads::{NamedUpload, found_upload};
 use sqlite::{Alter, Connection, Error, Row};
 use std::alloc::{AllocError, Global};
 
-/// Which page of an upload's parts is asked for.
+/// A request for a page of an upload's parts.
 #[derive(Clone, Copy)]
 pub struct PartsAsked {
-    /// How many parts the page has at most.
+    /// The maximum number of parts on the page.
     pub max: u32,
-    /// The number that the page comes after; 0 for all parts.
+    /// The number after which the page begins; 0 for the first page.
     pub after: u64,
 }
 
-/// A part, as its row has it.
+/// A part's row.
 #[derive(Drop)]
 pub struct PartLine {
     pub number: u32,
     /// In bytes.
     pub size: u64,
     pub checksum: String,
-    /// When it was put, in seconds since 1970.
+    /// When it was stored, in seconds since 1970.
     pub stamp: u64,
 }
 
@@ -63,7 +63,8 @@ impl FromRow for PartLine {
     }
 }
 
-/// The first parts of an upload with a greater number than this, at most as many as that, by number.
+/// The first parts of an upload with a greater number than `after`, by number, at most `count` of
+/// them.
 fn part_lines<S: Alter>(
     connection: &mut Connection<S>,
     alloc: Global,
@@ -84,7 +85,7 @@ fn part_lines<S: Alter>(
     or_trouble(read_rows(alloc, &rows))
 }
 
-/// A part, as it is told.
+/// A part's form in a page.
 fn part_entry(alloc: Global, line: &PartLine) -> Result<PartEntry, Trouble>
     ensures { IfOk result (λ entry. part_view entry ≡ seen_part line.now) }
 {
@@ -109,7 +110,7 @@ fn part_entries(alloc: Global, lines: &[PartLine]) -> Result<Vec<PartEntry>, Tro
     Ok(parts)
 }
 
-/// The number after which the next page begins, where this one is truncated.
+/// The number after which the next page begins, if this one is truncated.
 fn next_number(lines: &[PartLine], max: u32) -> Option<u32>
     ensures { result ≡ option_map (λ (p : PartItem). p.number) (paged max (map seen_part lines.now)).next }
 {
@@ -119,7 +120,7 @@ fn next_number(lines: &[PartLine], max: u32) -> Option<u32>
     Some(last.number)
 }
 
-/// What a page tells of these parts, which are those that it takes, and one more, if there is one.
+/// A page from these parts: those that belong to it, and one more if there is one.
 fn told_parts(
     alloc: Global,
     upload: &NamedUpload<'_>,
@@ -141,7 +142,7 @@ fn told_parts(
     })
 }
 
-/// S3's ListParts, a page of an upload's parts: NoSuchBucket, NoSuchUpload.
+/// S3's ListParts: a page of an upload's parts. Refusals: NoSuchBucket, NoSuchUpload.
 pub fn list_parts<S: Alter>(
     connection: &mut Connection<S>,
     alloc: Global,

@@ -7,7 +7,7 @@ use bh_schema::rows::number::number;
 use sqlite::types::ToSql;
 use sqlite::{Alter, Connection, Error, Row};
 
-/// The first rows of an upload's parts with a greater number than this, by number.
+/// The first rows of an upload's parts with a number greater than this one, by number.
 pub fn part_rows<S: Alter>(
     connection: &mut Connection<S>,
     tenant: &str,

@@ -33,7 +33,7 @@ use bh_types::refusal::Refusal;
 use sqlite::{Alter, Connection};
 use std::alloc::{AllocError, Global};
 
-/// The number after which uploads are later than this one. No counter gives 2^62.
+/// The number after which uploads are later than this one. No counter reaches 2^62.
 fn number_of(id: UploadId) -> u64
     ensures { result ≡ min id.number (2 ^ 62) }
 {
@@ -44,7 +44,7 @@ fn number_of(id: UploadId) -> u64
     }
 }
 
-/// The marker's key and a number, where the page comes after one upload of a key under the prefix.
+/// The marker's key and a number, if the page comes after one upload of a key under the prefix.
 fn marked_upload<'a>(asked: &PageAsked<'a>, upload: Option<UploadId>) -> Option<(&'a [u8], u64)>
     ensures { option_map (λ m. (m.0.now, m.1)) result ≡ marked asked.now.prefix.now (token_of asked.now) upload }
 {
@@ -61,7 +61,8 @@ fn marked_upload<'a>(asked: &PageAsked<'a>, upload: Option<UploadId>) -> Option<
     }
 }
 
-/// Where a page begins: after an upload of a key, or after all that the marker's key has, if there is a marker.
+/// The position of a page: after an upload of a key, or after all uploads of the marker's key, if
+/// there is a marker.
 fn start_place(
     alloc: Global,
     asked: &PageAsked<'_>,
@@ -83,7 +84,7 @@ fn start_place(
     }
 }
 
-/// What a page takes of a bucket's uploads from a place on, and one entry more, if there is one.
+/// The entries of a page of a bucket's uploads from a place on, and one more if there is one.
 fn gather_uploads<S: Alter>(
     connection: &mut Connection<S>,
     alloc: Global,
@@ -118,11 +119,11 @@ fn gather_uploads<S: Alter>(
             return Ok(reading.into_entries());
         }
     }
-    // So many rows there are not.
+    // There are fewer rows than that.
     Err(Trouble::Store)
 }
 
-/// S3's ListMultipartUploads, a page of a bucket's uploads: NoSuchBucket.
+/// S3's ListMultipartUploads: a page of a bucket's uploads. Refusal: NoSuchBucket.
 pub fn list_uploads<S: Alter>(
     connection: &mut Connection<S>,
     alloc: Global,

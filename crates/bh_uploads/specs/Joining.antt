@@ -1,4 +1,4 @@
--- What the rows of chosen parts make.
+-- The object made by the rows of chosen parts.
 use Rattle.std.specs.Prelude.{◌≡◌, ℕ, List, map, slice_get, Result, Ok, Err}
 use Rattle.std.specs.List.{filter_map, sum_by}
 use Rattle.std.specs.String.{string_bytes}
@@ -11,11 +11,11 @@ use Rattle.bh_storage.specs.declared.error.StepError.{StepError}
 use Rattle.bh_storage.specs.declared.error.StepError.TheVariants.{Refused, Failed}
 use Rattle.bh_uploads.specs.declared.joining.Joined.{Joined}
 
--- those at places
+-- those at some places
 abbrev pub taken : {X : Type 0} → List X → List ℕ → List X
 taken xs places = filter_map (slice_get xs) places
 
--- the texts of the checksums of the parts at places
+-- the checksums' texts of the parts at some places
 abbrev pub sums_at : List PartRow → List ℕ → List Octets
 sums_at rows places = map (λ (row : PartRow). string_bytes row.sum) (taken rows places)
 
@@ -26,7 +26,7 @@ pub record IsJoined (rows : List PartRow) (bodies : List ℕ) (places : List ℕ
   pub checksum_is : (parts : List Octets) → sums_at rows places ≡ map checksum_text parts → string_bytes j.checksum
       ≡ joined_text (map sha256 parts)
 
--- what was returned is that of the places, or their refusal, unless memory or the store was wanting
+-- the result is that of the places, or their refusal, unless memory or the store failed
 abbrev pub Joins : List PartRow → List ℕ → Result (List ℕ) Refusal → Result Joined (StepError Refusal) → Type 0
 Joins rows bodies places (Ok j) = (chosen : List ℕ) × (places ≡ Ok chosen) × IsJoined rows bodies chosen j
 Joins rows bodies places (Err (Refused r)) = places ≡ Err r

@@ -1,4 +1,4 @@
--- The uploads that a purge takes away.
+-- The uploads that a purge deletes.
 use Rattle.std.specs.Prelude.{ℕ, Bool, List, [], map, Option, Some, None}
 use Rattle.std.specs.List.{list_any}
 use Rattle.bh_model.specs.State.{Octets, stale_before}

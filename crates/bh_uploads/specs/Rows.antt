@@ -1,4 +1,4 @@
--- What the columns of uploads and parts that are read stand for, and which new rows no key forbids.
+-- The meaning of the columns of uploads and parts that are read, and which new rows no key forbids.
 use Rattle.std.specs.Prelude.{◌≡◌, ℕ, true, false, List, map, filter}
 use Rattle.std.specs.List.{list_any}
 use Rattle.std.specs.Str.{IsUtf8}
@@ -35,7 +35,7 @@ upload_reading = read_as shown_upload upload_seen seen_upload (λ u. IsUtf8 u.bu
 abbrev pub stored_upload : UploadRecord → UploadRow
 stored_upload u = record { tenant = u.tenant.now; upload = u.upload; bucket = u.bucket.now; okey = u.okey.now; begun = u.begun }
 
--- the uploads of a bucket that were begun before a moment, the first begun first
+-- the uploads of a bucket that began before a moment, oldest first
 abbrev pub begun_before : Octets → Octets → ℕ → List UploadRow → List UploadRow
 begun_before tenant bucket moment uploads = sort_by by_begun (filter (is_begun_before tenant bucket moment) uploads)
 
@@ -45,7 +45,7 @@ pub record IsNewUpload (tables : Tables) (tenant bucket : Octets) (upload : ℕ)
 
 -- ---- parts
 
--- what the completion of an upload has to know of a part
+-- the facts about a part that its upload's completion needs
 pub record SeenRow : Type 0 where
   pub number : ℕ
   pub size : ℕ
@@ -74,7 +74,7 @@ stored_part p = record {
   body = p.body;
 }
 
--- what is read of these parts
+-- the values of these parts
 pub record AreListed (list : PartList) (parts : List PartRow) : Type 0 where
   pub rows : map row_seen list.rows.items ≡ map seen_row parts
   pub bodies : list.bodies.items ≡ map (λ p. p.body) parts

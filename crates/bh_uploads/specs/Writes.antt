@@ -1,4 +1,4 @@
--- What operations on uploads write, one call after another.
+-- The writes of operations on uploads, one call after another.
 use Rattle.std.specs.Prelude.{ℕ, ◌+◌, List, [], ◌∷◌, ◌++◌, map, Option}
 use Rattle.std.specs.Option.{option_map_or}
 use Rattle.sqlite_keyed.specs.Lists.{update_where, delete_where}
@@ -12,20 +12,20 @@ use Rattle.bh_view.specs.Bodies.{pieces, body_stored, body_dropped, bodies_joine
 use Rattle.bh_view.specs.Put.{part_row}
 use Rattle.bh_objects.specs.Writes.{with_counters, with_room, with_version}
 
--- ---- an upload is begun
+-- ---- an upload begins
 
 abbrev pub with_next_upload : Octets → ℕ → Tables → Tables
 with_next_upload tenant n tables =
     record tables { tenants = update_where (is_tenant tenant) (λ t. record t { next_upload = n }) tables.tenants }
 
--- the upload of this number, which the tenant's counter has given
+-- the upload with this number, which the tenant's counter returned
 abbrev pub upload_written : Octets → Octets → Octets → ℕ → ℕ → Tables → Tables
 upload_written tenant bucket key begun n tables = record tables {
   tenants = update_where (is_tenant tenant) (λ t. record t { next_upload = n + 1 }) tables.tenants;
   uploads = tables.uploads ++ record { tenant = tenant; upload = n; bucket = bucket; okey = key; begun = begun } ∷ [];
 }
 
--- ---- a part is put
+-- ---- a part is stored
 
 abbrev pub with_next_entry : Octets → ℕ → Tables → Tables
 with_next_entry tenant n tables =
@@ -36,7 +36,7 @@ abbrev pub without_part : Octets → ℕ → ℕ → ℕ → Tables → Tables
 without_part tenant upload part body tables =
     body_dropped (tenant, body) (record tables { parts = delete_where (is_part tenant upload part) tables.parts })
 
--- without the part of this number where one is replaced, whose body this is
+-- without the part of this number, whose body this is, if one is replaced
 abbrev pub without_replaced : Octets → ℕ → ℕ → Option ℕ → Tables → Tables
 without_replaced tenant upload part replaced tables = option_map_or (λ body. without_part tenant upload part body tables) replaced tables
 
@@ -44,17 +44,19 @@ without_replaced tenant upload part replaced tables = option_map_or (λ body. wi
 abbrev pub with_part_row : PartRow → Tables → Tables
 with_part_row p tables = record tables { parts = tables.parts ++ resolved_part tables.refs tables.blocks (part_columns_of p) ∷ [] }
 
--- a part in the place of that of its number, whose body stays for now, under the entry number before this one
+-- a part in the place of the one with its number, whose body stays for now, under the entry number
+-- before this one
 abbrev pub part_placed : PartColumns → ℕ → Tables → Tables
 part_placed p next tables = with_next_entry p.tenant next (record tables {
   parts = delete_where (is_part p.tenant p.upload p.part) tables.parts ++ resolved_part tables.refs tables.blocks p ∷ [];
 })
 
--- the body of a part that was replaced goes
+-- without the body of the part that was replaced
 abbrev pub without_body_of : Octets → Option ℕ → Tables → Tables
 without_body_of tenant replaced tables = option_map_or (λ body. body_dropped (tenant, body) tables) replaced tables
 
--- a part of these bytes under an entry number, whose body is stored before that of the part that it replaces goes
+-- a part of these bytes under an entry number; its body is stored before that of the replaced part
+-- is deleted
 abbrev pub part_written : (Octets → Octets) → ℕ → Octets → ℕ → ℕ → Octets → ℕ → ℕ → Option ℕ → Tables → Tables
 part_written digest size tenant upload part bytes moment entry replaced tables =
     with_part_row (part_row tenant upload part bytes moment entry)
@@ -63,14 +65,15 @@ part_written digest size tenant upload part bytes moment entry replaced tables =
 
 -- ---- an upload is completed
 
--- a version that is joined: its body has the blocks of the bodies of parts, before what it replaces goes
+-- a version that is joined: its body gets the blocks of the parts' bodies before the replaced entry
+-- is removed
 abbrev pub version_written : BucketState → Counts → Counts → Octets → Octets → Octets → ℕ → ℕ → Octets → List ℕ → Tables → Tables
 version_written mode before after tenant bucket key moment size checksum bodies tables =
     with_version mode before tenant bucket key moment size checksum
     (with_room mode tenant bucket key (bodies_joined (map (λ body. (tenant, body)) bodies) (tenant, before.entry)
     (with_counters mode after tenant tables)))
 
--- ---- an upload goes
+-- ---- an upload is deleted
 
 abbrev pub without_bodies : Octets → List ℕ → Tables → Tables
 without_bodies tenant [] tables = tables

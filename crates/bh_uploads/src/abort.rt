@@ -14,7 +14,8 @@ use bh_types::refusal::Refusal;
 use sqlite::{Alter, Connection};
 use std::alloc::Global;
 
-/// S3's AbortMultipartUpload: NoSuchBucket, NoSuchUpload. The upload goes with its parts.
+/// S3's AbortMultipartUpload. Refusals: NoSuchBucket, NoSuchUpload. The upload is deleted with its
+/// parts.
 pub fn abort_upload<S: Alter>(
     connection: &mut Connection<S>,
     alloc: Global,

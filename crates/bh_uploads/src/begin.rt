@@ -28,7 +28,7 @@ use bh_types::refusal::Refusal;
 use sqlite::{Alter, Connection};
 use std::alloc::Global;
 
-/// A multipart upload that is to begin.
+/// A new multipart upload.
 #[derive(Clone, Copy)]
 pub struct NewUpload<'a> {
     pub tenant: &'a TenantName,
@@ -38,7 +38,7 @@ pub struct NewUpload<'a> {
     pub at: Moment,
 }
 
-/// Writes the upload of this number, which the tenant's counter has given.
+/// Adds the upload with this number, which the tenant's counter returned.
 fn write_upload<S: Alter>(
     connection: &mut Connection<S>,
     upload: &NewUpload<'_>,
@@ -63,7 +63,7 @@ fn write_upload<S: Alter>(
     Ok(())
 }
 
-/// When an upload will be stale, where its bucket has a rule.
+/// When an upload becomes stale, if its bucket has a rule.
 fn abort_at(begun: Moment, days: Option<u16>) -> Result<Option<Moment>, Trouble>
     requires { AreDays days }
     ensures { IfOk result (λ at. at ≡ option_map (spec.abort_moment begun) days) }
@@ -71,7 +71,7 @@ fn abort_at(begun: Moment, days: Option<u16>) -> Result<Option<Moment>, Trouble>
     match days {
         None => Ok(None),
         Some(days) => {
-            // No stamp is after the last reading of a clock.
+            // No stamp is after the last valid reading of a clock.
             if begun.seconds() > 250_000_000_000 {
                 return Err(Trouble::Store);
             }
@@ -80,7 +80,7 @@ fn abort_at(begun: Moment, days: Option<u16>) -> Result<Option<Moment>, Trouble>
     }
 }
 
-/// What is told of an upload that has begun in a bucket with this rule.
+/// The answer for an upload that began in a bucket with this rule.
 fn begun(
     alloc: Global,
     upload: &NewUpload<'_>,
@@ -99,7 +99,8 @@ fn begun(
     })
 }
 
-/// S3's CreateMultipartUpload, at a moment that is not after the last stamp: NoSuchBucket, CounterExhausted.
+/// S3's CreateMultipartUpload, at a moment that is not after the last stamp. Refusals:
+/// NoSuchBucket, CounterExhausted.
 pub fn begin_upload<S: Alter>(
     connection: &mut Connection<S>,
     alloc: Global,

@@ -33,7 +33,7 @@ use bh_types::wanted::Named;
 use sqlite::{Alter, Connection};
 use std::alloc::{AllocError, Global};
 
-/// What an upload is completed with.
+/// The plan of a completion.
 #[derive(Drop)]
 pub struct Completion {
     /// The state of its bucket.
@@ -45,8 +45,8 @@ pub struct Completion {
     pub joined: Joined,
 }
 
-/// What the upload that a request names is completed with: NoSuchBucket, NoSuchUpload, InvalidPartOrder, InvalidPart,
-/// EntityTooSmall. No byte of a part is read.
+/// The plan of an upload's completion. Refusals: NoSuchBucket, NoSuchUpload, InvalidPartOrder,
+/// InvalidPart, EntityTooSmall. No byte of a part is read.
 fn completion_plan<S: Alter>(
     connection: &mut Connection<S>,
     alloc: Global,
@@ -78,8 +78,9 @@ fn completion_plan<S: Alter>(
     })
 }
 
-/// Puts a version that is joined from parts into a bucket of this state, under the tenant's next numbers: its body,
-/// which has the blocks of theirs, before what it replaces goes, and then its row with the counters.
+/// Puts a version that is joined from parts into a bucket of this state, under the tenant's next
+/// numbers. Its body, with the parts' blocks, is written before the replaced entry is removed. Then
+/// its row is written, with the counters.
 fn write_version<S: Alter>(
     connection: &mut Connection<S>,
     alloc: Global,
@@ -114,7 +115,7 @@ fn write_version<S: Alter>(
     add_version(connection, &version, mode, numbers)
 }
 
-/// What is told of an upload that is completed, where its version was this number in a bucket of this state.
+/// The answer for a completed upload whose version has this number, in a bucket of this state.
 fn completed(
     alloc: Global,
     upload: &NamedUpload<'_>,
@@ -133,9 +134,10 @@ fn completed(
     })
 }
 
-/// S3's CompleteMultipartUpload, at a moment that is not after the last stamp: NoSuchBucket, NoSuchUpload,
-/// InvalidPartOrder, InvalidPart, EntityTooSmall where a part but the last has fewer bytes than `least`,
-/// CounterExhausted. The upload goes once its version is there. No byte of a part is read.
+/// S3's CompleteMultipartUpload, at a moment that is not after the last stamp. Refusals:
+/// NoSuchBucket, NoSuchUpload, InvalidPartOrder, InvalidPart, EntityTooSmall if a part but the last
+/// has fewer bytes than `least`, CounterExhausted. The upload is deleted after its version was
+/// added. No byte of a part is read.
 pub fn complete_upload<S: Alter>(
     connection: &mut Connection<S>,
     alloc: Global,

@@ -1,4 +1,5 @@
-//! The object that chosen parts make: their bodies in order, its size and its checksum. No byte is read.
+//! The object made by chosen parts: their bodies in order, its size and its checksum. No byte is
+//! read.
 
 ghost use Rattle.std.specs.Prelude.{◌≡◌, List, map, IfOk};
 ghost use Rattle.std.specs.List.{sum_by};
@@ -25,13 +26,13 @@ use std::alloc::{AllocError, Global};
 pub struct Joined {
     /// The entry numbers under which the parts' bytes are stored, in their order.
     pub bodies: Vec<u64>,
-    /// Bytes, of all parts.
+    /// The total size of the parts, in bytes.
     pub size: u64,
     /// The text of the composite checksum.
     pub checksum: String,
 }
 
-/// The entry numbers at places.
+/// The entry numbers of the parts at some places.
 fn bodies_at(alloc: Global, bodies: &[u64], places: &[usize]) -> Result<Vec<u64>, Trouble>
     ensures { IfOk result (λ chosen. chosen.items ≡ taken bodies.now places.now) }
 {
@@ -45,7 +46,7 @@ fn bodies_at(alloc: Global, bodies: &[u64], places: &[usize]) -> Result<Vec<u64>
     Ok(chosen)
 }
 
-/// How many bytes the parts at places have. No object has more than 2^64.
+/// The total size of the parts at some places. No object has more than 2^64 bytes.
 fn size_at(rows: &[PartRow], places: &[usize]) -> Result<u64, Trouble>
     ensures { IfOk result (λ size. size ≡ sum_by (λ row. row.size) (taken rows.now places.now)) }
 {
@@ -62,7 +63,7 @@ fn size_at(rows: &[PartRow], places: &[usize]) -> Result<u64, Trouble>
     Ok(size)
 }
 
-/// The digest of a part's bytes, of which a row has the text.
+/// The digest of a part's bytes, from its text in a row.
 fn digest_in(alloc: Global, row: &PartRow) -> Result<[u8; 32], Trouble>
     ensures { IfOk result (λ digest. (bytes : Octets) → string_bytes row.now.sum ≡ checksum_text bytes → digest ≡ sha256 bytes) }
 {
@@ -72,7 +73,7 @@ fn digest_in(alloc: Global, row: &PartRow) -> Result<[u8; 32], Trouble>
     }
 }
 
-/// The digests of the parts at places.
+/// The digests of the parts at some places.
 fn digests_at(alloc: Global, rows: &[PartRow], places: &[usize]) -> Result<Vec<[u8; 32]>, Trouble>
     ensures { IfOk result (λ digests. (parts : List Octets) → sums_at rows.now places.now ≡ map checksum_text parts
         → digests.items ≡ map sha256 parts) }
@@ -89,7 +90,7 @@ fn digests_at(alloc: Global, rows: &[PartRow], places: &[usize]) -> Result<Vec<[
     Ok(digests)
 }
 
-/// The object that the parts at places make.
+/// The object made by the parts at some places.
 fn joined_at(alloc: Global, list: &PartList, places: &[usize]) -> Result<Joined, Trouble>
     ensures { IfOk result (λ joined. IsJoined list.now.rows.items list.now.bodies.items places.now joined) }
 {
@@ -101,7 +102,7 @@ fn joined_at(alloc: Global, list: &PartList, places: &[usize]) -> Result<Joined,
     })
 }
 
-/// The places of the parts that are named: InvalidPartOrder, InvalidPart, EntityTooSmall.
+/// The places of the named parts. Refusals: InvalidPartOrder, InvalidPart, EntityTooSmall.
 fn named_places(
     alloc: Global,
     rows: &[PartRow],
@@ -117,8 +118,8 @@ fn named_places(
     }
 }
 
-/// The object that the parts make that are named: InvalidPartOrder, InvalidPart, EntityTooSmall where one but the
-/// last has fewer bytes than `least`.
+/// The object that the named parts make. Refusals: InvalidPartOrder, InvalidPart, and
+/// EntityTooSmall if one but the last has fewer bytes than `least`.
 pub fn join_named(
     alloc: Global,
     list: &PartList,

@@ -1,5 +1,5 @@
-//! S3's multipart uploads over a host's SQL tables: begun, their parts put, completed, aborted, and what goes
-//! by the rules of buckets.
+//! S3's multipart uploads in a host's SQL tables: how they begin, get parts, are completed or
+//! aborted, and are removed by buckets' rules.
 #![tactic(auto)]
 
 pub mod abort;

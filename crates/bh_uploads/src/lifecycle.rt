@@ -1,4 +1,4 @@
-//! The rule of a bucket for uploads that are left unfinished.
+//! The rule of a bucket for unfinished uploads.
 ghost use Rattle.std.specs.Prelude.{◌≡◌, ◌≤◌, None, false, IfOk};
 ghost use Rattle.bh_model.specs.Operations as machine;
 ghost use Rattle.bh_storage.specs.Answers.{removed_answer};
@@ -20,7 +20,7 @@ use bh_types::names::TenantName;
 use bh_types::refusal::Refusal;
 use sqlite::{Alter, Connection};
 
-/// The days of a rule, as a column has them: 1 to 3,650.
+/// The days of a rule, from a column: 1 to 3,650.
 fn days_of(days: Option<u64>) -> Result<Option<u16>, Trouble>
     ensures same { IfOk result (λ d. d ≡ days) }
     ensures range { IfOk result (λ d. AreDays d) }
@@ -36,7 +36,7 @@ fn days_of(days: Option<u64>) -> Result<Option<u16>, Trouble>
     }
 }
 
-/// The rule of a tenant's bucket, if it has one: NoSuchBucket.
+/// The rule of a tenant's bucket, if it has one. Refusal: NoSuchBucket.
 pub fn bucket_rule<S: Alter>(
     connection: &mut Connection<S>,
     tenant: &TenantName,
@@ -58,8 +58,8 @@ pub fn bucket_rule<S: Alter>(
     }
 }
 
-/// S3's GetBucketLifecycleConfiguration: NoSuchBucket, NoSuchLifecycleConfiguration. After so many days an upload that
-/// is left unfinished goes.
+/// S3's GetBucketLifecycleConfiguration. Refusals: NoSuchBucket, NoSuchLifecycleConfiguration.
+/// Returns the number of days after which unfinished uploads are removed.
 pub fn lifecycle<S: Alter>(
     connection: &mut Connection<S>,
     tenant: &TenantName,
@@ -78,7 +78,7 @@ pub fn lifecycle<S: Alter>(
     }
 }
 
-/// S3's DeleteBucketLifecycle: NoSuchBucket. A bucket without a rule stays as it is.
+/// S3's DeleteBucketLifecycle. Refusal: NoSuchBucket. A bucket without a rule doesn't change.
 pub fn delete_lifecycle<S: Alter>(
     connection: &mut Connection<S>,
     tenant: &TenantName,
@@ -94,7 +94,8 @@ pub fn delete_lifecycle<S: Alter>(
     Ok(nothing_told())
 }
 
-/// S3's PutBucketLifecycleConfiguration: NoSuchBucket. The rule holds of uploads that were begun before, too.
+/// S3's PutBucketLifecycleConfiguration. Refusal: NoSuchBucket. The rule also applies to earlier
+/// uploads.
 pub fn set_lifecycle<S: Alter>(
     connection: &mut Connection<S>,
     tenant: &TenantName,

@@ -30,20 +30,20 @@ use bh_types::refusal::Refusal;
 use sqlite::{Alter, Connection};
 use std::alloc::Global;
 
-/// The last number that a part may have.
+/// The greatest number of a part.
 const LAST_PART: u32 = 10_000;
 
-/// A part that is sent. Its bytes come beside it.
+/// A part to be stored. Its bytes are passed beside it.
 #[derive(Clone, Copy)]
 pub struct NewPart<'a> {
     pub upload: NamedUpload<'a>,
     /// 1 to 10,000.
     pub number: u32,
-    /// When it is put.
+    /// When it is stored.
     pub at: Moment,
 }
 
-/// The body of a part that is replaced goes.
+/// Deletes the body of a part that was replaced.
 fn drop_old<S: Alter>(
     connection: &mut Connection<S>,
     tenant: &TenantName,
@@ -58,8 +58,8 @@ fn drop_old<S: Alter>(
     }
 }
 
-/// The row of a part of this size in the place of that of its number, if there is one, under the tenant's next entry
-/// number.
+/// Writes the row of a part of this size, in place of the one with its number, if there is one,
+/// under the tenant's next entry number.
 fn add_part<S: Alter>(
     connection: &mut Connection<S>,
     part: &NewPart<'_>,
@@ -84,7 +84,7 @@ fn add_part<S: Alter>(
           body = taken.entry;
         }) (taken.entry + 1)) }
 {
-    // No part has so many bytes.
+    // No part has that size.
     if size >= SIZE_END || taken.bytes >= SIZE_END {
         return Err(Trouble::Store);
     }
@@ -100,20 +100,20 @@ fn add_part<S: Alter>(
     or_trouble(place_part(connection, &row, taken.entry + 1, taken.bytes))
 }
 
-/// The number that a part may have.
+/// The part's number, checked.
 fn require_number(number: u32) -> Result<(), Trouble>
     ensures least { OnOk result (1 ≤ number) }
     ensures most { OnOk result (number ≤ 10000) }
 {
-    // No request is read that has such a number.
+    // No request has such a number.
     if number < 1 || number > LAST_PART {
         return Err(Trouble::Store);
     }
     Ok(())
 }
 
-/// Stores a part as its bytes come, under this entry number: its body and its row, before the body of the part that it
-/// replaces goes.
+/// Stores a part while it is received, under this entry number. Its body and its row are written
+/// before the body of the part that it replaces is deleted.
 fn store_part<S: Alter, D: Digester, B: Body>(
     connection: &mut Connection<S>,
     alloc: Global,
@@ -153,7 +153,7 @@ fn store_part<S: Alter, D: Digester, B: Body>(
     }
 }
 
-/// Puts a part into an upload of this number.
+/// Puts a part into the upload with this number.
 fn put_into<S: Alter, D: Digester, B: Body>(
     connection: &mut Connection<S>,
     alloc: Global,
@@ -187,9 +187,10 @@ fn put_into<S: Alter, D: Digester, B: Body>(
     }
 }
 
-/// S3's UploadPart, at a moment that is not after the last stamp, where the request may say which checksum the bytes
-/// have: NoSuchBucket, NoSuchUpload, BadDigest, QuotaExceeded, CounterExhausted. The bytes are stored as they come; where the
-/// head alone decides a refusal they are only counted, and hashed if a checksum is given. The text of their checksum is told.
+/// S3's UploadPart, at a moment that is not after the last stamp; the request may give the bytes'
+/// checksum. Refusals: NoSuchBucket, NoSuchUpload, BadDigest, QuotaExceeded, CounterExhausted. The
+/// bytes are stored while they are received. If the head alone decides a refusal, they are only
+/// counted, and hashed if a checksum is given. Returns the text of their checksum.
 pub fn put_part<S: Alter, D: Digester, B: Body>(
     connection: &mut Connection<S>,
     alloc: Global,

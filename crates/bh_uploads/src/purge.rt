@@ -1,4 +1,4 @@
-//! What goes by the rules of buckets.
+//! Removal of uploads by the rules of buckets.
 ghost use Rattle.std.specs.Prelude.{◌≡◌, ◌++◌, ◌<◌, ◌^◌, false, [], map, flat_map, IfOk, OnOk};
 ghost use Rattle.bh_view.specs.View.{without_uploads, rows_purged};
 ghost use Rattle.bh_view.specs.Grouped.{same_number};
@@ -23,7 +23,7 @@ use bh_types::names::TenantName;
 use sqlite::{Alter, Connection};
 use std::alloc::Global;
 
-/// A number that a column can hold.
+/// Checks that a column can have this number.
 pub fn in_range(number: u64) -> Result<u64, Trouble>
     ensures same { IfOk result (λ n. n ≡ number) }
     ensures small { IfOk result (λ n. n < 2 ^ 62) }
@@ -34,7 +34,7 @@ pub fn in_range(number: u64) -> Result<u64, Trouble>
     Ok(number)
 }
 
-/// The numbers of the uploads of a bucket that are stale at a moment, by its rule.
+/// The numbers of a bucket's uploads that are stale at a moment, by its rule.
 fn rule_stale<S: Alter>(
     connection: &mut Connection<S>,
     alloc: Global,
@@ -90,7 +90,7 @@ fn stale_of_rules<S: Alter>(
     Ok(numbers)
 }
 
-/// What is stale of a tenant's.
+/// A tenant's stale uploads and parts.
 #[derive(Drop)]
 struct StaleUploads {
     /// Their numbers.
@@ -120,7 +120,7 @@ fn stale_uploads<S: Alter>(
     Ok(StaleUploads { numbers, ruled })
 }
 
-/// Takes a tenant's upload of a number away with its parts, if it is there.
+/// Deletes a tenant's upload with this number, and its parts, if it exists.
 pub fn remove_upload<S: Alter>(
     connection: &mut Connection<S>,
     alloc: Global,
@@ -138,7 +138,7 @@ pub fn remove_upload<S: Alter>(
     Ok(())
 }
 
-/// Takes a tenant's uploads of these numbers away with their parts.
+/// Deletes a tenant's uploads with these numbers, and their parts.
 fn remove_uploads<S: Alter>(
     connection: &mut Connection<S>,
     alloc: Global,
@@ -156,10 +156,10 @@ fn remove_uploads<S: Alter>(
     Ok(())
 }
 
-/// Takes a tenant's uploads that are stale at a moment away, by the rules of their buckets (Amazon S3 API Reference,
-/// AbortIncompleteMultipartUpload): their parts go, and the references of these to blocks, and no block. Where
-/// nothing is stale, it is one seek for the tenant's rules and one for each of them. It tells whether any of its buckets has a
-/// rule: where none has, nothing can be stale.
+/// Removes a tenant's uploads that are stale at a moment by the rules of their buckets (Amazon S3
+/// API Reference, AbortIncompleteMultipartUpload). It deletes their parts and the parts' references
+/// to blocks, but no block. If nothing is stale, it takes one seek for the tenant's rules and one
+/// for each rule. Returns whether any of its buckets has a rule: without one, nothing can be stale.
 pub fn purge<S: Alter>(
     connection: &mut Connection<S>,
     alloc: Global,

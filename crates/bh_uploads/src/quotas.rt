@@ -1,4 +1,4 @@
-//! Whether a tenant's quota has room for a part.
+//! Checks that a tenant's quota has room for a part.
 ghost use Rattle.std.specs.Prelude.{◌≡◌, ◌<◌, ◌^◌, IfOk};
 ghost use Rattle.bh_storage.specs.Calls.{Unless, Decides};
 ghost use Rattle.bh_view.specs.View.{view};
@@ -17,15 +17,15 @@ use bh_types::names::TenantName;
 use bh_types::refusal::Refusal;
 use sqlite::{Alter, Connection};
 
-/// What a part replaces.
+/// The part that a new one replaces.
 #[derive(Clone, Copy)]
 struct Replaced {
     bytes: u64,
-    /// The entry number under which they are stored, or `None` where no part has the number.
+    /// The entry number under which they are stored, or `None` if no part has the number.
     body: Option<u64>,
 }
 
-/// What the part of a number has, if it is there.
+/// The part of a number, if there is one, as far as its replacement needs it.
 fn replaced_part<S: Alter>(
     connection: &mut Connection<S>,
     tenant: &TenantName,
@@ -52,7 +52,7 @@ fn replaced_part<S: Alter>(
     }
 }
 
-/// The entry number that a part takes, and what the part has that it replaces.
+/// A new part's entry number, and the part that it replaces.
 #[derive(Clone, Copy, PartialEq, Eq)]
 pub struct PartEntry {
     pub entry: u64,
@@ -62,8 +62,8 @@ pub struct PartEntry {
     pub bytes: u64,
 }
 
-/// The entry number that a part of so many bytes takes: QuotaExceeded, CounterExhausted. What a part of its number
-/// has goes.
+/// The entry number of a new part of `added` bytes. Refusals: QuotaExceeded, CounterExhausted. The
+/// part that it replaces doesn't count.
 pub fn part_entry<S: Alter>(
     connection: &mut Connection<S>,
     tenant: &TenantName,

@@ -24,13 +24,13 @@ use bh_types::refusal::Refusal;
 use sqlite::{Alter, Connection};
 use std::alloc::Global;
 
-/// An upload, as a request names it.
+/// An upload in a request.
 #[derive(Clone, Copy)]
 pub struct NamedUpload<'a> {
     pub tenant: &'a TenantName,
     pub bucket: &'a BucketName,
     pub key: &'a ObjectKey,
-    /// Its id, or `None` where the text that the request gives is none.
+    /// Its id, or `None` if the request's text can't be one.
     pub upload: Option<UploadId>,
 }
 
@@ -42,7 +42,7 @@ pub struct FoundUpload {
     pub number: u64,
 }
 
-/// The number that the tenant's next upload takes: CounterExhausted.
+/// The number of the tenant's next upload. Refusal: CounterExhausted.
 pub fn next_upload<S: Alter>(
     connection: &mut Connection<S>,
     tenant: &TenantName,
@@ -59,14 +59,15 @@ pub fn next_upload<S: Alter>(
     Ok(number)
 }
 
-/// Whether an upload was begun for this bucket and this key.
+/// Whether an upload is for this bucket and this key.
 fn is_of(head: &UploadHead, bucket: &BucketName, key: &ObjectKey) -> bool
     ensures { result ≡ is_begun_for bucket.now key.now (upload_seen head.now) }
 {
     head.bucket.as_str() == bucket.as_str() && head.key.as_slice() == key.as_str().as_bytes()
 }
 
-/// Whether a tenant's upload of a number was begun for this bucket, which is there, and this key: NoSuchUpload.
+/// Fails with NoSuchUpload unless a tenant's upload of a number is for this bucket, which must
+/// exist, and this key.
 fn require_upload<S: Alter>(
     connection: &mut Connection<S>,
     upload: &NamedUpload<'_>,
@@ -80,7 +81,7 @@ fn require_upload<S: Alter>(
         (tables S.Store connection.old) (tables S.Store connection.new) result }
     ensures small { OnOk result (number < 2 ^ 62) }
 {
-    // No counter gives such a number.
+    // No counter reaches this number.
     if number >= COUNTER_END {
         return Err(StepError::Refused(Refusal::NoSuchUpload));
     }
@@ -96,7 +97,7 @@ fn require_upload<S: Alter>(
     }
 }
 
-/// The upload that a request names: NoSuchBucket, NoSuchUpload.
+/// The upload in a request. Refusals: NoSuchBucket, NoSuchUpload.
 pub fn found_upload<S: Alter>(
     connection: &mut Connection<S>,
     upload: &NamedUpload<'_>,

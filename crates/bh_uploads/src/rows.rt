@@ -1,4 +1,4 @@
-//! The SQL texts over uploads and parts, one call for each, and what is read of their rows.
+//! The SQL statements on uploads and parts, one function each, and the values of their rows.
 
 pub mod kept;
 pub mod parts;

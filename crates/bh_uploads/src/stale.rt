@@ -22,7 +22,7 @@ use bh_types::names::TenantName;
 use sqlite::{Alter, Connection, Error, Row};
 use std::alloc::Global;
 
-/// Whose an upload is, and its number.
+/// An upload's tenant and its number.
 #[derive(Drop)]
 struct UploadOwner {
     tenant: String,
@@ -39,7 +39,7 @@ fn read_owner(row: &Row) -> Result<UploadOwner, Error>
     })
 }
 
-/// At most `limit` of the uploads that were begun so many days before a moment as the rules of their buckets say.
+/// At most `limit` of the uploads that are stale at a moment by the rules of their buckets.
 fn past_rows<S: Alter>(
     connection: &mut Connection<S>,
     moment: u64,
@@ -60,7 +60,7 @@ fn past_rows<S: Alter>(
     )
 }
 
-/// Whose the first stale uploads of all tenants are, and their numbers.
+/// The tenants and numbers of the first stale uploads of all tenants.
 fn stale_rows<S: Alter>(
     connection: &mut Connection<S>,
     at: Moment,
@@ -76,7 +76,7 @@ fn stale_rows<S: Alter>(
     Ok(rows)
 }
 
-/// The name that a text is.
+/// The name in a text.
 fn tenant_of(alloc: Global, text: &str) -> Result<TenantName, Trouble>
     ensures { IfOk result (λ name. name ≡ text.now) }
 {
@@ -86,7 +86,7 @@ fn tenant_of(alloc: Global, text: &str) -> Result<TenantName, Trouble>
     }
 }
 
-/// Takes the upload away that a row names.
+/// Deletes the upload that a row names.
 fn remove_row<S: Alter>(
     connection: &mut Connection<S>,
     alloc: Global,
@@ -103,7 +103,7 @@ fn remove_row<S: Alter>(
     Ok(())
 }
 
-/// Takes the uploads away that rows name.
+/// Deletes the uploads that rows name.
 fn remove_rows<S: Alter>(
     connection: &mut Connection<S>,
     alloc: Global,
@@ -120,8 +120,9 @@ fn remove_rows<S: Alter>(
     Ok(())
 }
 
-/// Takes the first uploads of all tenants away that are stale at a moment, by tenant and number and at most `limit` of
-/// them, and tells how many: their parts go, and the references of these to blocks, and no block.
+/// Removes the first uploads of all tenants that are stale at a moment, by tenant and number, at
+/// most `limit` of them. It deletes their parts and the parts' references to blocks, but no block.
+/// Returns how many uploads were removed.
 pub fn remove_stale<S: Alter>(
     connection: &mut Connection<S>,
     alloc: Global,

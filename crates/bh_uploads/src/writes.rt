@@ -12,7 +12,7 @@ use bh_types::counters::COUNTER_END;
 use bh_types::names::TenantName;
 use sqlite::{Alter, Connection};
 
-/// Takes the body of this entry number away.
+/// Deletes the body of this entry number.
 pub fn drop_entry_body<S: Alter>(
     connection: &mut Connection<S>,
     tenant: &TenantName,
@@ -21,7 +21,7 @@ pub fn drop_entry_body<S: Alter>(
     requires { InTransaction S.Store connection.old }
     ensures changes { Changes S.Store connection.old connection.new result (body_dropped (tenant.now, body)) }
 {
-    // No counter gives such a number.
+    // No counter reaches this number.
     if body >= COUNTER_END {
         return Err(Trouble::Store);
     }
@@ -29,7 +29,7 @@ pub fn drop_entry_body<S: Alter>(
     Ok(())
 }
 
-/// Takes bodies away, one after another.
+/// Deletes bodies, one after another.
 fn drop_bodies<S: Alter>(
     connection: &mut Connection<S>,
     tenant: &TenantName,
@@ -44,7 +44,7 @@ fn drop_bodies<S: Alter>(
     Ok(())
 }
 
-/// Takes an upload away with its parts, whose bodies are these.
+/// Deletes an upload with its parts, whose bodies these are.
 pub fn close_upload<S: Alter>(
     connection: &mut Connection<S>,
     tenant: &TenantName,

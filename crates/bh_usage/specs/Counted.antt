@@ -1,4 +1,4 @@
--- What a tenant uses, read of its rows.
+-- A tenant's usage, from its rows.
 use Rattle.std.specs.Prelude.{ℕ, ◌+◌, length, filter, Option, Result}
 use Rattle.std.specs.List.{sum_by}
 use Rattle.std.specs.Result.{result_map_both}
@@ -15,7 +15,7 @@ use Rattle.bh_usage.specs.declared.counts.RowCounts.{RowCounts}
 abbrev pub quota_in : Option State → Result ℕ Refusal
 quota_in s = result_map_both (λ t. t.quota) (λ refusal. refusal) (added_tenant s)
 
--- the bytes that a tenant uses
+-- a tenant's bytes in use
 abbrev pub used_in : Octets → Tables → ℕ
 used_in t tables = bytes_used tables.versions tables.parts t
 
@@ -40,7 +40,7 @@ rows_in t tables = record {
   uploads = length (filter (is_owned_upload t) tables.uploads);
 }
 
--- the usage of a tenant of this quota whose rows come to these counts
+-- the usage of a tenant with this quota and these counts
 abbrev pub usage_told : ℕ → RowCounts → Usage
 usage_told quota rows = record {
   buckets = rows.buckets;

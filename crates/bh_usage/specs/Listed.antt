@@ -1,4 +1,4 @@
--- What the columns of listed keys and tenants stand for.
+-- The meaning of the columns of listed keys and tenants.
 use Rattle.std.specs.Prelude.{ℕ, length, filter}
 use Rattle.std.specs.Str.{IsUtf8}
 use Rattle.std.specs.String.{string_bytes}
@@ -12,7 +12,7 @@ use Rattle.bh_usage.specs.declared.rows.ListedTenant.{ListedTenant}
 abbrev pub name_in : KeyRow → Octets
 name_in k = k.name
 
--- a tenant's name, its quota, and the bytes that its versions and parts have
+-- a tenant's name, its quota, and the bytes of its versions and parts
 pub record Quota : Type 0 where
   pub name : Octets
   pub quota : ℕ
@@ -29,6 +29,6 @@ abbrev pub quota_reading : Reading ListedTenant
 quota_reading =
     read_as (λ (t : Tables × TenantRow). shown_quota (totals_of t.0) t.1) tenant_seen (λ t. quota_in_row t.0 t.1) (λ t. IsUtf8 t.1.tenant)
 
--- as it is told, with how many access keys these tables have of it
+-- a tenant for the operator, with its number of access keys in these tables
 abbrev pub told_with : Tables → Quota → TenantTold
 told_with tables q = record { name = q.name; quota = q.quota; used = q.used; keys = length (filter (is_owned_key q.name) tables.keys) }

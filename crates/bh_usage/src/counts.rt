@@ -7,14 +7,14 @@ use bh_schema::rows::counts::{TenantSum, tenant_sum};
 use bh_schema::rows::tallies::find_tally;
 use sqlite::{Alter, Connection, Error, ErrorCode};
 
-/// How many entries a tenant's keys have.
+/// The numbers of a tenant's entries.
 #[derive(Clone, Copy)]
 pub struct EntryCounts {
-    /// Delete markers.
+    /// The number of delete markers.
     pub markers: u64,
-    /// Keys whose newest entry is no delete marker.
+    /// Keys whose newest entry is not a delete marker.
     pub objects: u64,
-    /// Delete markers left out.
+    /// Without delete markers.
     pub versions: u64,
 }
 
@@ -25,7 +25,7 @@ pub struct ByteTotals {
     pub versions: u64,
 }
 
-/// What a tenant's rows come to.
+/// The counts and sums of a tenant's rows.
 #[derive(Clone, Copy)]
 pub struct RowCounts {
     pub buckets: u64,
@@ -34,7 +34,8 @@ pub struct RowCounts {
     pub uploads: u64,
 }
 
-/// Those of its tally: none of its versions is read. Each tenant has one, so a tenant without is one who isn't there, as no caller has it.
+/// The counts in a tenant's tally; none of its versions is read. Every tenant has a tally; a
+/// missing one means that there is no such tenant, which callers rule out.
 fn entry_counts<S: Alter>(
     connection: &mut Connection<S>,
     tenant: &str,
@@ -55,7 +56,8 @@ fn entry_counts<S: Alter>(
     }
 }
 
-/// The bytes of a tenant who uses so many: those of its parts are added up, and the others are its versions'.
+/// The bytes of a tenant that uses `used` bytes: those of its parts are added up, and the others
+/// are its versions'.
 fn byte_totals<S: Alter>(
     connection: &mut Connection<S>,
     tenant: &str,
@@ -74,7 +76,8 @@ fn byte_totals<S: Alter>(
     }
 }
 
-/// What the rows of a tenant come to, who uses so many bytes. The store refuses a sum of bytes of 2^63 or more.
+/// The counts and bytes of a tenant's rows; the tenant uses `used` bytes. The store refuses a sum
+/// of 2^63 bytes or more.
 pub fn row_counts<S: Alter>(
     connection: &mut Connection<S>,
     tenant: &str,

@@ -1,4 +1,4 @@
-//! What a tenant uses and which access keys it has, from its own rows; and all tenants, from theirs.
+//! A tenant's usage and access keys, from its own rows; and all tenants, from theirs.
 #![tactic(auto)]
 
 mod counts;

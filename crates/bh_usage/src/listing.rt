@@ -14,7 +14,7 @@ use bh_storage::report::TenantReport;
 use sqlite::{Alter, Connection, Error};
 use std::alloc::Global;
 
-/// A tenant, with how many access keys it has.
+/// A tenant, with its number of access keys.
 fn with_keys<S: Alter>(
     connection: &mut Connection<S>,
     alloc: Global,

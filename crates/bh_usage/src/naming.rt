@@ -14,7 +14,7 @@ use bh_types::refusal::Refusal;
 use sqlite::{Alter, Connection};
 use std::alloc::Global;
 
-/// The names of a tenant's access keys, in byte order: NoSuchTenant.
+/// The names of a tenant's access keys, in byte order. Refusal: NoSuchTenant.
 pub fn keys<S: Alter>(
     connection: &mut Connection<S>,
     alloc: Global,

@@ -1,4 +1,4 @@
-//! The SQL texts over the names of access keys and over all tenants, one call for each.
+//! The SQL statements on the names of access keys and on all tenants, one function each.
 ghost use Rattle.std.specs.Prelude.{◌≡◌, map, IfOk, IfErr};
 ghost use Rattle.std.specs.List.{AllByRecursion};
 ghost use Rattle.std.specs.Str.{IsUtf8};
@@ -55,7 +55,7 @@ pub fn key_names<S: Alter>(
     all_of(alloc, &rows)
 }
 
-/// All tenants, by name in byte order, each with the bytes that it uses. No row of another table is read.
+/// All tenants, by name in byte order, each with its bytes in use. No other table is read.
 pub fn tenant_list<S: Alter>(
     connection: &mut Connection<S>,
     alloc: Global,

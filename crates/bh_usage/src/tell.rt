@@ -17,7 +17,7 @@ use bh_types::names::TenantName;
 use bh_types::refusal::Refusal;
 use sqlite::{Alter, Connection};
 
-/// A tenant's quota and what it uses of it, in bytes: NoSuchTenant.
+/// A tenant's quota and use, in bytes. Refusal: NoSuchTenant.
 pub(crate) fn account_of<S: Alter>(
     connection: &mut Connection<S>,
     tenant: &TenantName,
@@ -38,7 +38,7 @@ pub(crate) fn account_of<S: Alter>(
     }
 }
 
-/// The usage of a tenant of this quota whose rows come to these counts. Bytes past 2^64 can't be told.
+/// The usage of a tenant with this quota and these counts. It fails above 2^64 bytes.
 fn told(quota: u64, rows: RowCounts) -> Result<Usage, Trouble>
     ensures { IfOk result (λ usage. usage_view usage ≡ usage_told quota rows) }
 {
@@ -58,8 +58,8 @@ fn told(quota: u64, rows: RowCounts) -> Result<Usage, Trouble>
     })
 }
 
-/// What a tenant uses, of its own rows alone: NoSuchTenant. A sum of bytes that can't be told is trouble of the
-/// store.
+/// A tenant's usage, from its own rows alone. Refusal: NoSuchTenant. A sum of bytes that is too
+/// large is a failure of the store.
 pub fn usage<S: Alter>(
     connection: &mut Connection<S>,
     tenant: &TenantName,

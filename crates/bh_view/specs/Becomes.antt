@@ -1,4 +1,4 @@
--- What a change of the tables is to the tenants.
+-- The effect of a change of the tables on the tenants.
 use Rattle.std.specs.Prelude.{◌≡◌, ◌≢◌, ℕ, true, List, ◌++◌, Option}
 use Rattle.std.specs.List.{AllByRecursion, list_any}
 use Rattle.bh_model.specs.State.{Octets, State}
@@ -9,7 +9,8 @@ use Rattle.bh_view.specs.Blocks.{whole, AreDigests}
 use Rattle.bh_view.specs.Sound.{IsSound}
 use Rattle.bh_view.specs.Bodies.{HasBodies}
 
--- this tenant's state becomes that one; the other tenants' states, the last stamp and the limits stay
+-- this tenant's state becomes that one; the other tenants' states, the last stamp and the limits
+-- don't change
 pub record Becomes (t : Octets) (state : Option State) (old new : Tables) : Type 0 where
   pub shown : view new t ≡ state
   pub others : (u : Octets) → u ≢ t → view new u ≡ view old u
@@ -17,15 +18,15 @@ pub record Becomes (t : Octets) (state : Option State) (old new : Tables) : Type
   pub limits : limits_in new ≡ limits_in old
   pub sound : IsSound new
 
--- the last stamp becomes that one; the limits and all tenants' states stay
+-- the last stamp becomes that one; the limits and all tenants' states don't change
 pub record IsStamped (stamp : ℕ) (old new : Tables) : Type 0 where
   pub latest : latest_of new ≡ stamp
   pub limits : limits_in new ≡ limits_in old
   pub views : (u : Octets) → view new u ≡ view old u
   pub sound : IsSound new
 
--- blocks come or go: the bytes of all bodies, all tenants' states, the last stamp and the limits stay, and each block
--- has the digest of its bytes
+-- blocks are added or deleted: the bytes of all bodies, all tenants' states, the last stamp and the
+-- limits don't change, and each block has the digest of its bytes
 pub record KeepsBodies (digest : Octets → Octets) (old new : Tables) : Type 0 where
   pub bodies : whole new.refs new.blocks ≡ whole old.refs old.blocks
   pub has : HasBodies old → HasBodies new
@@ -35,7 +36,7 @@ pub record KeepsBodies (digest : Octets → Octets) (old new : Tables) : Type 0 
   pub views : (t : Octets) → view new t ≡ view old t
   pub sound : IsSound new
 
--- what all tenants share: no block goes, and each that comes is referenced
+-- what all tenants share: no block is deleted, and each new one is referenced
 pub record KeepsShared (old new : Tables) : Type 0 where
   pub added : List BlockRow
   pub grown : new.blocks ≡ old.blocks ++ added

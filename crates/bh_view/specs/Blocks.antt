@@ -1,4 +1,5 @@
--- Blocks of bytes that all tenants share: the bytes of a body, sound blocks, and the rows once a block is stored.
+-- Blocks of bytes that all tenants share: the bytes of a body, sound blocks, and the rows after a
+-- block is stored.
 use Rattle.std.specs.Prelude.{◌≡◌, ◌≢◌, ℕ, suc, ◌<◌, ◌==◌, if◌then◌else◌, List, [], ◌∷◌, ◌++◌, filter, find, Option}
 use Rattle.std.specs.Option.{option_map_or}
 use Rattle.std.specs.List.{AllByRecursion, list_any}
@@ -13,7 +14,7 @@ use Rattle.bh_view.specs.Grouped.{matching, HasUnique, Refers}
 
 -- ---- sound rows
 
--- no two rows of one name, no two that hold equal bytes, and each reference names a row
+-- no two rows have the same name, no two have equal bytes, and each reference names a row
 pub record AreStored (refs : List RefRow) (blocks : List BlockRow) : Type 0 where
   pub one : HasUnique same_name block_name blocks
   pub once : HasUnique bytes_eq (λ (b : BlockRow). b.bytes) blocks
@@ -38,21 +39,21 @@ pub record IsLeastFree (digest : Octets) (blocks : List BlockRow) (n : ℕ) : Ty
   pub free : matching same_name block_name (digest, n) blocks ≡ []
   pub least : (m : ℕ) → m < n → matching same_name block_name (digest, m) blocks ≢ []
 
--- the row of the digest that holds these bytes
+-- the row of the digest with these bytes
 abbrev pub copy_in : Octets → Octets → List BlockRow → Option BlockRow
 copy_in digest bytes blocks = find (is_copy digest bytes) blocks
 
--- the ordinal that these bytes have or take
+-- the ordinal of the block with these bytes, or of a new one for them
 abbrev pub ord_for : Octets → Octets → List BlockRow → ℕ
 ord_for digest bytes blocks = option_map_or (λ (b : BlockRow). b.ord) (copy_in digest bytes blocks) (free_ord digest blocks)
 
--- the rows once these bytes are stored
+-- the rows after these bytes are stored
 abbrev pub blocks_with : Octets → Octets → List BlockRow → List BlockRow
 blocks_with digest bytes blocks = option_map_or (λ _. blocks) (copy_in digest bytes blocks)
     (blocks ++ record { digest = digest; ord = free_ord digest blocks; bytes = bytes } ∷ [])
 
 -- ---- blocks are removed
 
--- the rows without those of the names of some
+-- the rows without those of some names
 abbrev pub blocks_without : List BlockRow → List BlockRow → List BlockRow
 blocks_without gone blocks = delete_where (λ b. list_any (λ g. is_block (block_name g) b) gone) blocks

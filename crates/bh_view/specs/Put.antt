@@ -1,4 +1,4 @@
--- What a new version or delete marker writes, by the state of its bucket.
+-- The writes of a new version or delete marker, by the state of its bucket.
 use Rattle.std.specs.Prelude.{ℕ, List, [], length}
 use Rattle.sqlite_keyed.specs.Lists.{delete_where}
 use Rattle.bh_types.specs.Checksums.{checksum_text}
@@ -45,15 +45,15 @@ entry_row tenant bucket key seq id moment content = record {
   bytes = bytes_in content;
 }
 
--- ---- what a new one changes
+-- ---- the changes by a new one
 
--- the tenant's row with the counters that go on
+-- the tenant's row with its advanced counters
 abbrev pub counters_row : BucketState → Counts → TenantRow → TenantRow
 counters_row Unversioned c r = record r { next_entry = c.entry }
 counters_row Enabled c r = record r { next_version = c.version; next_entry = c.entry }
 counters_row Suspended c r = record r { next_entry = c.entry }
 
--- the rows that a new one leaves: it replaces the row of `null` where it is `null`
+-- the rows that a new one leaves: if it is `null`, it replaces the row of `null`
 abbrev pub rows_left : BucketState → Octets → Octets → Octets → List VersionRow → List VersionRow
 rows_left Unversioned tenant bucket key versions = delete_where (is_version tenant bucket key 0) versions
 rows_left Enabled tenant bucket key versions = versions

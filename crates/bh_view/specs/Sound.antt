@@ -1,4 +1,4 @@
--- Sound tables: the facts that each row keeps to, by itself and among the others.
+-- Sound tables: the invariants of each row, alone and among the others.
 use Rattle.std.specs.Prelude.{◌≡◌, ℕ, ◌<◌, ◌≤◌, true, false, is_some, List, [], ◌∷◌, length, Option, Some, None, IsTrue}
 use Rattle.std.specs.Str.{IsUtf8}
 use Rattle.std.specs.List.{AllByRecursion, list_any}
@@ -16,7 +16,7 @@ use Rattle.bh_view.specs.View.{TenantRows, rows_of, in_bucket, at_key, of_upload
 
 -- ---- the row of the host
 
--- of version 2, with blocks named by a function that has a number; the last stamp is in seconds since 1970
+-- of version 3, with blocks named by a function that has a number; the last stamp is in seconds since 1970
 pub record IsHostRow (r : HostRow) : Type 0 where
   pub version : r.version ≡ 3
   pub digest : r.digest ≤ 1
@@ -44,13 +44,13 @@ pub record IsKeyRow (r : KeyRow) : Type 0 where
   pub name : IsTrue (is_key_name r.name)
   pub secret : IsTrue (is_secret r.secret)
 
--- one row for a name, and none without the tenant
+-- one row for a name, and each has its tenant
 pub record AreKeys (tenants : List TenantRow) (keys : List KeyRow) : Type 0 where
   pub each : AllByRecursion IsKeyRow keys
   pub one : HasUnique bytes_eq (λ (r : KeyRow). r.name) keys
   pub owned : first tenants ≡ None → keys ≡ []
 
--- a rule is of 1 to 3,650 days
+-- a rule has 1 to 3,650 days
 abbrev pub AreDays : Option ℕ → Type 0
 AreDays None = Unit {0}
 AreDays (Some days) = (1 ≤ days) × (days ≤ 3650)
@@ -61,7 +61,7 @@ pub record IsBucketRow (latest : ℕ) (r : BucketRow) : Type 0 where
   pub state : r.state ≤ 2
   pub days : AreDays r.days
 
--- one row for a name, and none without the tenant
+-- one row for a name, and each has its tenant
 pub record AreBuckets (latest : ℕ) (tenants : List TenantRow) (buckets : List BucketRow) : Type 0 where
   pub each : AllByRecursion (IsBucketRow latest) buckets
   pub one : HasUnique bytes_eq (λ (r : BucketRow). r.bucket) buckets
@@ -76,12 +76,12 @@ pub record IsVersionRow (latest : ℕ) (r : VersionRow) : Type 0 where
   pub stamp : r.stamp ≤ latest
   pub size : r.size ≡ length r.bytes
 
--- a row's numbers were given before the tenant's next ones
+-- a row's numbers are less than the tenant's next ones
 pub record IsBelow (v : VersionRow) (r : TenantRow) : Type 0 where
   pub seq : v.seq < r.next_entry
   pub id : v.id < r.next_version
 
--- no two rows of one number, no two of a key with one id, and none without its bucket
+-- no two rows have the same number, no two of a key the same id, and each has its bucket
 pub record AreVersions (latest : ℕ) (tenants : List TenantRow) (buckets : List BucketRow) (versions : List VersionRow) : Type 0 where
   pub each : AllByRecursion (IsVersionRow latest) versions
   pub one_seq : HasUnique same_number (λ (v : VersionRow). v.seq) versions
@@ -94,7 +94,8 @@ pub record IsUploadRow (latest : ℕ) (r : UploadRow) : Type 0 where
   pub text : IsUtf8 r.okey
   pub begun : r.begun ≤ latest
 
--- no two rows of one number, none without its bucket, and each number was given before the tenant's next one
+-- no two rows have the same number, each has its bucket, and each number is less than the tenant's
+-- next one
 pub record AreUploads (latest : ℕ) (tenants : List TenantRow) (buckets : List BucketRow) (uploads : List UploadRow) : Type 0 where
   pub each : AllByRecursion (IsUploadRow latest) uploads
   pub one : HasUnique same_number (λ (u : UploadRow). u.upload) uploads
@@ -109,8 +110,8 @@ pub record IsPartRow (latest : ℕ) (r : PartRow) : Type 0 where
   pub size : r.size ≡ length r.bytes
   pub checksum : r.checksum ≡ checksum_text r.bytes
 
--- no two rows of one number of an upload, none without its upload; of their bodies none is another's or a version's, and each was
--- given before the tenant's next entry number
+-- no two rows of an upload have one number, and none is without its upload. None of their bodies is
+-- another's or a version's, and each number was given before the tenant's next entry number
 pub record AreParts (latest : ℕ) (tenants : List TenantRow) (versions : List VersionRow) (uploads : List UploadRow) (parts : List PartRow) :
     Type 0 where
   pub each : AllByRecursion (IsPartRow latest) parts
@@ -120,26 +121,27 @@ pub record AreParts (latest : ℕ) (tenants : List TenantRow) (versions : List V
   pub owned : Refers same_number (λ (u : UploadRow). u.upload) uploads (λ (p : PartRow). p.upload) parts
   pub given : AllByRecursion (λ (r : TenantRow). AllByRecursion (λ (p : PartRow). p.body < r.next_entry) parts) tenants
 
--- one row for a bucket, none without its bucket, and a locked bucket is Enabled
+-- one row for a bucket, which exists, and a locked bucket is Enabled
 pub record AreLocks (buckets : List BucketRow) (locks : List LockRow) : Type 0 where
   pub one : HasUnique bytes_eq (λ (l : LockRow). l.bucket) locks
   pub owned : Refers bytes_eq (λ (r : BucketRow). r.bucket) buckets (λ (l : LockRow). l.bucket) locks
   pub enabled : AllByRecursion (λ (r : BucketRow). is_locked r.bucket locks ≡ true → r.state ≡ 1) buckets
 
--- a version that may have a date: one with a number, that is no marker and in a locked bucket
+-- a version that may have a date: one with a number, that is not a marker and in a locked bucket
 pub record MayBeDated (locks : List LockRow) (v : VersionRow) : Type 0 where
   pub numbered : 1 ≤ v.id
   pub content : v.marker ≡ 0
   pub locked : is_locked v.bucket locks ≡ true
 
--- one row for a version, none without its version, and a date is a moment; it may be after the last stamp
+-- one row for a version, none without its version, and a date is a moment; it may be after the last
+-- stamp
 pub record AreRetains (versions : List VersionRow) (locks : List LockRow) (retains : List RetainRow) : Type 0 where
   pub each : AllByRecursion (λ (r : RetainRow). r.until ≤ 251_000_000_000) retains
   pub one : HasUnique same_number (λ (r : RetainRow). r.seq) retains
   pub owned : Refers same_number (λ (v : VersionRow). v.seq) versions (λ (r : RetainRow). r.seq) retains
   pub kept : AllByRecursion (λ v. is_some (date_in retains v) ≡ true → MayBeDated locks v) versions
 
--- the rows of one tenant, of which no moment but a version's date is after the last stamp
+-- the rows of one tenant, with no moment but versions' dates after the last stamp
 pub record AreSound (latest : ℕ) (rows : TenantRows) : Type 0 where
   pub tenants : AreTenants rows.tenants
   pub keys : AreKeys rows.tenants rows.keys

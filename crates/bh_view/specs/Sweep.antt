@@ -1,4 +1,4 @@
--- What a sweep removes at a moment: stale uploads of all tenants, and then blocks that no reference names.
+-- A sweep at a moment: it removes stale uploads of all tenants, and then unreferenced blocks.
 use Rattle.std.specs.Prelude.{ℕ, Bool, ◌+◌, ◌-◌, nat_le, List, [], ◌∷◌, length, take, filter}
 use Rattle.sqlite_keyed.specs.Lists.{sort_by}
 use Rattle.bh_model.specs.State.{is_stale}
@@ -19,21 +19,21 @@ is_due at tables u = is_stale (days_in u.tenant u.bucket tables.buckets) u.begun
 unfoldable pub due_uploads : ℕ → Tables → List UploadRow
 due_uploads at tables = sort_by by_owner (filter (is_due at tables) tables.uploads)
 
--- the tables without some uploads, which go with their parts and the references of the parts' bodies
+-- the tables without some uploads, their parts and the references of the parts' bodies
 abbrev pub without_each : List UploadRow → Tables → Tables
 without_each [] tables = tables
 without_each (u ∷ us) tables = without_each us (without_uploads u.tenant (λ n. same_number n u.upload) tables)
 
 -- ---- the blocks that are due
 
--- those that no reference would name once all of those uploads are gone
+-- those that are unreferenced once all of those uploads are deleted
 unfoldable pub due_blocks : ℕ → Tables → List BlockRow
 due_blocks at tables = sort_by by_name (filter (is_unreferenced (without_each (due_uploads at tables) tables).refs) tables.blocks)
 
 abbrev pub without_blocks : List BlockRow → Tables → Tables
 without_blocks gone tables = rebodied tables tables.refs (blocks_without gone tables.blocks)
 
--- ---- a sweep removes the first so many of what is due
+-- ---- a sweep removes the first of what is due, up to a limit
 
 unfoldable pub uploads_swept : ℕ → ℕ → Tables → List UploadRow
 uploads_swept at limit tables = take limit (due_uploads at tables)
@@ -44,6 +44,6 @@ blocks_swept at limit tables = take (limit - length (due_uploads at tables)) (du
 unfoldable pub swept : ℕ → ℕ → Tables → Tables
 swept at limit tables = without_blocks (blocks_swept at limit tables) (without_each (uploads_swept at limit tables) tables)
 
--- whether nothing that was due is left
+-- whether nothing more is due
 unfoldable pub is_complete : ℕ → ℕ → Tables → Bool
 is_complete at limit tables = nat_le (length (due_uploads at tables) + length (due_blocks at tables)) limit

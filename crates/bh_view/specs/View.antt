@@ -1,4 +1,4 @@
--- One tenant's rows in the tables, and the state of the private machine that they show.
+-- One tenant's rows in the tables, and the private machine's state that they represent.
 use Rattle.std.specs.Prelude.{ℕ, zero, suc, Bool, ◌&&◌, List, [], map, find, Option, option_map, option_and_then}
 use Rattle.std.specs.List.{list_any}
 use Rattle.std.specs.Option.{option_map_or}
@@ -22,7 +22,7 @@ use Rattle.bh_view.specs.Grouped.{first, matching, same_number, grouped, keyed}
 unfoldable pub latest_of : Tables → ℕ
 latest_of tables = option_map_or (λ (r : HostRow). r.latest) (first tables.host) 0
 
--- the limits that the host was made with
+-- the limits that the host was created with
 unfoldable pub limits_in : Tables → HostLimits
 limits_in tables = option_map_or (λ (r : HostRow). record { min_part = r.min_part; max_body = r.max_body }) (first tables.host)
     (record { min_part = 0; max_body = 0 })
@@ -31,20 +31,21 @@ limits_in tables = option_map_or (λ (r : HostRow). record { min_part = r.min_pa
 abbrev pub with_latest : ℕ → Tables → Tables
 with_latest n tables = record tables { host = map (λ (r : HostRow). record r { latest = n }) tables.host }
 
--- ---- uploads that go
+-- ---- uploads that are deleted
 
--- whether a tenant's upload of a number goes, and so a part of it
+-- whether a tenant's upload of a number is deleted, and so its parts
 abbrev pub goes : Octets → (ℕ → Bool) → UploadRow → Bool
 goes t gone u = bytes_eq u.tenant t && gone u.upload
 
 abbrev pub part_goes : Octets → (ℕ → Bool) → PartRow → Bool
 part_goes t gone p = bytes_eq p.tenant t && gone p.upload
 
--- whether a reference is of the body of a part that goes
+-- whether a reference is of the body of a deleted part
 abbrev pub ref_goes : Octets → (ℕ → Bool) → List PartRow → RefRow → Bool
 ref_goes t gone parts r = list_any (λ p. part_goes t gone p && is_of_body (part_name p) r) parts
 
--- the tables without a tenant's uploads of these numbers: their parts go, and the references of the parts' bodies
+-- the tables without a tenant's uploads of these numbers, their parts, and the references of the
+-- parts' bodies
 abbrev pub without_uploads : Octets → (ℕ → Bool) → Tables → Tables
 without_uploads t gone tables = record tables {
   uploads = delete_where (goes t gone) tables.uploads;
@@ -102,7 +103,7 @@ uploads_in = matching bytes_eq (λ u. u.bucket)
 abbrev pub of_upload : ℕ → List PartRow → List PartRow
 of_upload = matching same_number (λ p. p.upload)
 
--- ---- what a row shows
+-- ---- the value of a row
 
 abbrev pub id_of : ℕ → VersionId
 id_of zero = Null
@@ -187,6 +188,6 @@ state_of rows r = record {
 abbrev pub state_shown : TenantRows → Option State
 state_shown rows = option_map (state_of rows) (first rows.tenants)
 
--- the state of the tenant of this name, or none where no tenant has it
+-- the state of the tenant of this name, or none if no tenant has it
 unfoldable pub view : Tables → Octets → Option State
 view tables t = state_shown (rows_of t tables)

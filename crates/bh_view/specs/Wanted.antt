@@ -1,4 +1,4 @@
--- The row of the version or delete marker that a request speaks of.
+-- The row of the version or delete marker that a request names.
 use Rattle.std.specs.Prelude.{Bool, ◌&&◌, List, find, Option, Some, None, option_map, Result}
 use Rattle.std.specs.List.{filter}
 use Rattle.sqlite_keyed.specs.Lists.{sort_by}
@@ -19,13 +19,13 @@ abbrev pub has_row_id : Octets → Octets → Octets → VersionId → VersionRo
 has_row_id tenant bucket key id v =
     bytes_eq v.tenant tenant && (bytes_eq v.bucket bucket && (bytes_eq v.okey key && same_id (id_of v.id) id))
 
--- the newest of the key, or the one of the id
+-- the newest of the key, or the one with the id
 abbrev pub wanted_row : Octets → Octets → Octets → Wanted → List VersionRow → Option VersionRow
 wanted_row tenant bucket key Current rows = first (sort_by newer (filter (is_at tenant bucket key) rows))
 wanted_row tenant bucket key (Named id) rows = find (has_row_id tenant bucket key id) rows
 wanted_row tenant bucket key Unknown rows = None
 
--- what a lookup makes of it
+-- the result of a lookup
 abbrev pub newest_looked : Option VersionRow → Result Version LookupFault
 newest_looked None = not_found NoSuchKey
 newest_looked (Some v) = opened NoSuchKey (entry_of v) (content_of v.marker v)

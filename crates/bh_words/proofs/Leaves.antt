@@ -40,7 +40,7 @@ leaf-fine subcommand.Check = record { fine = ((refl, inl (refl, refl), tt), ((re
 leaf-fine subcommand.Sweep = record { fine = ((refl, inl (refl, refl), tt), ((refl, inl (refl, refl), tt), ((refl, inl (refl, refl), tt), ((refl, inl (refl, refl), tt), ((refl, inr (inl (refl, refl, refl)), tt), ((refl, inr (inr refl), tt), tt)))))); once = refl; negates = refl }
 leaf-fine subcommand.Backup = record { fine = ((refl, inl (refl, refl), tt), ((refl, inl (refl, refl), tt), ((refl, inr (inr refl), tt), tt))); once = refl; negates = refl }
 leaf-fine subcommand.Export = record { fine = ((refl, inl (refl, refl), tt), ((refl, inl (refl, refl), tt), ((refl, inl (refl, refl), tt), ((refl, inr (inr refl), tt), tt)))); once = refl; negates = refl }
-leaf-fine subcommand.Import = record { fine = ((refl, inl (refl, refl), tt), ((refl, inl (refl, refl), tt), ((refl, inr (inr refl), tt), tt))); once = refl; negates = refl }
+leaf-fine subcommand.Import = record { fine = ((refl, inl (refl, refl), tt), ((refl, inl (refl, refl), tt), ((refl, inl (refl, refl), tt), ((refl, inr (inl (refl, refl, refl)), tt), ((refl, inr (inr refl), tt), tt))))); once = refl; negates = refl }
 leaf-fine subcommand.Serve = record { fine = ((refl, inl (refl, refl), tt), ((refl, inl (refl, refl), tt), ((refl, inl (refl, refl), tt), ((refl, inr (inl (refl, refl, refl)), tt), ((refl, inl (refl, refl), tt), ((refl, inl (refl, refl), tt), ((refl, inr (inl (refl, refl, refl)), tt), ((refl, inl (refl, refl), tt), ((refl, inl (refl, refl), tt), ((refl, inl (refl, refl), tt), ((refl, inl (refl, refl), tt), ((refl, inl (refl, refl), tt), ((refl, inr (inr refl), tt), tt))))))))))))); once = refl; negates = refl }
 leaf-fine subcommand.Tell = record { fine = ((refl, inl (refl, refl), tt), ((refl, inl (refl, refl), tt), ((refl, inl (refl, refl), tt), ((refl, inr (inr refl), tt), tt)))); once = refl; negates = refl }
 
@@ -217,7 +217,10 @@ leaf-told subcommand.Import words e =
     let s = leaf subcommand.Import in
     let file = required-value s words (codes "file") _ fine e refl refl in
     let given = required-value s words (codes "from") _ fine e refl refl in
-    rw (file.1, given.1) refl
+    let days = default-value s words (codes "clock-leap") _ fine e refl refl in
+    let days_n = number_in 32 0 3_000_000 days.0 (omega arith) days.2 in
+    let leap = leap-given (rows_of_words subcommand.Import words) _ _ days.1 days_n.1 in
+    rw (file.1, given.1, leap) refl
 leaf-told subcommand.Serve words e =
     let fine = leaf-fine subcommand.Serve in
     let s = leaf subcommand.Serve in

@@ -45,7 +45,7 @@ options subcommand.Check = File ∷ []
 options subcommand.Sweep = File ∷ Limit ∷ At ∷ ClockLeap ∷ Force ∷ []
 options subcommand.Backup = File ∷ To ∷ []
 options subcommand.Export = File ∷ Tenant ∷ To ∷ []
-options subcommand.Import = File ∷ From ∷ []
+options subcommand.Import = File ∷ From ∷ ClockLeap ∷ Force ∷ []
 options subcommand.Serve = File ∷ Port ∷ Count ∷ Log ∷ Timeout ∷ ClockLeap ∷ Force ∷ BlockSize ∷ CacheBlocks ∷ CacheBytes ∷ OperatorPort
     ∷ OperatorSecretFile ∷ []
 options subcommand.Tell = Port ∷ SecretFile ∷ Order ∷ []
@@ -56,18 +56,19 @@ subcommands = subcommand.Script ∷ subcommand.Init ∷ subcommand.TenantAdd ∷
     ∷ subcommand.Sweep
     ∷ subcommand.Backup ∷ subcommand.Export ∷ subcommand.Import ∷ subcommand.Serve ∷ subcommand.Tell ∷ []
 
--- a command of these options
+-- a command with these options
 abbrev pub shape : Text → List OptionName → Shape
 shape name chosen = record (new_shape name) { rules = map rule chosen }
 
--- a command with one more option each, and with one more subcommand each
+-- a command with one more option, and with one more subcommand
 abbrev pub with_options : App → List OptionName → App
 with_options = fold (λ a o. with_rule a (rule o))
 
 abbrev pub with_subcommands : App → List Subcommand → App
 with_subcommands = fold (λ a s. with_subcommand a (shape (word s) (options s)))
 
--- the program's command: one of the subcommands has to be named, and without any word it shows its help; asked for, its version
+-- the program's command: a subcommand is required; without any word it prints its help, and on
+-- request its version
 abbrev pub the_command : App
 the_command = record {
   top = record (new_shape (codes "bucketd")) {

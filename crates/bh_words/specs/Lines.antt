@@ -1,4 +1,4 @@
--- What a command line asks for, as contracts see it.
+-- A parsed command line, as contracts see it.
 use Rattle.std.specs.Prelude.{ℕ, Bool, List, Option, option_map}
 use Rattle.std.specs.String.{string_bytes}
 use Rattle.bh_types.specs.Limits.{HostLimits, HostTuning}
@@ -18,8 +18,8 @@ pub data Secret : Type 0 where
   Written : (secret : Octets) → Secret
   FromInput : Secret
 
--- a subcommand with its values; `count` is how many connections are served, where one was given, and `digest` is none where
--- the word is that of no function
+-- a subcommand with its values; `count` is the number of connections, if one is given, and `digest`
+-- is none if no function has that name
 pub data CommandLine : Type 0 where
   Script : (limits : HostLimits) (tuning : HostTuning) (digest : Option BlockDigest) → CommandLine
   Init : (file : Octets) (limits : HostLimits) (digest : Option BlockDigest) → CommandLine
@@ -35,7 +35,7 @@ pub data CommandLine : Type 0 where
   Sweep : (file : Octets) (limit : ℕ) (clock : ClockGiven) → CommandLine
   Backup : (file : Octets) (to : Octets) → CommandLine
   Export : (file : Octets) (tenant : Octets) (to : Octets) → CommandLine
-  Import : (file : Octets) (given : Octets) → CommandLine
+  Import : (file : Octets) (given : Octets) (leap : Leap) → CommandLine
   Serve : (file : Octets) (port : ℕ) (count : Option ℕ) (log : Bool) (timeout : ℕ) (leap : Leap) (tuning : HostTuning)
       (operator_port : Option ℕ)
       (operator_secret_file : Option Octets) → CommandLine
@@ -60,7 +60,7 @@ command_line (line.Check file) = Check (string_bytes file)
 command_line (line.Sweep file limit clock) = Sweep (string_bytes file) limit clock
 command_line (line.Backup file to) = Backup (string_bytes file) (string_bytes to)
 command_line (line.Export file tenant to) = Export (string_bytes file) (string_bytes tenant) (string_bytes to)
-command_line (line.Import file given) = Import (string_bytes file) (string_bytes given)
+command_line (line.Import file given leap) = Import (string_bytes file) (string_bytes given) leap
 command_line (line.Serve file port count log timeout leap tuning operator secret) =
     Serve (string_bytes file) port count log timeout leap tuning operator (option_map string_bytes secret)
 command_line (line.Tell port secret order) = Tell port (option_map string_bytes secret) (string_bytes order)

@@ -40,11 +40,11 @@ word Order = codes "LINE"
 abbrev pub described : OptionName → Rule
 described o = record (new_rule (word o)) { long = Some (word o) }
 
--- the option may not be missing
+-- the option is required
 abbrev pub required : Rule → Rule
 required a = record a { required = true }
 
--- the word stands by its place, without a name before it
+-- a word by its place, without a name before it
 abbrev pub placed : OptionName → Rule
 placed o = required (new_rule (word o))
 
@@ -68,7 +68,7 @@ preset value a = record a { defaults = decimal value ∷ [] }
 abbrev pub worded : Text → Rule → Rule
 worded value a = record a { defaults = value ∷ [] }
 
--- the greatest number of 64 bits
+-- the maximum of 64 bits
 abbrev pub greatest : ℕ
 greatest = 2 ^ 64 - 1
 

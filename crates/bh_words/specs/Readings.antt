@@ -1,4 +1,4 @@
--- The line that the matches of a command line tell.
+-- A command line's meaning, by its matches.
 use Rattle.std.specs.Prelude.{◌≡◌, ℕ, Bool, false, ◌/◌, ◌^◌, ◌&&◌, List, codes, find, min, nat_le, nat_lt, Option, Some, None, Result, Ok}
 use Rattle.std.specs.Prelude.{Err, if◌then◌else◌}
 use Rattle.std.specs.Option.{option_map_or}
@@ -30,13 +30,13 @@ abbrev pub ◌>>=◌ : {A B : Type 0} → Option A → (A → Option B) → Opti
 None >>= f = None
 (Some a) >>= f = f a
 
--- what a function returned, seen by view, is the answer, unless memory ran out
+-- the result, through view, is the answer, unless memory ran out
 abbrev pub Gives : {X Y : Type 0} → (X → Y) → Result X GivenError → Option Y → Type 0
 Gives view (Ok x) answer = answer ≡ Some (view x)
 Gives view (Err NotGiven) answer = answer ≡ None
 Gives view (Err OutOfMemory) answer = Unit {0}
 
--- what was found for the options of a subcommand
+-- the values found for the options of a subcommand
 abbrev pub rows_in : ArgMatches → List Row
 rows_in m = rows_of (found_of m)
 
@@ -45,7 +45,7 @@ rows_in m = rows_of (found_of m)
 abbrev pub text_at : OptionName → List Row → Option Text
 text_at o rows = first_of (word o) rows
 
--- decimal digits of a number of so many bits, after a plus or none
+-- the decimal digits of a number of some bits, with an optional plus
 abbrev pub number_of : ℕ → Text → Option ℕ
 number_of bits text =
     let digits = without_leading_plus text in
@@ -58,7 +58,7 @@ number_at bits o rows = text_at o rows >>= number_of bits
 abbrev pub is_given : OptionName → List Row → Bool
 is_given o rows = option_map_or (λ text. bytes_eq text (codes "true")) (text_at o rows) false
 
--- `-` stands for standard input
+-- `-` means standard input
 abbrev pub secret_of : Text → Secret
 secret_of text = if bytes_eq text (codes "-") then FromInput else Written text
 
@@ -70,7 +70,7 @@ secret_at rows = do
 abbrev pub at : List Row → Option ℕ
 at rows = number_at 64 option.At rows
 
--- however far the clock may be ahead of the last stamp, or so many days
+-- however far the clock is ahead of the last stamp, or at most some days
 abbrev pub leap_of : Bool → ℕ → Leap
 leap_of force days = if force then Any else Days days
 
@@ -94,11 +94,11 @@ tuning_of block_size cache_blocks =
     if nat_le 1 block_size && (nat_le block_size 1_048_576 && nat_le cache_blocks 65_536)
     then Some (record { block_size = block_size; cache_blocks = cache_blocks }) else None
 
--- as many blocks as so many bytes hold whole, at most as many as may stay in memory
+-- the number of whole blocks in some bytes, at most the maximum of the cache
 abbrev pub blocks_in : ℕ → ℕ → ℕ
 blocks_in bytes block_size = min (bytes / block_size) 65_536
 
--- where bytes are given, the number of blocks doesn't count
+-- if bytes are given, the number of blocks doesn't count
 abbrev pub cache_of : ℕ → ℕ → Option ℕ → ℕ
 cache_of block_size cache_blocks cache_bytes = option_map_or (λ bytes. blocks_in bytes block_size) cache_bytes cache_blocks
 
@@ -114,7 +114,7 @@ tuning_at rows = do
   cache_blocks ← number_at 64 option.CacheBlocks rows
   tuning_of block_size (cache_of block_size cache_blocks (number_at 64 option.CacheBytes rows))
 
--- the digest function of this word
+-- the digest function with this name
 abbrev pub digest_of : Text → Option BlockDigest
 digest_of text = if bytes_eq text (codes "sha256") then Some Sha256 else (if bytes_eq text (codes "fast") then Some Fast else None)
 
@@ -227,7 +227,8 @@ abbrev pub import_ : List Row → Option CommandLine
 import_ rows = do
   file ← text_at option.File rows
   given ← text_at option.From rows
-  Some (line.Import file given)
+  leap ← leap_at rows
+  Some (line.Import file given leap)
 
 abbrev pub serve : List Row → Option CommandLine
 serve rows = do
@@ -267,20 +268,20 @@ line_at subcommand.Tell = tell
 abbrev pub subcommand_named : Text → Option Subcommand
 subcommand_named name = find (λ s. bytes_eq (commands.word s) name) subcommands
 
--- the line that a subcommand's name and matches tell
+-- the line of a subcommand's name and matches
 abbrev pub line_in : Text × List Row → Option CommandLine
 line_in met = do
   subcommand ← subcommand_named met.0
   line_at subcommand met.1
 
--- the line that the matches of a subcommand tell
+-- the line of a subcommand's matches
 abbrev pub line_of : Option (Text × List Row) → Option CommandLine
 line_of met = met >>= line_in
 
--- the line that words tell, by `clap`'s matches for the program's command
+-- the line of some words, by `clap`'s matches for the program's command
 unfoldable pub told_by : List Text → Option CommandLine
 told_by words = line_of (subcommand_of the_command words)
 
--- what `clap` refuses in words, by the kinds of its first fault; none where it takes them
+-- `clap`'s first fault in some words, by its kinds; none if it accepts them
 unfoldable pub faults_of : List Text → Kinds
 faults_of words = fault_of the_command words

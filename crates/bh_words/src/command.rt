@@ -1,4 +1,4 @@
-//! The program's command, as `clap` is told of it.
+//! The program's command, as it is declared to `clap`.
 ghost use Rattle.std.specs.Prelude.{◌≡◌, IfOk, map, false};
 ghost use Rattle.clap.specs.Words.{app_of, shape_of};
 ghost use Rattle.clap.specs.declared.builder.command.Command.TheViews.{out-Command as fields_of};
@@ -17,7 +17,7 @@ pub(crate) fn the_command<'a>(alloc: Global) -> Result<Command<'a>, AllocError>
     ensures { IfOk result (λ c. app_of c ≡ spec.the_command) }
 {
     let bare = Command::new(alloc, "bucketd")
-        .about("A host of S3 buckets for many tenants")
+        .about("An S3-style object store for many tenants in one file")
         .version(VERSION)
         .arg_required_else_help(true)
         .subcommand_required(true);

@@ -1,4 +1,4 @@
-ghost use Rattle.std.specs.Prelude.{◌≡◌, ◌↔◌, ◌⊎◌, IsTrue};
+ghost use Rattle.std.specs.Prelude.{◌≡◌, ◌↔◌, IsTrue};
 ghost use Rattle.clap.specs.Words.{kind_of};
 ghost use Rattle.clap.specs.declared.error.kind.ErrorKind.TheVariants as kind;
 
@@ -7,7 +7,8 @@ use clap::error::ErrorKind;
 use std::alloc::AllocError;
 use std::fmt;
 
-/// Why words are no line: a mistake in them, a request for help or the version, or want of memory.
+/// Why a command line was not parsed: an error in it, a request for help or the version, or lack of
+/// memory.
 ///
 /// Its `Display` is the text for the user, as `clap` words it.
 #[derive(Drop)]
@@ -16,25 +17,14 @@ pub struct LineFault {
 }
 
 impl LineFault {
-    /// Whether the text is a help text: the words asked for one, or named no subcommand.
-    pub fn is_help(&self) -> bool
-        ensures { IsTrue result ↔ ((kind_of self.now.error ≡ kind.DisplayHelp)
-            ⊎ (kind_of self.now.error ≡ kind.DisplayHelpOnMissingArgumentOrSubcommand)) }
-    {
-        matches!(
-            self.error.kind(),
-            ErrorKind::DisplayHelp | ErrorKind::DisplayHelpOnMissingArgumentOrSubcommand
-        )
-    }
-
-    /// Whether the text is the program's name and version, which the words asked for.
+    /// Whether the text is the program's name and version, as the command line asked.
     pub fn is_version(&self) -> bool
         ensures { IsTrue result ↔ (kind_of self.now.error ≡ kind.DisplayVersion) }
     {
         self.error.kind() == ErrorKind::DisplayVersion
     }
 
-    /// Whether memory ran out, so that nothing is known of the words.
+    /// Whether memory ran out, so that nothing is known about the command line.
     pub fn is_memory(&self) -> bool
         ensures { IsTrue result ↔ (kind_of self.now.error ≡ kind.OutOfMemory) }
     {

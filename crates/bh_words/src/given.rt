@@ -15,7 +15,7 @@ use std::alloc::{AllocError, Global};
 /// Why an option has no value.
 #[derive(Clone, Copy)]
 pub(crate) enum GivenError {
-    /// There is none, or it is out of its range.
+    /// The value is missing or out of its range.
     NotGiven,
     /// Memory ran out.
     OutOfMemory,
@@ -114,7 +114,7 @@ pub(crate) fn is_given(given: &ArgMatches<'_>, option: OptionName) -> bool
     }
 }
 
-/// The reading of the clock, if one was given.
+/// The clock's reading, if one was given.
 fn at(given: &ArgMatches<'_>) -> Option<u64>
     ensures { result ≡ spec.at (spec.rows_in given.now) }
 {
@@ -148,7 +148,7 @@ pub(crate) fn clock(given: &ArgMatches<'_>) -> Option<ClockGiven>
     })
 }
 
-/// The number of 32 bits of an option, if it has one.
+/// The 32-bit number of an option, if it has one.
 pub(crate) fn small_number(given: &ArgMatches<'_>, option: OptionName) -> Option<u32>
     ensures { result ≡ spec.number_at 32 option (spec.rows_in given.now) }
 {
@@ -182,7 +182,7 @@ fn port_of(text: &str) -> Option<u16>
     text.parse::<u16>().ok()
 }
 
-/// The port of operators, if one was given.
+/// The operators' port, if one was given.
 pub(crate) fn operator_port(given: &ArgMatches<'_>) -> Option<u16>
     ensures { result ≡ spec.number_at 16 option.OperatorPort (spec.rows_in given.now) }
 {
@@ -208,7 +208,7 @@ fn limits_of(min_part: u64, max_body: u64) -> Option<Limits>
     Limits::new(min_part, max_body)
 }
 
-/// What a process is set to.
+/// The settings of a process.
 #[tactic(auto, unfolding(crate::specs::Readings::tuning_at))]
 pub(crate) fn tuning(given: &ArgMatches<'_>) -> Option<Tuning>
     ensures { result ≡ spec.tuning_at (spec.rows_in given.now) }
@@ -219,7 +219,8 @@ pub(crate) fn tuning(given: &ArgMatches<'_>) -> Option<Tuning>
     tuning_of(block_size, cache_of(block_size, cache_blocks, cache_bytes))
 }
 
-// How many blocks may stay in memory: bytes are heeded rather than a number of blocks.
+// The maximum number of cached blocks: if bytes are given, they decide rather than a number of
+// blocks.
 fn cache_of(block_size: u64, cache_blocks: u64, cache_bytes: Option<u64>) -> u64
     ensures { result ≡ spec.cache_of block_size cache_blocks cache_bytes }
 {
@@ -246,7 +247,7 @@ fn tuning_of(block_size: u64, cache_blocks: u64) -> Option<Tuning>
     Tuning::new(block_size, cache_blocks)
 }
 
-/// The digest function of a new host, or none where the word is that of none.
+/// The digest function of a new host; the inner `None` if no function has that name.
 pub(crate) fn digest(given: &ArgMatches<'_>) -> Option<Option<BlockDigest>>
     ensures { result ≡ spec.digest_at (spec.rows_in given.now) }
 {
@@ -268,7 +269,7 @@ fn digest_of(text: &str) -> Option<BlockDigest>
     None
 }
 
-/// The value, or that there is none.
+/// The value, or `NotGiven` if there is none.
 pub(crate) fn needed<T>(value: Option<T>) -> Result<T, GivenError>
     ensures { spec.Gives (λ x. x) result value }
 {

@@ -1,4 +1,4 @@
-//! The words of the command line.
+//! Parses the command line.
 #![tactic(auto)]
 
 mod command;

@@ -1,4 +1,4 @@
-//! The options of the subcommands, and what each takes.
+//! The options of the subcommands, and their values.
 ghost use Rattle.std.specs.Prelude.{◌≡◌, false};
 ghost use Rattle.clap.specs.Words.{rule_of};
 ghost use Rattle.bh_words.specs.Options as spec;
@@ -7,7 +7,7 @@ use clap::builder::ValueParser;
 use clap::{Arg, ArgAction};
 use std::alloc::Global;
 
-/// An option of a subcommand, or the word that one takes by its place.
+/// An option of a subcommand, or its positional argument.
 #[derive(Clone, Copy)]
 pub(crate) enum OptionName {
     File,
@@ -38,7 +38,7 @@ pub(crate) enum OptionName {
 }
 
 impl OptionName {
-    /// The word that follows `--`.
+    /// The option's word after `--`.
     pub(crate) fn word<'a>(self) -> &'a str
         ensures { result.now ≡ spec.word self }
     {
@@ -73,46 +73,46 @@ impl OptionName {
 
     fn help<'a>(self) -> &'a str {
         match self {
-            OptionName::File => "The host's file",
-            OptionName::To => "The new file; its folder is there, and nothing has its name",
-            OptionName::From => "The file that a tenant was exported to",
-            OptionName::Tenant => "The tenant's name: 1 to 32 of a to z, 0 to 9",
-            OptionName::Name => "The key's name: 1 to 32 of a to z, 0 to 9",
+            OptionName::File => "Path of the host's file",
+            OptionName::To => "Path of the new file; it must not exist, and its directory must",
+            OptionName::From => "Path of a file that export made",
+            OptionName::Tenant => "The tenant's name: 1 to 32 of the characters a-z and 0-9",
+            OptionName::Name => "The key's name: 1 to 32 of the characters a-z and 0-9",
             OptionName::Secret =>
                 "The key's secret: 8 to 64 printable ASCII characters; - reads it from standard input",
-            OptionName::Quota => "How many bytes the tenant may use: 0 to 2^60",
+            OptionName::Quota => "Maximum bytes that the tenant may store: 0 to 2^60",
             OptionName::At =>
-                "The clock's reading, in seconds since 1970; without it the machine's clock is read",
+                "Time of the command, in seconds since 1970; without it, the machine's clock",
             OptionName::ClockLeap =>
-                "How many days the clock may be after the host's last stamp: 0 to 3,000,000",
-            OptionName::Force => "Takes any clock, however far it is after the host's last stamp",
-            OptionName::Limit => "How many uploads and blocks may go: 0 to 2^32 - 1",
-            OptionName::Port => "The port on 127.0.0.1; 0: one that the system chooses",
+                "Maximum days by which the clock may be ahead of the host's last timestamp, and an imported file's ahead of both: 0 to 3,000,000",
+            OptionName::Force =>
+                "Accepts any clock and any imported file, however far it is ahead of the host's last timestamp",
+            OptionName::Limit =>
+                "Maximum number of uploads and blocks to remove, together: 0 to 2^32 - 1",
+            OptionName::Port => "Port on 127.0.0.1; with 0 the system chooses one",
             OptionName::Count =>
-                "How many connections are served: 1 to 2^32 - 1; without it there is no end",
-            OptionName::Log => "Writes a line for each request on standard error",
+                "Ends after this many connections: 1 to 2^32 - 1; without it, never",
+            OptionName::Log => "Logs each request to standard error",
             OptionName::Timeout =>
-                "The seconds to read a request in, and then to write its response: 1 to 3,600",
-            OptionName::MinPart => "The least bytes of a part that isn't the last: 0 to 2^30",
-            OptionName::MaxBody => "The most bytes of a body: 1 to 2^30",
-            OptionName::BlockSize => "The bytes of a block: 1 to 1,048,576",
-            OptionName::CacheBlocks => "How many blocks that were read stay in memory: 0 to 65,536",
+                "Maximum seconds to read a request, and then to write its response: 1 to 3,600",
+            OptionName::MinPart => "Minimum size of each part but the last, in bytes: 0 to 2^30",
+            OptionName::MaxBody => "Maximum size of a request's body, in bytes: 1 to 2^30",
+            OptionName::BlockSize => "Size of new blocks, in bytes: 1 to 1,048,576",
+            OptionName::CacheBlocks => "Maximum number of cached blocks: 0 to 65,536",
             OptionName::CacheBytes =>
-                "So many bytes of blocks stay in memory at most, whatever --cache-blocks says: 0 to 2^36",
-            OptionName::Digest =>
-                "Which function names blocks, as long as the host is there: sha256 or fast",
+                "Maximum bytes of cached blocks, which overrides --cache-blocks: 0 to 2^36",
+            OptionName::Digest => "Block digest, fixed when the host is created: sha256 or fast",
             OptionName::OperatorPort =>
-                "Takes operators' lines on this port on 127.0.0.1, too; 0: one that the system chooses",
+                "Port on 127.0.0.1 for operators' orders; with 0 the system chooses one",
             OptionName::OperatorSecretFile =>
-                "A file of mode 0600 whose first line an operator's line begins with, before a space",
-            OptionName::SecretFile =>
-                "The file that serve was given as --operator-secret-file, if it was",
+                "Path of a file of mode 0600; each order must begin with its first line and a space",
+            OptionName::SecretFile => "Path of the server's --operator-secret-file, if it has one",
             OptionName::Order =>
-                "A JSON object as of a line of a script, without at; - reads it from standard input",
+                "The order, as a JSON object without the member at; - reads it from standard input",
         }
     }
 
-    /// The option as `clap` is told of it.
+    /// The option, as it is declared to `clap`.
     pub(crate) fn arg<'a>(self, alloc: Global) -> Arg<'a>
         ensures rule { rule_of result ≡ spec.rule self }
         ensures local { result.global ≡ false }
@@ -145,7 +145,7 @@ impl OptionName {
         }
     }
 
-    // An option that may not be missing, with any text.
+    // A required option with any text.
     fn text<'a>(self, alloc: Global) -> Arg<'a>
         ensures rule { rule_of result ≡ spec.text self }
         ensures local { result.global ≡ false }
@@ -170,7 +170,7 @@ impl OptionName {
         self.described(alloc).action(ArgAction::SetTrue)
     }
 
-    // A word that may not be missing, with any text, without a name before it.
+    // A required positional argument with any text.
     fn placed<'a>(self, alloc: Global) -> Arg<'a>
         ensures rule { rule_of result ≡ spec.placed self }
         ensures local { result.global ≡ false }

@@ -13,11 +13,11 @@ use crate::readings::line_in;
 use clap::{ArgMatches, Error};
 use std::alloc::{AllocError, Global};
 
-/// The line that words tell. The first word is the program's name, as in `env::args`.
+/// Parses a command line. The first word is the program's name, as in `env::args`.
 ///
-/// The fault is `clap`'s first one: an unknown subcommand or option, an option given twice, a
-/// required one that is missing, a word left over, a number that is none or out of its range; or its
-/// help, where the words ask for it or are none.
+/// The error is `clap`'s first one: an unknown subcommand or option, a repeated option, a missing
+/// one, an extra word, an invalid number. If the words ask for help, or there are none, it is the
+/// help.
 pub fn read_words(alloc: Global, words: &[String]) -> Result<Line, LineFault>
     ensures told { IfOk result (λ line. (spec.faults_of (map string_bytes words.now) ≡ [])
         × (spec.told_by (map string_bytes words.now) ≡ Some (command_line line))) }
@@ -41,7 +41,7 @@ fn matches_of<'a>(alloc: Global, words: &'a [String]) -> Result<ArgMatches<'a>, 
     command.try_get_matches_from(words)
 }
 
-// The line that the subcommand of the matches tells.
+// The line of the matched subcommand.
 #[tactic(auto, using(crate::proofs::Rows::rows_met))]
 fn line_of(alloc: Global, matches: &ArgMatches<'_>) -> Result<Line, GivenError>
     ensures { spec.Gives command_line result (spec.line_of (subcommand_rows_of matches.now)) }

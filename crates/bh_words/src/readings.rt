@@ -1,4 +1,4 @@
-//! The line that each subcommand's values tell.
+//! Each subcommand's line, from its values.
 ghost use Rattle.bh_words.specs.Lines.{command_line};
 ghost use Rattle.bh_words.specs.Readings as spec;
 
@@ -12,7 +12,7 @@ use crate::subcommands::Subcommand;
 use clap::ArgMatches;
 use std::alloc::Global;
 
-/// The line that a subcommand's name and values tell.
+/// The line of a subcommand, by its name and values.
 pub(crate) fn line_in(alloc: Global, name: &str, given: &ArgMatches<'_>) -> Result<Line, GivenError>
     ensures { spec.Gives command_line result (spec.line_in (name.now, spec.rows_in given.now)) }
 {
@@ -216,7 +216,12 @@ fn import(alloc: Global, given: &ArgMatches<'_>) -> Result<Line, GivenError>
 {
     let file = text(alloc, given, OptionName::File)?;
     let from = text(alloc, given, OptionName::From)?;
-    Ok(Line::Import { file, given: from })
+    let leap = needed(leap(given))?;
+    Ok(Line::Import {
+        file,
+        given: from,
+        leap,
+    })
 }
 
 fn serve(alloc: Global, given: &ArgMatches<'_>) -> Result<Line, GivenError>

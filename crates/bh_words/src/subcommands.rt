@@ -54,7 +54,7 @@ static BACKUP: [OptionName; 2] = [File, To];
 
 static EXPORT: [OptionName; 3] = [File, Tenant, To];
 
-static IMPORT: [OptionName; 2] = [File, OptionName::From];
+static IMPORT: [OptionName; 4] = [File, OptionName::From, ClockLeap, Force];
 
 static SERVE: [OptionName; 12] = [
     File,
@@ -81,49 +81,58 @@ impl Subcommand {
         self.texts().0
     }
 
-    /// What it does, for the help.
+    /// Its description, for the help.
     pub(crate) fn about<'a>(self) -> &'a str {
         self.texts().1
     }
 
-    // The subcommand's name, and what it does.
+    // The subcommand's name, and its description.
     fn texts<'a>(self) -> (&'a str, &'a str)
         ensures { result.0.now ≡ spec.word self }
     {
         match self {
             Subcommand::Script => (
                 "script",
-                "Applies events from standard input to a new host in memory, and writes their answers",
+                "Applies events from standard input to a new host in memory, and prints their replies",
             ),
-            Subcommand::Init => ("init", "Makes a host in a file"),
+            Subcommand::Init => ("init", "Creates a host in a file"),
             Subcommand::TenantAdd => ("tenant-add", "Adds a tenant"),
             Subcommand::Quota => ("quota", "Sets a tenant's quota"),
             Subcommand::KeyAdd => ("key-add", "Adds an access key to a tenant"),
-            Subcommand::KeyRemove => ("key-remove", "Removes an access key of a tenant"),
-            Subcommand::Keys => ("keys", "Names a tenant's access keys"),
-            Subcommand::Usage => ("usage", "Says how many bytes a tenant uses"),
-            Subcommand::Tenants => ("tenants", "Names all tenants, and says what each uses"),
-            Subcommand::Report => ("report", "Says how many blocks are stored"),
-            Subcommand::Check => ("check", "Says whether all that a file holds is sound"),
-            Subcommand::Sweep => (
-                "sweep",
-                "Removes stale uploads and blocks that nothing refers to",
+            Subcommand::KeyRemove => ("key-remove", "Removes a tenant's access key"),
+            Subcommand::Keys => ("keys", "Lists a tenant's access keys"),
+            Subcommand::Usage => (
+                "usage",
+                "Prints how many bytes a tenant uses, and its quota",
             ),
+            Subcommand::Tenants => (
+                "tenants",
+                "Lists all tenants, with the bytes that each uses",
+            ),
+            Subcommand::Report => (
+                "report",
+                "Prints the number of stored blocks, and their bytes",
+            ),
+            Subcommand::Check => (
+                "check",
+                "Checks that a host's file is sound, and changes nothing",
+            ),
+            Subcommand::Sweep => ("sweep", "Removes stale uploads and unreferenced blocks"),
             Subcommand::Backup => ("backup", "Copies the host to a new file"),
-            Subcommand::Export => (
-                "export",
-                "Copies a tenant to a host of its own in a new file",
+            Subcommand::Export => ("export", "Copies a tenant to a new host in a new file"),
+            Subcommand::Import => (
+                "import",
+                "Adds the tenant of a file that export made to the host",
             ),
-            Subcommand::Import => ("import", "Adds the tenant of such a file to the host"),
-            Subcommand::Serve => ("serve", "Serves connections on a port"),
+            Subcommand::Serve => ("serve", "Serves requests over HTTP on a port of 127.0.0.1"),
             Subcommand::Tell => (
                 "tell",
-                "Sends an operator's line to a host that serves, and writes the reply",
+                "Sends an operator's order to a running server, and prints the reply",
             ),
         }
     }
 
-    /// Its options, in the order in which its help shows them.
+    /// Its options, in the order of its help.
     pub(crate) fn options(self) -> &'static [OptionName]
         ensures { result.now ≡ spec.options self }
     {
@@ -145,7 +154,7 @@ impl Subcommand {
         }
     }
 
-    /// The subcommand of this name.
+    /// The subcommand with this name.
     pub(crate) fn named(name: &str) -> Option<Subcommand>
         ensures { result ≡ find (λ s. bytes_eq (spec.word s) name.now) spec.subcommands }
     {

@@ -1,4 +1,4 @@
-//! bucketd: a host of S3 buckets for many tenants.
+//! bucketd: an S3-style object store for many tenants in one file.
 #![tactic(auto)]
 
 use bh_commands::carry_out;
@@ -14,13 +14,13 @@ fn end(rt: &impl Print, printed: &Printed) -> io::Result<ExitCode> {
     Ok(ExitCode::from(printed.status))
 }
 
-/// Ends with status 2, as words do that can't be read.
+/// Prints the error of an invalid command line, and ends with status 2.
 fn end_misread(rt: &impl Print, fault: &impl fmt::Display) -> io::Result<ExitCode> {
     print!(rt; "{fault}")?;
     Ok(ExitCode::from(2))
 }
 
-/// Ends with status 1, and says why on standard error.
+/// Prints the cause on standard error, and ends with status 1.
 fn end_fault(rt: &(impl Print + Eprint), fault: &Fault) -> io::Result<ExitCode> {
     println!(rt; "fault")?;
     eprintln!(rt; "bucketd: {fault}")?;

@@ -1,4 +1,4 @@
-//! What a call gives for an input, as a row of a table shows it.
+//! The result of a call, as a row of a table has it.
 
 use bh_types::error::RequestError;
 use bh_types::refusal::Refusal;
@@ -9,9 +9,9 @@ use std::io;
 /// Why a row has no answer.
 #[derive(Clone, Copy, Debug, PartialEq, Eq)]
 pub enum Fault {
-    /// Memory or a store was wanting.
+    /// Memory or a store failed.
     Memory,
-    /// There is no such call, or its input is not of its form.
+    /// There is no such call, or its input doesn't have its form.
     Form,
 }
 
@@ -51,7 +51,7 @@ pub fn refusal(alloc: Global, refusal: Refusal) -> Answer {
     Ok(refusal.number().to_string(alloc)?)
 }
 
-/// The number of a refusal; wanting memory is no answer.
+/// The number of a refusal. Lack of memory is not an answer.
 pub fn refused(alloc: Global, error: RequestError) -> Answer {
     match error {
         RequestError::Refused(why) => refusal(alloc, why),

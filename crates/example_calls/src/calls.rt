@@ -1,4 +1,4 @@
-//! What a row's call gives.
+//! The result of a row's call.
 
 use crate::answer::{Answer, Fault};
 use crate::{documents, operations, requests};
@@ -11,7 +11,8 @@ fn text_answer(alloc: Global, call: &str, input: &[u8]) -> Answer {
     }
 }
 
-/// What a call gives for an input: the calls that take bytes are looked for first, then those that take text.
+/// The result of a call for an input. Calls that take bytes are looked up first, then those that
+/// take text.
 pub fn answer(alloc: Global, call: &str, input: &[u8]) -> Answer {
     match requests::answer(alloc, call, input) {
         Err(Fault::Form) => {}

@@ -37,7 +37,7 @@ fn complete_read(alloc: Global, input: &[u8]) -> Answer {
     }
 }
 
-/// Each part's number, and its checksum where it has one.
+/// Each part's number, and its checksum if it has one.
 fn names_text(alloc: Global, names: &[Named]) -> Answer {
     let mut shown = String::new(alloc);
     for name in names {
@@ -58,7 +58,8 @@ fn name_text(alloc: Global, name: &Named) -> Result<String, AllocError> {
     }
 }
 
-/// The document of the parts 1 to a number, and what stands after them: how many are read, and the last one's number.
+/// The document of the parts 1 to a number, and the text after them: how many are read, and the
+/// last one's number.
 pub fn many_parts(alloc: Global, input: &str) -> Answer {
     let (last, more) = input.split_once(' ').unwrap_or((input, ""));
     let body = many_parts_body(alloc, number(last)?, more)?;

@@ -1,17 +1,17 @@
-//! The escapes of tables: `\n`, `\r`, `\t` and `\0` as in Rust, `\s` for a space, `\\` for a backslash, `\xHH` for a
-//! byte, and `\*62(TEXT\)` for a text 62 times.
+//! The escapes of tables: `\n`, `\r`, `\t` and `\0` as in Rust, `\s` for a space and `\\` for a
+//! backslash. `\xHH` is a byte, and `\*62(TEXT\)` a text 62 times.
 
 use crate::answer::Fault;
 use std::alloc::Global;
 
-/// A text that is repeated: where it begins among the bytes, and how often it is to stand.
+/// A repeated text: its place among the bytes, and how often it is repeated.
 #[derive(Clone, Copy)]
 struct Repeated {
     from: usize,
     count: usize,
 }
 
-/// The bytes that a text with escapes stands for.
+/// The bytes of a text with escapes.
 pub fn unescaped(alloc: Global, text: &str) -> Result<Vec<u8>, Fault> {
     let mut bytes = Vec::new(alloc);
     let mut repeated = Repeated { from: 0, count: 1 };
@@ -30,7 +30,7 @@ pub fn unescaped(alloc: Global, text: &str) -> Result<Vec<u8>, Fault> {
     Ok(bytes)
 }
 
-/// Appends what a piece that follows a backslash stands for.
+/// Appends the bytes of a piece after a backslash.
 fn after_backslash(
     alloc: Global,
     bytes: &mut Vec<u8>,

@@ -1,4 +1,5 @@
-//! Calls of the crates below, as the rows of the program `examples` ask them: what each gives for an input, as text.
+//! Calls of the crates below, for the rows of the program `examples`: the result for an input, as
+//! text.
 #![tactic(auto)]
 
 pub mod answer;

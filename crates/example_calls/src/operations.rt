@@ -1,4 +1,4 @@
-//! What requests ask for.
+//! Requests' operations.
 
 use crate::answer::{Answer, Fault, refusal, refused, text};
 use crate::documents::many_parts;
@@ -42,7 +42,7 @@ fn head_of(alloc: Global, text: &str) -> Result<String, AllocError> {
     Ok(head)
 }
 
-/// What a request of the tenant green asks for, or the number of its refusal.
+/// The operation of a request of the tenant green, or the number of its refusal.
 fn asks(alloc: Global, input: &str) -> Answer {
     let head = head_of(alloc, input)?;
     match read_request(head.as_bytes(), &Limits::default()) {
@@ -51,8 +51,8 @@ fn asks(alloc: Global, input: &str) -> Answer {
     }
 }
 
-/// What a GET without header fields asks for whose target is these bytes: no such target comes out of the bytes of a
-/// request.
+/// The operation of a GET without header fields whose target is these bytes. Requests' bytes can't
+/// have such targets.
 pub fn asks_of_target(alloc: Global, target: &[u8]) -> Answer {
     let head = Head {
         method: b"GET",

@@ -24,7 +24,7 @@ fn moment_or_none(alloc: Global, moment: Option<Moment>) -> Answer {
     }
 }
 
-/// When an upload is stale that began at a reading, under a rule of so many days.
+/// When an upload that began at a reading becomes stale under a rule of some days.
 fn abort(alloc: Global, input: &str) -> Answer {
     let (begun, days) = input.split_once(' ').ok_or(Fault::Form)?;
     let begun = Moment::from_reading(number(begun)?).ok_or(Fault::Form)?;
@@ -35,7 +35,7 @@ fn abort(alloc: Global, input: &str) -> Answer {
     Ok(moment_text(alloc, abort_moment(begun, days as u16))?)
 }
 
-/// The digest that a checksum's text gives, in hexadecimal digits.
+/// The digest of a checksum's text, in hexadecimal digits.
 fn checksum(alloc: Global, input: &str) -> Answer {
     match read_checksum(alloc, input)? {
         Some(digest) => Ok(hex::encode(alloc, digest.as_slice())?),

@@ -1,4 +1,4 @@
-//! Requests as they are read from bytes, and lines of scripts.
+//! Requests that are parsed from bytes, and lines of scripts.
 
 use crate::answer::{Answer, Fault, refusal, text};
 use crate::operations::asks_of_target;
@@ -12,7 +12,7 @@ use bh_types::names::KeyName;
 use bh_types::refusal::Refusal;
 use std::alloc::Global;
 
-/// The calls that take bytes; no answer is one of a call that takes text.
+/// The calls that take bytes; no answer if the call takes text.
 pub fn answer(alloc: Global, call: &str, input: &[u8]) -> Answer {
     match call {
         "request" => request(alloc, input),
@@ -60,7 +60,7 @@ fn request_refusal(alloc: Global, input: &[u8]) -> Answer {
     }
 }
 
-/// The tenant whose request it is, the access key that it names and the secret.
+/// The tenant of a request, its access key and its secret.
 fn credentials(alloc: Global, input: &[u8]) -> Answer {
     match read(input) {
         Ok(request) => credentials_text(alloc, &request),
@@ -94,7 +94,7 @@ fn beginnings(alloc: Global, input: &[u8]) -> Answer {
     Ok(shown)
 }
 
-/// The event that a line of a script tells.
+/// The event in a script's line.
 fn line(alloc: Global, input: &[u8]) -> Answer {
     match read_line(alloc, input)? {
         Some(Event::Http { reading, bytes }) => http_text(alloc, reading, bytes.as_slice()),

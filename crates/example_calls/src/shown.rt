@@ -1,4 +1,4 @@
-//! An operation as text: its name, and what it was asked with.
+//! An operation as text: its name and its arguments.
 
 use crate::words::wanted_text;
 use Word::{
@@ -17,12 +17,12 @@ use bh_types::moment::{Moment, moment_text};
 use bh_types::wanted::Wanted;
 use std::alloc::{AllocError, Global};
 
-/// What an operation is asked with.
+/// An argument of an operation.
 #[derive(Clone, Copy)]
 enum Word<'a> {
     Nothing,
     Bucket(&'a BucketName),
-    /// That a bucket is to be locked.
+    /// Whether a bucket is to be locked.
     Locked,
     Object(&'a ObjectName),
     Source(&'a ObjectName),
@@ -31,7 +31,7 @@ enum Word<'a> {
     Number(u64),
     /// A header field's text, or `none`.
     Field(&'a Option<Bytes>),
-    /// The date that is given, or `no date` where it isn't given as it should be.
+    /// The given date, or `no date` if it is invalid.
     Date(&'a Option<Moment>),
     Page(&'a Page),
     /// A token's bytes in hexadecimal digits, or `first`.
@@ -70,7 +70,7 @@ const fn date_word<'a>(date: &'a Option<Option<Moment>>) -> Word<'a> {
     }
 }
 
-/// An operation and what it was asked with, on one line.
+/// An operation and its arguments, on one line.
 pub fn operation_text(alloc: Global, operation: &Operation) -> Result<String, AllocError> {
     let (name, words) = operation_words(operation);
     let mut text = String::from_str(alloc, name)?;

@@ -1,5 +1,5 @@
-//! Events that are drawn from a table: each is answered with the same bytes where it is applied, and where it comes over a
-//! connection in memory, and none is told of trouble.
+//! Events that are drawn from a table. Each is answered with the same bytes whether it is applied
+//! directly or comes over a connection in memory, and none fails.
 
 ghost use Rattle.bh_storage.specs.Calls.{Clean, IsAtRest};
 
@@ -24,10 +24,10 @@ use std::alloc::{AllocError, Global};
 use std::rt::Files;
 use std::{fs, io};
 
-/// So many events are drawn.
+/// How many events are drawn.
 const DRAWS: usize = 500;
 
-/// So many seconds lie between two: in 144 a day passes.
+/// The seconds between two events: 144 events take a day.
 const STEP: u64 = 600;
 
 /// The number after this one (S. K. Park, K. W. Miller and P. K. Stockmeyer, "Technical Correspondence", Communications of the
@@ -46,7 +46,7 @@ fn lines_of(alloc: Global, table: &str) -> Result<Vec<&str>, AllocError> {
     Ok(lines)
 }
 
-/// Adds the event of a line, which comes after the others.
+/// Appends the event of a line.
 fn add(alloc: Global, events: &mut Vec<Event>, line: &str) -> Result<(), Fault> {
     let event = read_line(alloc, line.as_bytes())?.ok_or(Fault::Form)?;
     let later = STEP.saturating_mul(events.len() as u64);
@@ -88,7 +88,7 @@ fn add_drawn(alloc: Global, events: &mut Vec<Event>, lines: &[&str]) -> Result<(
     Ok(())
 }
 
-/// The events of the lines up to the first empty one, and those that are drawn from the others.
+/// The events of the lines up to the first empty one, and events drawn from the others.
 fn drawn(alloc: Global, table: &str) -> Result<Vec<Event>, Fault> {
     let (first, others) = table.split_once("\n\n").ok_or(Fault::Form)?;
     let mut events = Vec::new(alloc);
@@ -103,7 +103,7 @@ fn is_whole(passed: &Passed, told: &Told) -> bool {
     passed.served.ended == End::Whole && is_told(passed.served.stamp, passed.out.as_slice(), told)
 }
 
-/// Whether an event is answered as told, over a connection if it is a request.
+/// Whether an event gets the expected reply, over a connection if it is a request.
 fn is_alike<H: Storage>(
     alloc: Global,
     routes: &Routes,
@@ -126,7 +126,7 @@ fn is_alike<H: Storage>(
     is_whole(&passed, told)
 }
 
-/// How many events are answered as told, up to the first that isn't.
+/// How many events get the expected replies, up to the first that doesn't.
 fn all_alike<H: Storage>(
     alloc: Global,
     routes: &Routes,
@@ -151,7 +151,8 @@ fn all_alike<H: Storage>(
     Count { runs, is_well }
 }
 
-/// How many events a new host answers as told, up to the first that it doesn't, and the rows of its tables afterwards.
+/// How many events get the expected replies from a new host, up to the first that doesn't, and the
+/// rows of its tables then.
 fn served(alloc: Global, events: &[Event], told: &[Told]) -> Result<(Count, String), Fault> {
     let routes = Routes::new(alloc)?;
     let connection = Connection::open_in_memory(alloc)?;
@@ -187,7 +188,7 @@ fn both_ways(alloc: Global, table: &str) -> Result<Count, Fault> {
     })
 }
 
-/// Whether events that are drawn from a table are answered alike, applied and served.
+/// Whether events that are drawn from a table get the same replies, applied and served.
 pub fn check(rt: &(impl Files + Print + Eprint + AllocGlobal), name: &str) -> io::Result<bool> {
     let alloc = rt.alloc();
     let table = fs::read_to_string(rt, format!(in alloc; "events/{name}.txt")?)?;

@@ -1,4 +1,4 @@
-//! The blocks that a host of any digest function has after objects were put and deleted, and sweeps.
+//! The blocks of a host with any digest function after puts, deletes and sweeps.
 
 use crate::digest_runs::answers;
 use crate::digesters::{Constant, Parity};
@@ -18,16 +18,16 @@ const START: &str = r#"{"at":0,"op":"tenant-add","tenant":"green","quota":100000
 const BLOCKS: &str =
     "SELECT ord || ' ' || CAST(bytes AS TEXT) || ',' FROM blocks ORDER BY ord, bytes";
 
-/// `DIGEST: STEP; STEP..`: what sweeps and reports are answered, then the blocks, each with its ordinal. DIGEST is
-/// `constant`, `parity` (of the number of bytes), `sha256` or `fast`.
+/// `DIGEST: STEP; STEP..`: the replies to sweeps and reports, then the blocks, each with its
+/// ordinal. DIGEST is `constant`, `parity` (of the number of bytes), `sha256` or `fast`.
 pub fn answer(alloc: Global, input: &str) -> Answer {
     let (digest, steps) = input.split_once(": ").ok_or(Fault::Form)?;
     let (text, _cached) = answer_keeping(alloc, digest, None, steps)?;
     Ok(text)
 }
 
-/// `COUNT DIGEST: STEP; STEP..`: the same of a host that keeps so many blocks in memory, with the bytes that were read, and first how
-/// many it keeps at the end.
+/// `COUNT DIGEST: STEP; STEP..`: the same on a host with a cache of COUNT blocks, with the bytes
+/// that were read, and first the number of cached blocks at the end.
 pub fn answer_cached(alloc: Global, input: &str) -> Answer {
     let (count, rest) = input.split_once(' ').ok_or(Fault::Form)?;
     let (digest, steps) = rest.split_once(": ").ok_or(Fault::Form)?;
@@ -84,13 +84,13 @@ fn push_event(
     script.push_str(request.as_str())
 }
 
-/// `store BYTES`: an object of these bytes is put and deleted, so that no reference names its block.
+/// `store BYTES`: puts and deletes an object of these bytes, so that no reference names its block.
 fn push_store(alloc: Global, script: &mut String, bytes: &str) -> Result<(), AllocError> {
     push_event(alloc, script, "PUT /plans/x", bytes)?;
     push_event(alloc, script, "DELETE /plans/x", "")
 }
 
-/// `fill COUNT`: so is an object of the numbers below COUNT, a block of four digits each.
+/// `fill COUNT`: the same with an object of the numbers below COUNT, a block of four digits each.
 fn push_numbers(alloc: Global, script: &mut String, count: u64) -> Result<(), AllocError> {
     let mut body = String::new(alloc);
     for number in 0..count {
@@ -99,7 +99,7 @@ fn push_numbers(alloc: Global, script: &mut String, count: u64) -> Result<(), Al
     push_store(alloc, script, body.as_str())
 }
 
-/// `put KEY BYTES`, `get KEY` and `delete KEY`: the object of this key is put, read and deleted.
+/// `put KEY BYTES`, `get KEY` and `delete KEY`: puts, reads and deletes the object with this key.
 fn push_request(
     alloc: Global,
     script: &mut String,
@@ -143,7 +143,7 @@ fn bytes_read(reply: &str) -> Option<&str> {
     Some(body)
 }
 
-/// The bytes that were read where these are told, or all of a reply.
+/// The bytes that were read, if they are asked for, or the whole reply.
 fn shown_of(reply: &str, tells_reads: bool) -> &str {
     if tells_reads {
         return bytes_read(reply).unwrap_or(reply);
@@ -151,7 +151,8 @@ fn shown_of(reply: &str, tells_reads: bool) -> &str {
     reply
 }
 
-/// What a sweep or a report was answered, or the bytes that were read where these are told, in brackets.
+/// The reply to a sweep or a report, or the bytes that were read if they are asked for, in
+/// brackets.
 fn push_told(
     alloc: Global,
     text: &mut String,

@@ -1,4 +1,5 @@
-//! Connections that break at each byte, on hosts in memory: as the request is read, and as the answer goes out.
+//! Connections that break at each byte, on hosts in memory: while the request is read, and while
+//! the answer is sent.
 
 ghost use Rattle.bh_storage.specs.Calls.{Clean, IsAtRest};
 
@@ -29,7 +30,7 @@ struct Turn<'a> {
     asked: Sent<'a>,
 }
 
-/// What became of a connection, and the rows of the host's tables afterwards.
+/// The result of a connection, and the rows of the host's tables afterwards.
 #[derive(Drop)]
 struct Ending {
     passed: Passed,
@@ -49,7 +50,7 @@ fn pass<H: Storage>(
     Ok(serve(alloc, routes, host, turn.asked, cut))
 }
 
-/// A request's connection to a new host that has had the events before it.
+/// A request's connection to a new host after the earlier events.
 fn ending_of(alloc: Global, turn: Turn<'_>, cut: Cut) -> Result<Ending, Fault> {
     let routes = Routes::new(alloc)?;
     let connection = Connection::open_in_memory(alloc)?;
@@ -100,7 +101,8 @@ fn is_begun(ending: &Ending, whole: &Ending, count: usize) -> bool {
         && ending.rows.as_str() == whole.rows.as_str()
 }
 
-/// Whether nothing is answered or changed where the reader fails before the last byte that is read, and all is where it fails then.
+/// Whether nothing is answered or changed if the reader fails before the last byte that is read,
+/// and everything is if it fails then.
 fn reads_break(alloc: Global, turn: Turn<'_>, whole: &Ending) -> Result<bool, Fault> {
     let rows = rows_after(alloc, turn.before)?;
     let mut cut = WHOLE;
@@ -121,7 +123,8 @@ fn taken(turn: Turn<'_>, whole: &Ending) -> usize {
     turn.asked.bytes.len().saturating_sub(whole.passed.unread)
 }
 
-/// Whether the event is applied, and the answer's first bytes go out, where the writer takes no more than these.
+/// Whether the event is applied, and the answer's first bytes are sent, if the writer takes no more
+/// than these.
 fn writes_break(alloc: Global, turn: Turn<'_>, whole: &Ending, fails: bool) -> Result<bool, Fault> {
     let mut cut = Cut { fails, ..WHOLE };
     for count in 0..whole.passed.out.len() {
@@ -136,7 +139,7 @@ fn writes_break(alloc: Global, turn: Turn<'_>, whole: &Ending, fails: bool) -> R
     Ok(is_whole(&ending, whole))
 }
 
-/// Whether a request is served as it should be wherever its connection breaks.
+/// Whether a request is served correctly wherever its connection breaks.
 fn is_well_broken(alloc: Global, turn: Turn<'_>, whole: &Ending) -> Result<bool, Fault> {
     Ok(
         is_whole(whole, whole)
@@ -179,7 +182,7 @@ fn all_breaks(alloc: Global, events: &[Event]) -> Result<Count, Fault> {
     })
 }
 
-/// Whether each request of a stored script is served as it should be wherever its connection breaks.
+/// Whether each request of a stored script is served correctly wherever its connection breaks.
 pub fn check(rt: &(impl Files + Print + Eprint + AllocGlobal), name: &str) -> io::Result<bool> {
     let events = events_of(rt, name)?;
     match all_breaks(rt.alloc(), events.as_slice()) {

@@ -26,7 +26,7 @@ use std::{fs, io};
 
 type Request<'a> = Arrival<Untold<Chain<&'a [u8], Last>>, Untold<Narrow>>;
 
-/// The connection that brings an event, if it is a request.
+/// The connection for an event, if it is a request.
 fn request<'a>(alloc: Global, event: &'a Event, cut: &str) -> Option<Request<'a>>
     ensures { IfSome result IsGoing }
 {
@@ -44,7 +44,7 @@ fn request<'a>(alloc: Global, event: &'a Event, cut: &str) -> Option<Request<'a>
     }
 }
 
-/// Adds the connection that brings an event, if it is a request.
+/// Adds the connection for an event, if it is a request.
 fn add<'a>(
     alloc: Global,
     arrivals: &mut Vec<Request<'a>>,
@@ -60,7 +60,7 @@ fn add<'a>(
     Ok(())
 }
 
-/// The connections that bring the requests of a script, each cut as the line of the same number says.
+/// The connections with a script's requests, each cut as the line of the same number tells.
 fn requests<'a>(
     alloc: Global,
     events: &'a [Event],
@@ -76,7 +76,7 @@ fn requests<'a>(
     Ok(arrivals)
 }
 
-/// Adds what an operator is answered, and a line's end; nothing of a request.
+/// Appends the reply to an operator and a line feed; nothing for a request.
 fn order_one<H: Storage>(
     alloc: Global,
     routes: &Routes,
@@ -96,7 +96,7 @@ fn order_one<H: Storage>(
     Ok(())
 }
 
-/// What an operator is answered, a line's end after each answer.
+/// The replies to an operator, each with a line feed.
 fn order<H: Storage>(
     alloc: Global,
     routes: &Routes,
@@ -113,7 +113,8 @@ fn order<H: Storage>(
     Ok(())
 }
 
-/// The bytes that went out, how the connection ended where it was cut off, and how many bytes stayed unread.
+/// The bytes that were sent, how the connection ended if it was cut off, and how many bytes stayed
+/// unread.
 fn tell(alloc: Global, served: Served, arrival: Request<'_>, text: &mut Vec<u8>) -> io::Result<()> {
     let unread = arrival.reader.into_inner().0.into_inner().0.len();
     text.extend_from_slice(arrival.writer.into_inner().0.held.as_slice())?;
@@ -130,7 +131,8 @@ fn tell(alloc: Global, served: Served, arrival: Request<'_>, text: &mut Vec<u8>)
     Ok(())
 }
 
-/// What a script is answered whose operator's commands come first, and its requests over connections.
+/// The replies to a script: first those to operators' commands, and then those to requests over
+/// connections.
 fn answers<H: Storage>(
     alloc: Global,
     routes: &Routes,
@@ -150,7 +152,7 @@ fn answers<H: Storage>(
     Ok(text)
 }
 
-/// A file of the scripts, or nothing where it isn't there.
+/// A file of the scripts, or nothing if it is missing.
 fn stored(rt: &(impl Files + AllocGlobal), name: &str, ending: &str) -> io::Result<String> {
     match fs::read_to_string(rt, format!(in rt.alloc(); "scripts/{name}{ending}")?) {
         Err(e) if e.kind() == ErrorKind::NotFound => Ok(String::new(rt.alloc())),
@@ -173,7 +175,8 @@ fn answered(alloc: Global, events: &[Event], cuts: &str) -> io::Result<Vec<u8>> 
     }
 }
 
-/// Whether a stored script whose requests come over connections is answered with what is expected, byte for byte.
+/// Whether a stored script, with its requests over connections, gets the expected replies, byte for
+/// byte.
 pub fn check(rt: &(impl Files + Print + AllocGlobal), name: &str) -> io::Result<bool> {
     let script = stored(rt, name, ".in")?;
     let cuts = stored(rt, name, ".cuts")?;

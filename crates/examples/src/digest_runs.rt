@@ -1,5 +1,5 @@
-//! Stored scripts on hosts of other digest functions: they are answered alike, but for reports, which tell how many blocks
-//! have the digest of others.
+//! Stored scripts on hosts with other digest functions. They get the same replies, except for
+//! reports, which count blocks with another one's digest.
 
 use crate::digesters::{Constant, Parity};
 use bh_blocks::digester::{FastDigester, Sha256Digester};
@@ -18,12 +18,12 @@ use std::alloc::Global;
 use std::rt::Files;
 use std::{fs, io};
 
-/// Blocks of 4 bytes, none of which is kept in memory, and parts of no fewer but for the last.
+/// Blocks of 4 bytes, no cache, and parts of at least 4 bytes except for the last.
 pub fn settings() -> Option<(Limits, Tuning)> {
     settings_keeping(0)
 }
 
-/// Blocks of 4 bytes, of which so many are kept in memory.
+/// Blocks of 4 bytes, and a cache of `cache_blocks` of them.
 fn settings_keeping(cache_blocks: u64) -> Option<(Limits, Tuning)> {
     Some((
         Limits::new(4, DEFAULT_MAX_BODY)?,
@@ -31,17 +31,18 @@ fn settings_keeping(cache_blocks: u64) -> Option<(Limits, Tuning)> {
     ))
 }
 
-/// What events are answered, and a host after them.
+/// The replies to events, and the host after them.
 #[derive(Drop)]
 pub struct Answered {
     pub dones: Vec<Told>,
-    /// How many blocks it keeps in memory.
+    /// Its number of cached blocks.
     pub cached: usize,
     /// Its tables.
     pub connection: Connection<MemStore>,
 }
 
-/// What events are answered by a new host that keeps so many blocks in memory; none where no host was made.
+/// The replies to events of a new host with a cache of `cache_blocks` blocks; `None` if no host was
+/// made.
 pub fn answers<D: Digester + Drop>(
     alloc: Global,
     digester: D,
@@ -53,7 +54,7 @@ pub fn answers<D: Digester + Drop>(
     let Some((limits, tuning)) = settings_keeping(cache_blocks) else {
         return Ok(None);
     };
-    // No event tells which function the host's row names.
+    // No event returns the function in the host's row.
     let Ok(host) = create(connection, digester, BlockDigest::Sha256, limits, tuning) else {
         return Ok(None);
     };
@@ -67,7 +68,7 @@ pub fn answers<D: Digester + Drop>(
     }))
 }
 
-/// Whether all events but reports were answered alike.
+/// Whether all events but reports got the same replies.
 fn are_alike(events: &[Event], ones: &[Told], others: &[Told]) -> bool {
     if ones.len() != others.len() {
         return false;
@@ -80,7 +81,7 @@ fn are_alike(events: &[Event], ones: &[Told], others: &[Told]) -> bool {
     true
 }
 
-/// Whether a host of this digest function, which keeps 8 blocks in memory, answers events as was expected.
+/// Whether a host with this digest function and a cache of 8 blocks replies as expected.
 fn answers_alike<D: Digester + Drop>(
     alloc: Global,
     digester: D,
@@ -105,8 +106,8 @@ fn all_answer_alike(alloc: Global, events: &[Event]) -> Result<bool, Trouble> {
     )
 }
 
-/// Whether hosts of the fast digest function, of a constant one, and of one with two values, which keep blocks in memory, answer a
-/// stored script as one of SHA-256 does that keeps none.
+/// Whether three hosts reply to a stored script as one with SHA-256 and no cache does. They use the
+/// fast digest function, a constant one, and one with two values, each with a cache.
 pub fn check(rt: &(impl Files + Print + AllocGlobal), name: &str) -> io::Result<bool> {
     let alloc = rt.alloc();
     let text = fs::read_to_string(rt, format!(in alloc; "scripts/{name}.in")?)?;

@@ -1,10 +1,10 @@
-//! Digest functions of which many bytes have one digest.
+//! Digest functions that map many byte strings to one digest.
 
 ghost use Rattle.std.specs.Prelude.{◌≡◌, ◌%◌, length, replicate};
 
 use bh_schema::host::Digester;
 
-/// All bytes have one digest.
+/// All bytes have the same digest.
 #[derive(Clone, Copy)]
 pub struct Constant;
 
@@ -20,7 +20,7 @@ impl Digester for Constant {
     }
 }
 
-/// Bytes have one of two digests, by whether their number is even.
+/// Bytes have one of two digests, by the parity of their number.
 #[derive(Clone, Copy)]
 pub struct Parity;
 

@@ -1,4 +1,4 @@
-//! Files in memory that stop at a call, and what they may be left with.
+//! Files in memory that stop at a call, and their possible contents then.
 
 ghost use Rattle.std.specs.Prelude.{IsTrue, IfOk};
 ghost use Rattle.sqlite_disk.specs.Memory.{memory_is_usable};
@@ -9,11 +9,11 @@ use sqlite_disk::{Crash, Disk, Fuse, Memory};
 use std::alloc::{AllocError, Global};
 use std::io;
 
-/// A log and a database file, of which each fails once it has had so many calls.
+/// A log and a database file, each of which fails after a number of calls.
 pub type Fused = Files<Fuse<Memory>>;
 
-/// Few pages are kept in memory, and few come to the log before it is copied, so that short scripts read both files, write to the log
-/// before they commit, and have it copied into the database file.
+/// A small cache of pages, and a short log. So short scripts read both files, write to the log
+/// before they commit, and copy it into the database file.
 pub fn options() -> Options {
     let mut options = Options::new(1);
     options.cache_pages = 16;
@@ -22,14 +22,14 @@ pub fn options() -> Options {
     options
 }
 
-/// An empty file that stops after so many calls.
+/// An empty file that stops after `calls` calls.
 pub fn fuse(alloc: Global, calls: u64) -> Fuse<Memory>
     ensures { IsTrue (⟦<Fuse<Memory> as Disk>⟧.is_usable result) }
 {
     Fuse::new(Memory::new(alloc), calls)
 }
 
-/// A file that holds these bytes.
+/// A file with these bytes.
 pub fn memory(alloc: Global, bytes: &[u8]) -> io::Result<Memory>
     ensures { IfOk result (λ disk. IsTrue (memory_is_usable disk)) }
 {
@@ -44,7 +44,8 @@ pub fn is_blown(disk: &mut Fuse<Memory>) -> bool {
     !disk.may_be_used() || disk.len().is_err()
 }
 
-/// What a file may be left with where the machine stops: what was synced; what was written, and this in part.
+/// The contents that a file may have after the machine stops: what was synced; what was written;
+/// and a part of that.
 pub fn images(alloc: Global, disk: &mut Fuse<Memory>) -> Result<Vec<Vec<u8>>, AllocError> {
     let mut images = Vec::new(alloc);
     let written = Vec::from_slice(alloc, disk.inner().bytes())?;
@@ -58,7 +59,7 @@ pub fn images(alloc: Global, disk: &mut Fuse<Memory>) -> Result<Vec<Vec<u8>>, Al
     Ok(images)
 }
 
-/// What is left where the first half of what wasn't synced has come to the disk.
+/// The contents if the first half of the unsynced bytes has come to the disk.
 fn torn(alloc: Global, written: &[u8], synced: &[u8]) -> Result<Vec<u8>, AllocError> {
     let mut same = 0usize;
     for (one, other) in written.iter().zip(synced.iter()) {

@@ -4,8 +4,8 @@ use std::alloc::Global;
 use std::io;
 use std::io::{Chain, ErrorKind, Read, Write};
 
-/// Where a connection is cut: how many bytes its reader gives before it fails, and how many its writer takes before it takes none,
-/// or fails.
+/// The place at which a connection is cut: how many bytes its reader returns before it fails, and
+/// how many its writer takes before it takes none, or fails.
 #[derive(Clone, Copy)]
 pub struct Cut {
     pub reads: Option<usize>,
@@ -54,7 +54,7 @@ pub fn reader(bytes: &[u8], reads: Option<usize>) -> Chain<&[u8], Last> {
     }
 }
 
-/// Takes so many bytes, and then none, or fails.
+/// A sink that takes a number of bytes, and then none, or fails.
 #[derive(Drop)]
 pub struct Narrow {
     pub held: Vec<u8>,

@@ -1,4 +1,4 @@
-//! Runs stored examples and compares what they give with what is expected.
+//! Runs stored examples and compares their results with the expected ones.
 #![tactic(auto)]
 
 mod ample;
@@ -40,7 +40,7 @@ const USAGE: &str = "usage: examples WORD..
 Tables, scripts and events lie below the folder in which it runs.
 ";
 
-/// What the names among the words are names of.
+/// The kind of names among the arguments.
 #[derive(Clone, Copy)]
 enum Kind {
     Table,
@@ -64,7 +64,8 @@ fn check(rt: &(impl Runtime + AllocGlobal), kind: Kind, name: &str) -> io::Resul
     }
 }
 
-/// Does what the words say, one after another, and tells whether all was as expected.
+/// Runs what the arguments name, one after another, and returns whether all results were as
+/// expected.
 fn run(rt: &(impl Runtime + AllocGlobal), words: &[String]) -> io::Result<bool> {
     let mut kind = Kind::Table;
     let mut is_well = true;

@@ -1,4 +1,5 @@
-//! Stored scripts on a host in files whose machine stops after each event: opened again, the host has what stood after it.
+//! Stored scripts on a host in files whose machine stops after each event. Once opened again, the
+//! host has the tables after that event.
 
 use crate::digest_runs::settings;
 use crate::disks::{memory, options};
@@ -33,7 +34,8 @@ fn new_database(alloc: Global) -> Result<Connection<FileStore<Memory>>, Fault> {
     }
 }
 
-/// Makes a host, applies events to it, which are to be answered as these are told, stops its machine, and opens its files again.
+/// Makes a host, applies events to it, which must get the expected replies, stops its machine, and
+/// opens its files again.
 fn reopen<D: Crash + Drop>(
     alloc: Global,
     connection: Connection<FileStore<D>>,
@@ -56,7 +58,7 @@ fn reopen<D: Crash + Drop>(
     }
 }
 
-/// Whether the host that is opened after the first events has what stood after them.
+/// Whether the host that is opened after the first events has the tables after them.
 fn comes_back(alloc: Global, expected: &Expected<'_>, count: usize) -> Result<bool, Fault> {
     let events = expected.events.get(..count).ok_or(Fault::Form)?;
     let answers = expected.answers.as_slice();
@@ -84,7 +86,7 @@ fn all_come_back(alloc: Global, expected: &Expected<'_>) -> Result<Count, Fault>
     })
 }
 
-/// Whether a stored script's host is as it was, whichever event its machine stops after.
+/// Whether a stored script's host has its tables again, whichever event its machine stops after.
 pub fn check(rt: &(impl System + Print + Eprint + AllocGlobal), name: &str) -> io::Result<bool> {
     let events = events_of(rt, name)?;
     let expected = expect(rt.alloc(), events.as_slice());

@@ -1,8 +1,8 @@
-//! Applies a script's events one at a time, and an event that found no memory once more.
+//! Applies a script's events one at a time, and repeats an event for which memory ran out.
 //!
-//! Run with any one allocation refused, it prints what it prints with ample memory, or ends with status 1 where
-//! the refused one lies outside an event: so an event that was answered ServiceUnavailable or Unavailable had
-//! changed nothing, and the same event then has its ample answer.
+//! It is run with any one allocation refused. It then prints what it prints with enough memory, or
+//! ends with status 1 if that allocation is outside of an event. So an event that was answered
+//! ServiceUnavailable or Unavailable had changed nothing, and its repetition gets its usual answer.
 
 ghost use Rattle.bh_storage.specs.Calls.{Clean, IsAtRest};
 
@@ -21,7 +21,7 @@ use std::alloc::Global;
 use std::io;
 use std::io::Write;
 
-/// The answer to an event, asked once more where it has no stamp.
+/// The answer to an event, which is repeated if it has no stamp.
 fn answer<H: Storage>(alloc: Global, routes: &Routes, host: &mut H, event: &Event) -> Told
     requires { Clean H.IsIntact H.IsOpen host.old → IsAtRest H.IsSoundStore (H.seen host.old) }
     ensures { Clean H.IsIntact H.IsOpen host.new → IsAtRest H.IsSoundStore (H.seen host.new) }
@@ -33,7 +33,7 @@ fn answer<H: Storage>(alloc: Global, routes: &Routes, host: &mut H, event: &Even
     }
 }
 
-/// What the events are answered, a line's end after each.
+/// The replies to the events, each with a line feed.
 fn answers<H: Storage>(
     alloc: Global,
     routes: &Routes,
@@ -51,7 +51,8 @@ fn answers<H: Storage>(
     Ok(text)
 }
 
-/// Answers the script of standard input on standard output, unless it is too long or no host can be made.
+/// Answers the script on standard input on standard output, unless it is too long or no host can be
+/// made.
 pub fn retry(rt: &(impl Input + Print + AllocGlobal)) -> io::Result<bool> {
     let alloc = rt.alloc();
     let Some(bytes) = read_all(alloc, &mut rt.reader())? else {

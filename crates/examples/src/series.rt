@@ -1,4 +1,4 @@
-//! What a series of runs counts, and the events of a stored script.
+//! Counts of a series of runs, and the events of a stored script.
 
 use bh_event::event::Event;
 use bh_host::Told;
@@ -7,14 +7,14 @@ use bh_types::moment::Moment;
 use std::rt::Files;
 use std::{fs, io};
 
-/// How many runs were as they should be, and whether all were: the first that wasn't ends a series.
+/// How many runs were as expected, and whether all were: the first failure ends a series.
 #[derive(Clone, Copy, PartialEq, Eq)]
 pub struct Count {
     pub runs: u64,
     pub is_well: bool,
 }
 
-/// Whether an event's stamp and the bytes of its answer are as told: it was applied.
+/// Whether an event's stamp and the bytes of its answer are the expected ones: it was applied.
 pub fn is_told(stamp: Option<Moment>, bytes: &[u8], told: &Told) -> bool {
     stamp.is_some() && stamp == told.stamp && bytes == told.reply.bytes()
 }
@@ -26,7 +26,7 @@ pub fn events_of(rt: &(impl Files + AllocGlobal), name: &str) -> io::Result<Vec<
     Ok(read_script(alloc, text.as_bytes())?.events)
 }
 
-/// Tells whether the runs on a script were as they should be, and on standard error how many there were.
+/// Prints whether the runs on a script were as expected, and on standard error how many there were.
 pub fn tell(rt: &(impl Print + Eprint), name: &str, runs: &str, count: Count) -> io::Result<bool> {
     let Count {
         runs: number,

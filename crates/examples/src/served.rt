@@ -17,7 +17,7 @@ pub struct Sent<'a> {
     pub bytes: &'a [u8],
 }
 
-/// How a connection was served, what went out, and how many bytes stayed unread.
+/// How a connection was served, the bytes that were sent, and how many bytes stayed unread.
 #[derive(Drop)]
 pub struct Passed {
     pub served: Served,

@@ -1,5 +1,6 @@
-//! Stored scripts on a host in files of which one stops: at some call, and at each one after. Opened anew, the files show what
-//! stood before an event or after it, never between, and each event that was answered.
+//! Stored scripts on a host in files of which one stops: at some call, and at each one after. Once
+//! opened again, the files have the tables before an event or after it, never between, and the
+//! effects of all answered events.
 
 ghost use Rattle.bh_storage.specs.Calls.{Clean, IsAtRest};
 
@@ -23,10 +24,10 @@ use std::alloc::Global;
 use std::io;
 use std::rt::Files as System;
 
-/// The most calls after which a file is stopped.
+/// The maximum calls after which a file is stopped.
 const MOST: u64 = 100_000;
 
-/// What events are answered, and the rows of the host's tables after none of them, one, and so on.
+/// The replies to events, and the rows of the host's tables after none of them, one, and so on.
 #[derive(Drop)]
 pub struct Expected<'a> {
     pub events: &'a [Event],
@@ -34,14 +35,14 @@ pub struct Expected<'a> {
     pub rows: Vec<String>,
 }
 
-/// How many events were answered, or none where there is no host, and what the files are left with.
+/// How many events were answered, or `None` if there is no host, and the files' contents.
 #[derive(Drop)]
 struct Stopped {
     answered: Option<usize>,
     files: Fused,
 }
 
-/// What events are to be answered, and to leave.
+/// The replies to events, and the rows after them.
 pub fn expect(alloc: Global, events: &[Event]) -> Result<Expected<'_>, Fault> {
     let mut rows = Vec::new(alloc);
     for count in 0..events.len() {
@@ -58,7 +59,7 @@ pub fn expect(alloc: Global, events: &[Event]) -> Result<Expected<'_>, Fault> {
     }
 }
 
-/// How many events are answered before the first that is told of trouble, if each is answered as these are told.
+/// How many events are answered before the first failure, if each gets the expected reply.
 pub fn answered<H: Storage>(
     alloc: Global,
     routes: &Routes,
@@ -83,8 +84,8 @@ pub fn answered<H: Storage>(
     Ok(count)
 }
 
-/// Makes a host, and applies the events until there is trouble: how many were answered, or none where there is no host, and
-/// the store that is left.
+/// Makes a host, and applies the events until one fails. Returns how many were answered, or `None`
+/// if there is no host, and the store.
 fn run_on<S: Alter + Drop>(
     alloc: Global,
     connection: Connection<S>,
@@ -104,7 +105,7 @@ fn run_on<S: Alter + Drop>(
     }
 }
 
-/// A run on new files that stop after so many calls each.
+/// A run on new files, each of which stops after a number of calls.
 fn run_until(alloc: Global, expected: &Expected<'_>, log: u64, db: u64) -> Result<Stopped, Fault> {
     let files = Files {
         log: fuse(alloc, log),
@@ -126,7 +127,7 @@ fn run_until(alloc: Global, expected: &Expected<'_>, log: u64, db: u64) -> Resul
     }
 }
 
-/// The rows of the host that files hold; none where they hold no table.
+/// The rows of the host in files; `None` if they have no table.
 fn found(alloc: Global, log: &[u8], db: &[u8]) -> Result<Option<String>, Fault> {
     let files = Files {
         log: memory(alloc, log)?,
@@ -155,7 +156,7 @@ fn rows_found(
     }
 }
 
-/// Whether these rows stood after so many events.
+/// Whether these rows are those after `count` events.
 pub fn is_at(rows: &[String], count: usize, found: &str) -> bool {
     match rows.get(count) {
         Some(rows) => rows.as_str() == found,
@@ -163,7 +164,8 @@ pub fn is_at(rows: &[String], count: usize, found: &str) -> bool {
     }
 }
 
-/// Whether what is found stood after the events that were answered, or after one more; before and after a host was made.
+/// Whether the rows that were found are those after the answered events, or after one more; or
+/// those before and after a host was made.
 fn is_left(found: Option<&str>, answered: Option<usize>, rows: &[String]) -> bool {
     match (found, answered) {
         (Some(found), Some(count)) => {
@@ -174,7 +176,7 @@ fn is_left(found: Option<&str>, answered: Option<usize>, rows: &[String]) -> boo
     }
 }
 
-/// Whether the host is found as it should be in this log with each of these database files.
+/// Whether the host is found correctly in this log with each of these database files.
 fn is_found(
     alloc: Global,
     log: &[u8],
@@ -191,7 +193,7 @@ fn is_found(
     Ok(true)
 }
 
-/// Whether the host is found as it should be in whatever the files may be left with.
+/// Whether the host is found correctly in all possible contents of the files.
 fn comes_back(alloc: Global, stopped: Stopped, rows: &[String]) -> Result<bool, Fault> {
     let Stopped {
         answered,
@@ -207,7 +209,8 @@ fn comes_back(alloc: Global, stopped: Stopped, rows: &[String]) -> Result<bool, 
     Ok(true)
 }
 
-/// A run on files that stop after so many calls each: whether one has stopped, and whether all is as it should be.
+/// A run on files, each of which stops after a number of calls: whether one has stopped, and
+/// whether the result is right.
 fn stop(alloc: Global, expected: &Expected<'_>, log: u64, db: u64) -> Result<(bool, bool), Fault> {
     let mut stopped = run_until(alloc, expected, log, db)?;
     let is_stopped = is_blown(&mut stopped.files.log) || is_blown(&mut stopped.files.db);
@@ -246,7 +249,7 @@ fn all_stops(alloc: Global, events: &[Event]) -> Result<Count, Fault> {
     })
 }
 
-/// Whether a stored script leaves what it should wherever one of its host's files stops.
+/// Whether a stored script leaves correct tables wherever one of its host's files stops.
 pub fn check(rt: &(impl System + Print + Eprint + AllocGlobal), name: &str) -> io::Result<bool> {
     let events = events_of(rt, name)?;
     match all_stops(rt.alloc(), events.as_slice()) {

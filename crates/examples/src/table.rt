@@ -1,5 +1,5 @@
-//! Tables of examples: a line is a call, its input, ` => ` and what it is to give, the two with escapes. An empty line
-//! and one that begins with `#` are no rows.
+//! Tables of examples: a line is a call, its input, ` => ` and the expected result, the two with
+//! escapes. Empty lines and lines that begin with `#` are not rows.
 
 use crate::blocks;
 use example_calls::answer::{Answer, Fault};
@@ -29,7 +29,7 @@ fn row_of(line: &str) -> Row<'_> {
     }
 }
 
-/// What blocks a host has after the steps of a row, or how many of them it keeps in memory.
+/// The blocks of a host after the steps of a row, or the number of its cached blocks.
 fn blocks_found(alloc: Global, call: &str, input: &[u8]) -> Answer {
     match str::from_utf8(input) {
         Ok(text) if call == "cached" => blocks::answer_cached(alloc, text),
@@ -38,7 +38,7 @@ fn blocks_found(alloc: Global, call: &str, input: &[u8]) -> Answer {
     }
 }
 
-/// What a row's call gives.
+/// The result of a row's call.
 fn found(alloc: Global, row: Row<'_>) -> Answer {
     let input = unescaped(alloc, row.input)?;
     match row.call {
@@ -52,7 +52,7 @@ fn is_expected(alloc: Global, row: Row<'_>, found: &str) -> Result<bool, Fault> 
     Ok(expected.as_slice() == found.as_bytes())
 }
 
-/// Whether a row's call gives what is expected. Where not, the row is printed with what it gives.
+/// Whether a row's call returns the expected result. If not, the row is printed with its result.
 fn check_row(rt: &(impl Print + AllocGlobal), row: Row<'_>) -> io::Result<bool> {
     let alloc = rt.alloc();
     let found = found(alloc, row);

@@ -14,22 +14,22 @@ use bh_types::bucket_state::BucketState;
 use sqlite::types::ToSql;
 use sqlite::{Alter, Connection, Error, Row};
 
-/// When a bucket was made, its state, and its rule for uploads that are left unfinished.
+/// A bucket's creation time, its state, and its rule for unfinished uploads.
 #[derive(Clone, Copy)]
 pub struct BucketNumbers {
     /// Seconds since 1970.
     pub created: u64,
     /// 0, 1, 2: Unversioned, Enabled, Suspended.
     pub state: u64,
-    /// After so many days such an upload is stale, if there is a rule.
+    /// Unfinished uploads become stale after this many days, if there is a rule.
     pub days: Option<u64>,
 }
 
-/// A bucket, as a listing has it.
+/// A bucket in a listing.
 #[derive(Drop)]
 pub struct ListedBucket {
     pub name: String,
-    /// When it was made, in seconds since 1970.
+    /// Its creation time, in seconds since 1970.
     pub created: u64,
 }
 
@@ -75,7 +75,7 @@ pub fn find_bucket<S: Alter>(
     first_of(&rows)
 }
 
-/// Adds a bucket in this state with no rule, made at this second since 1970.
+/// Adds a bucket in this state without a rule, with this creation time in seconds since 1970.
 pub fn insert_bucket<S: Alter>(
     connection: &mut Connection<S>,
     tenant: &str,
@@ -106,7 +106,7 @@ pub fn insert_bucket<S: Alter>(
     )
 }
 
-/// Sets the state of a tenant's bucket of this name, if it is there.
+/// Sets the state of a tenant's bucket of this name, if there is one.
 pub fn set_state<S: Alter>(
     connection: &mut Connection<S>,
     tenant: &str,
@@ -129,8 +129,8 @@ pub fn set_state<S: Alter>(
     )
 }
 
-/// Takes a tenant's bucket of this name away, if it is there. The store refuses to where a version or an
-/// upload is in it, or it is locked.
+/// Deletes a tenant's bucket of this name, if there is one. The store refuses if the bucket has a
+/// version or an upload, or is locked.
 pub fn delete_bucket<S: Alter>(
     connection: &mut Connection<S>,
     tenant: &str,

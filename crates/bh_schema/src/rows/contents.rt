@@ -1,4 +1,4 @@
-//! Whether there is anything of a bucket besides its own row.
+//! Whether a bucket has any rows besides its own.
 
 ghost use Rattle.std.specs.Prelude.{◌≡◌, IfOk, IfErr};
 ghost use Rattle.bh_schema.specs.Calls.{Reads};
@@ -8,14 +8,14 @@ ghost use Rattle.bh_schema.specs.Contents.{has_content, IsTextOf};
 use sqlite::types::ToSql;
 use sqlite::{Alter, Connection, Error};
 
-/// What may be of a bucket.
+/// The kinds of a bucket's contents.
 #[derive(Clone, Copy)]
 pub enum Content {
     /// Its lock.
     Lock,
     /// A version or a marker in it.
     Version,
-    /// An upload to it that is neither completed nor aborted.
+    /// An unfinished upload to it.
     Upload,
 }
 
@@ -34,7 +34,7 @@ impl Content {
     }
 }
 
-/// Whether there is such a thing of a tenant's bucket of this name.
+/// Whether a tenant's bucket of this name has such contents.
 pub fn bucket_has<S: Alter>(
     connection: &mut Connection<S>,
     tenant: &str,

@@ -32,7 +32,8 @@ pub fn set_latest<S: Alter>(connection: &mut Connection<S>, stamp: u64) -> Resul
     write(connection, "UPDATE host SET latest = ?1", &[number(stamp)])
 }
 
-/// Adds the row of a new host, of version 3, whose last stamp is 0 and whose blocks are named by the function of this number.
+/// Adds the row of a new host of version 3, with the last stamp 0 and the number of its block
+/// digest.
 pub fn insert_host<S: Alter>(
     connection: &mut Connection<S>,
     min_part: u64,

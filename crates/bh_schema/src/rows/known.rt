@@ -10,18 +10,18 @@ use crate::rows::keys::find_secret;
 use crate::rows::tenants::find_tenant;
 use sqlite::{Alter, Connection, Error};
 
-/// What is known of a tenant's access key.
+/// What the tables have about a tenant's access key.
 #[derive(Clone, Copy)]
 pub enum Known {
-    /// The tenant is not there.
+    /// The tenant doesn't exist.
     NoTenant,
     /// The tenant has no key of the name.
     NoKey,
-    /// The key is there.
+    /// The key exists.
     Key,
 }
 
-/// Whether a tenant is there, and a key of it.
+/// Whether a tenant exists, and a key of it.
 pub fn find_key<S: Alter>(
     connection: &mut Connection<S>,
     tenant: &str,

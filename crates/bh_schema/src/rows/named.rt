@@ -1,4 +1,4 @@
-//! Rows that a tenant has by name, and that no other row names.
+//! A tenant's rows that have a name, and that no other row refers to.
 
 ghost use Rattle.std.specs.Prelude.{IfErr, OnOk};
 ghost use Rattle.bh_schema.specs.Calls.{Writes};
@@ -14,7 +14,7 @@ use sqlite::{Alter, Connection, Error};
 pub enum Named {
     /// An access key.
     Key,
-    /// The lock of a bucket: it goes before the bucket itself.
+    /// The lock of a bucket, which is deleted before the bucket.
     Lock,
 }
 
@@ -29,7 +29,7 @@ impl Named {
     }
 }
 
-/// Takes such a row of a tenant away, if it is there.
+/// Deletes such a row of a tenant, if there is one.
 pub fn delete_named<S: Alter>(
     connection: &mut Connection<S>,
     tenant: &str,

@@ -1,4 +1,4 @@
-//! Where the entries of a key stand: their numbers and ids, and which are markers.
+//! The places of a key's entries: their numbers and ids, and which are delete markers.
 
 ghost use Rattle.std.specs.Prelude.{◌≡◌, ◌<◌, ◌^◌, true, List, find, map, take, option_map, slice_get, IfOk, IfErr};
 ghost use Rattle.bh_rows.specs.Means.{is_trouble};
@@ -14,7 +14,7 @@ use crate::rows::reading::{FromRow, first_of};
 use sqlite::types::ToSql;
 use sqlite::{Alter, Connection, Error, Row};
 
-/// What an entry of a key is among the others.
+/// An entry's place among the entries of its key.
 #[derive(Clone, Copy)]
 pub struct Place {
     /// Its entry number, which orders the entries of a key.
@@ -44,7 +44,7 @@ pub struct NewestPlaces {
     pub second: Option<Place>,
 }
 
-/// The first row and the second as the places of entries.
+/// The places of the entries in the first row and in the second.
 fn read_places(rows: &[Row]) -> Result<NewestPlaces, Error>
     ensures first { IfOk result (λ found. (vs : List VersionRow) → rows.now ≡ take 2 (map shown_place vs)
         → found.first ≡ option_map place_of (slice_get vs 0)) }
@@ -60,7 +60,7 @@ fn read_places(rows: &[Row]) -> Result<NewestPlaces, Error>
     Ok(NewestPlaces { first, second })
 }
 
-/// The two newest entries of a key, if it has so many.
+/// The two newest entries of a key, or fewer if it has fewer.
 pub fn newest_places<S: Alter>(
     connection: &mut Connection<S>,
     tenant: &str,

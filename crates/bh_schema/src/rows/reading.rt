@@ -1,4 +1,4 @@
-//! What the rows that a question shows are read as.
+//! How the rows of a query are read.
 
 ghost use Rattle.std.specs.Prelude.{◌≡◌, List, Option, Some, true, map, option_map, slice_get, IfOk, IfErr};
 ghost use Rattle.std.specs.List.{AllByRecursion};
@@ -13,9 +13,9 @@ ghost use Rattle.bh_schema.specs.Reading.{Reading, lone_number, lone_text};
 use sqlite::{Alter, Connection, Error, Row};
 use std::alloc::Global;
 
-/// A value that a row is read as.
+/// A value that is read from a row.
 pub trait FromRow: Sized {
-    /// What is shown of a row, and what a value says that is read of it.
+    /// A row as a query returns it, and the meaning of the value that is read from it.
     ghost reading: { Reading Self };
 
     fn read(row: &Row) -> Result<Self, Error>
@@ -42,12 +42,12 @@ impl FromRow for String {
     }
 }
 
-/// A value of which a tenant has a list.
+/// A value of a tenant's list.
 pub trait Listed: FromRow {
-    /// What is shown of the rows that are listed.
+    /// The rows that the query returns.
     ghost listed: { Octets → Tables → List Shown };
 
-    /// Those of a tenant.
+    /// A tenant's values.
     fn rows<S: Alter>(connection: &mut Connection<S>, tenant: &str) -> Result<Vec<Row>, Error>
         requires inside { InTransaction S.Store connection.old }
         ensures reads { Reads S.Store connection.old connection.new result }
@@ -56,7 +56,7 @@ pub trait Listed: FromRow {
         ensures trouble { IfErr result (IsTrouble S.Store connection.old connection.new) };
 }
 
-/// What the first row is read as, if there is a row.
+/// The value of the first row, if there is a row.
 pub fn first_of<R: FromRow>(rows: &[Row]) -> Result<Option<R>, Error>
     ensures found { IfOk result (λ found. (sought : Option (R.reading).Typed) → slice_get rows.now 0 ≡ option_map (R.reading).shown sought
         → option_map (R.reading).meaning found ≡ option_map (R.reading).told sought) }
@@ -69,7 +69,7 @@ pub fn first_of<R: FromRow>(rows: &[Row]) -> Result<Option<R>, Error>
     }
 }
 
-/// What all rows are read as.
+/// The values of all rows.
 pub fn all_of<R: FromRow + Drop>(alloc: Global, rows: &[Row]) -> Result<Vec<R>, Error>
     ensures read { IfOk result (λ values. (ts : List (R.reading).Typed) → rows.now ≡ map (R.reading).shown ts
         → map (R.reading).meaning values.items ≡ map (R.reading).told ts) }
@@ -83,7 +83,7 @@ pub fn all_of<R: FromRow + Drop>(alloc: Global, rows: &[Row]) -> Result<Vec<R>, 
     Ok(values)
 }
 
-/// The list that a tenant has of such values.
+/// A tenant's list of such values.
 pub fn list_of<S: Alter, R: Listed + Drop>(
     connection: &mut Connection<S>,
     alloc: Global,

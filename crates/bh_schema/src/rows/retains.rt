@@ -11,7 +11,7 @@ use crate::rows::writing::write;
 use sqlite::types::ToSql;
 use sqlite::{Alter, Connection, Error};
 
-/// Gives a tenant's version of this entry number its first date.
+/// Adds the first date of a tenant's version with this entry number.
 pub fn insert_retain<S: Alter>(
     connection: &mut Connection<S>,
     tenant: &str,
@@ -78,7 +78,8 @@ pub fn find_until<S: Alter>(
     first_of(&rows)
 }
 
-/// Takes the date of a tenant's version of this entry number away, if it has one: before the version itself.
+/// Deletes the date of a tenant's version with this entry number, if it has one. It is deleted
+/// before the version.
 pub fn delete_retain<S: Alter>(
     connection: &mut Connection<S>,
     tenant: &str,

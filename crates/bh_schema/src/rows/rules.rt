@@ -12,11 +12,11 @@ use crate::rows::writing::write;
 use sqlite::types::ToSql;
 use sqlite::{Alter, Connection, Error, Row};
 
-/// A bucket's rule for uploads that are left unfinished.
+/// A bucket's rule for unfinished uploads.
 #[derive(Drop)]
 pub struct BucketRule {
     pub bucket: String,
-    /// After so many days such an upload is stale.
+    /// Unfinished uploads become stale after this many days.
     pub days: Option<u64>,
 }
 
@@ -31,7 +31,8 @@ impl FromRow for BucketRule {
     }
 }
 
-/// Sets the rule of a tenant's bucket of this name, if it is there: after so many days an upload is stale.
+/// Sets the rule of a tenant's bucket of this name, if there is one: uploads become stale after
+/// `days` days.
 pub fn set_days<S: Alter>(
     connection: &mut Connection<S>,
     tenant: &str,
@@ -54,7 +55,7 @@ pub fn set_days<S: Alter>(
     )
 }
 
-/// Takes the rule of a tenant's bucket of this name away, if there is one.
+/// Deletes the rule of a tenant's bucket of this name, if there is one.
 pub fn clear_days<S: Alter>(
     connection: &mut Connection<S>,
     tenant: &str,

@@ -1,4 +1,5 @@
-//! How many versions, markers and objects a tenant has, and what becomes of that when an entry of a key comes or goes.
+//! How many versions, markers and objects a tenant has, and how that changes when an entry of a key
+//! is added or deleted.
 
 ghost use Rattle.std.specs.Prelude.{◌≡◌, ◌++◌, ◌∷◌, [], ◌+◌, ◌≤◌, ◌<◌, ◌^◌, false, true, find, option_map, IfOk, IfErr, OnOk};
 ghost use Rattle.std.specs.List.{list_any};
@@ -17,7 +18,8 @@ use crate::rows::writing::write;
 use sqlite::types::ToSql;
 use sqlite::{Alter, Connection, Error, ErrorCode, Row};
 
-/// How many versions and markers a tenant has, and how many of its versions are the newest entries of their keys.
+/// A tenant's numbers of versions and markers, and of versions that are the newest entries of their
+/// keys.
 #[derive(Clone, Copy)]
 pub struct Tally {
     pub versions: u64,
@@ -37,7 +39,7 @@ impl FromRow for Tally {
     }
 }
 
-/// The tally of the tenant of this name, if there is one. No row of another table is read.
+/// The tally of the tenant of this name, if there is one. Only its row is read.
 pub fn find_tally<S: Alter>(
     connection: &mut Connection<S>,
     tenant: &str,
@@ -56,7 +58,7 @@ pub fn find_tally<S: Alter>(
     first_of(&rows)
 }
 
-/// The tally of a tenant that comes: in the midst of that write.
+/// Adds the tally of a new tenant, as one step of that write.
 pub fn insert_tally<S: Alter>(connection: &mut Connection<S>, tenant: &str) -> Result<usize, Error>
     requires midst { InMidst S.Store connection.old }
     ensures writes { WritesOn S.Store connection.old connection.new result }
@@ -73,7 +75,7 @@ pub fn insert_tally<S: Alter>(connection: &mut Connection<S>, tenant: &str) -> R
     )
 }
 
-/// Sets the tally of a tenant: in the midst of a write of its versions.
+/// Sets a tenant's tally, as one step of a write of its versions.
 fn set_tally<S: Alter>(
     connection: &mut Connection<S>,
     tenant: &str,
@@ -100,7 +102,8 @@ fn set_tally<S: Alter>(
     )
 }
 
-/// The markers of an entry of a key that comes and of one that goes, and those of the key's newest entry then and now.
+/// The `marker` columns of an added and of a deleted entry of a key, and those of the key's newest
+/// entry before and after.
 #[derive(Clone, Copy)]
 pub struct EntryChange {
     pub come: Option<u64>,
@@ -109,7 +112,7 @@ pub struct EntryChange {
     pub before: Option<u64>,
 }
 
-/// 1 where there is an entry of this marker.
+/// 1 if there is an entry with this `marker`, otherwise 0.
 fn one_if(entry: Option<u64>, marker: u64) -> u64
     ensures is { result ≡ marked_as marker entry }
     ensures few { result ≤ 1 }
@@ -120,7 +123,7 @@ fn one_if(entry: Option<u64>, marker: u64) -> u64
     }
 }
 
-/// A count with so many more and so many fewer. No column has one above 2^62.
+/// A count plus `more` and minus `less`. No column has one above 2^62.
 fn recounted(n: u64, more: u64, less: u64) -> Result<u64, Error>
     requires more { more ≤ 1 }
     requires less { less ≤ 1 }
@@ -137,7 +140,7 @@ fn recounted(n: u64, more: u64, less: u64) -> Result<u64, Error>
     }
 }
 
-/// The tally of a tenant becomes what it is once an entry of a key comes or goes: the first part of such a write.
+/// Updates a tenant's tally for an added or deleted entry of a key: the first step of such a write.
 pub fn recount<S: Alter>(
     connection: &mut Connection<S>,
     tenant: &str,

@@ -15,10 +15,10 @@ use crate::rows::writing::write;
 use sqlite::types::ToSql;
 use sqlite::{Alter, Connection, Error, Row};
 
-/// A tenant's quota in bytes, and the next number that each of its counters gives.
+/// A tenant's quota in bytes, and the next number of each of its counters.
 #[derive(Clone, Copy)]
 pub struct TenantNumbers {
-    /// The most that its versions and parts may take, in bytes.
+    /// The maximum bytes of its versions and parts.
     pub quota: u64,
     /// For numbered version ids.
     pub next_version: u64,
@@ -28,7 +28,7 @@ pub struct TenantNumbers {
     pub next_entry: u64,
 }
 
-/// A tenant's numbers, and the bytes that its versions and parts have.
+/// A tenant's numbers, and the bytes of its versions and parts.
 #[derive(Clone, Copy)]
 pub struct TenantAccount {
     pub numbers: TenantNumbers,
@@ -36,14 +36,14 @@ pub struct TenantAccount {
     pub used: u64,
 }
 
-/// What becomes of one of a tenant's numbers: its place among them.
+/// One of a tenant's numbers, by its place among them.
 #[derive(Clone, Copy)]
 pub enum TenantNumber {
     /// In bytes.
     Quota,
-    /// That its next upload takes.
+    /// The number of its next upload.
     NextUpload,
-    /// That its next version, marker or part takes.
+    /// The number of its next version, marker or part.
     NextEntry,
 }
 
@@ -106,7 +106,8 @@ pub fn find_tenant<S: Alter>(
     first_of(&rows)
 }
 
-/// The numbers of the tenant of this name and the bytes that it uses, if there is one. No row of another table is read.
+/// The numbers of the tenant of this name and its bytes in use, if there is one. Only its row is
+/// read.
 pub fn find_account<S: Alter>(
     connection: &mut Connection<S>,
     name: &str,
@@ -125,7 +126,7 @@ pub fn find_account<S: Alter>(
     first_of(&rows)
 }
 
-/// The row of a tenant, each of whose counters gives 1 next: the first part of that write.
+/// Adds the row of a tenant whose counters begin at 1: the first step of that write.
 fn insert_tenant_row<S: Alter>(
     connection: &mut Connection<S>,
     name: &str,
@@ -147,7 +148,7 @@ fn insert_tenant_row<S: Alter>(
     )
 }
 
-/// Adds a tenant, each of whose counters gives 1 next.
+/// Adds a tenant whose counters begin at 1.
 pub fn insert_tenant<S: Alter>(
     connection: &mut Connection<S>,
     name: &str,
@@ -183,7 +184,7 @@ pub fn set_number<S: Alter>(
     write(connection, which.text(), &[tenant.to_sql(), number(n)])
 }
 
-/// Sets the numbers that the tenant's next numbered version and its next entry take.
+/// Sets the numbers of the tenant's next numbered version and next entry.
 pub fn set_numbers<S: Alter>(
     connection: &mut Connection<S>,
     tenant: &str,
@@ -204,8 +205,8 @@ pub fn set_numbers<S: Alter>(
     )
 }
 
-/// Sets the number that the tenant's next version, marker or part takes, while so many bytes more and so many fewer are
-/// to be used: in the midst of a write of those.
+/// Sets the number of the tenant's next version, marker or part, and adds `more` and subtracts
+/// `less` bytes from its use, as one step of their write.
 pub fn use_entry<S: Alter>(
     connection: &mut Connection<S>,
     tenant: &str,
@@ -228,8 +229,8 @@ pub fn use_entry<S: Alter>(
     )
 }
 
-/// Sets the numbers that the tenant's next numbered version and its next entry take, while so many bytes more and so
-/// many fewer are to be used: in the midst of a write of those.
+/// Sets the numbers of the tenant's next numbered version and next entry, and adds `more` and
+/// subtracts `less` bytes from its use, as one step of their write.
 pub fn use_numbers<S: Alter>(
     connection: &mut Connection<S>,
     tenant: &str,
@@ -260,7 +261,7 @@ pub fn use_numbers<S: Alter>(
     )
 }
 
-/// So many bytes fewer are to be used by a tenant: in the midst of a write that takes those away.
+/// Subtracts bytes from a tenant's use, as one step of the write that deletes them.
 pub fn use_less<S: Alter>(
     connection: &mut Connection<S>,
     tenant: &str,

@@ -22,7 +22,7 @@ pub fn begin<S: Alter>(connection: &mut Connection<S>) -> Result<usize, Error>
     connection.execute("BEGIN", &[])
 }
 
-/// Commits the transaction. An error leaves it open, or takes it back.
+/// Commits the transaction. An error leaves it open, or rolls it back.
 pub fn commit<S: Alter>(connection: &mut Connection<S>) -> Result<usize, Error>
     ensures opens { OnOk result (WasOpen S.Store connection.old connection.new) }
     ensures commits { OnOk result (IsIntact S.Store connection.new
@@ -37,12 +37,12 @@ pub fn commit<S: Alter>(connection: &mut Connection<S>) -> Result<usize, Error>
         → (IsClean S.Store connection.old → (stands S.Store connection.old).inside ≡ true) → is_trouble e ≡ true) }
     ensures live { IsOpen S.Store connection.old → IsDatabase (stands S.Store connection.old).now }
 {
-    // Asked for what it ensures: what stands is a database, whose trees list its schema.
+    // Called for its contract: the current tables are a database, whose trees list its schema.
     let _schema = connection.schema();
     connection.execute("COMMIT", &[])
 }
 
-/// Ends the transaction, if one is open: what was committed before it stands.
+/// Rolls back the transaction, if one is open: the tables are those that were committed.
 pub fn take_back<S: Alter>(connection: &mut Connection<S>)
     ensures back { IsClean S.Store connection.new → stands S.Store connection.new ≡ taken_back (stands S.Store connection.old) }
     ensures follows { KeepsDisk (state S.Store connection.old) (state S.Store connection.new) }
@@ -50,6 +50,6 @@ pub fn take_back<S: Alter>(connection: &mut Connection<S>)
 {
     // Asked for what it ensures: outside a transaction, what is standing was committed.
     let _outside = connection.is_autocommit();
-    // A failure rolls back too, and outside a transaction there is nothing to take back.
+    // A failure rolls back too, and outside a transaction there is nothing to roll back.
     let _ = connection.execute("ROLLBACK", &[]);
 }

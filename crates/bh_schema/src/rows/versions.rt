@@ -19,7 +19,7 @@ use crate::rows::writing::write;
 use sqlite::types::ToSql;
 use sqlite::{Alter, Connection, Error, ErrorCode, Row};
 
-/// What is kept of a version or a marker beside its bytes.
+/// The metadata of a version or a marker, without its bytes.
 #[derive(Drop)]
 pub struct VersionHead {
     /// Its entry number, which orders the versions of a key.
@@ -28,7 +28,7 @@ pub struct VersionHead {
     pub id: u64,
     /// 1 for a delete marker, 0 for a version.
     pub marker: u64,
-    /// When it was made, in seconds since 1970.
+    /// When it was written, in seconds since 1970.
     pub stamp: u64,
     /// Bytes.
     pub size: u64,
@@ -36,7 +36,7 @@ pub struct VersionHead {
     pub checksum: String,
 }
 
-/// A version that is to be added.
+/// A version to be added.
 #[derive(Clone, Copy)]
 pub struct NewVersion<'a> {
     pub tenant: &'a str,
@@ -46,14 +46,14 @@ pub struct NewVersion<'a> {
     pub okey: &'a [u8],
     /// 0 for `null`.
     pub id: u64,
-    /// When it is made, in seconds since 1970.
+    /// When it is written, in seconds since 1970.
     pub stamp: u64,
     /// Bytes.
     pub size: u64,
     pub checksum: &'a str,
 }
 
-/// A marker that is to be added.
+/// A marker to be added.
 #[derive(Clone, Copy)]
 pub struct NewMarker<'a> {
     pub tenant: &'a str,
@@ -63,7 +63,7 @@ pub struct NewMarker<'a> {
     pub okey: &'a [u8],
     /// 0 for `null`.
     pub id: u64,
-    /// When it is made, in seconds since 1970.
+    /// When it is written, in seconds since 1970.
     pub stamp: u64,
 }
 
@@ -130,7 +130,8 @@ pub fn version_of_id<S: Alter>(
     first_of(&rows)
 }
 
-/// The row of a version, whose bytes are those of the body of its name: in the midst of a write of what its tenant uses.
+/// Adds the row of a version, whose bytes are those of the body of its name, as one step of a write
+/// that updates its tenant's use.
 fn insert_version<S: Alter>(
     connection: &mut Connection<S>,
     version: &NewVersion<'_>,
@@ -159,7 +160,8 @@ fn insert_version<S: Alter>(
     )
 }
 
-/// Takes the row of the version or marker of a key with this id away: in the midst of a write of what its tenant uses.
+/// Deletes the row of the version or marker of a key with this id, as one step of a write that
+/// updates its tenant's use.
 fn remove_version<S: Alter>(
     connection: &mut Connection<S>,
     tenant: &str,
@@ -180,7 +182,7 @@ fn remove_version<S: Alter>(
     )
 }
 
-/// The row of a delete marker: in the midst of a write of its tenant's tally.
+/// Adds the row of a delete marker, as one step of a write that updates its tenant's tally.
 fn insert_marker_row<S: Alter>(
     connection: &mut Connection<S>,
     marker: &NewMarker<'_>,
@@ -209,7 +211,7 @@ fn insert_marker_row<S: Alter>(
     )
 }
 
-/// The marker of the newest entry of a key, which is to be older than one of this number.
+/// The marker of a key's newest entry, which must be older than the one with this number.
 fn marker_before(newest: Option<Place>, seq: u64) -> Result<Option<u64>, Error>
     ensures read { IfOk result (λ marker. (o : Option Stored) → newest ≡ option_map place_of o → marker ≡ option_map marker_in o) }
     ensures older { IfOk result (λ marker. (v : Stored) → newest ≡ option_map place_of (Some v) → v.seq < seq) }
@@ -227,7 +229,7 @@ fn marker_before(newest: Option<Place>, seq: u64) -> Result<Option<u64>, Error>
     }
 }
 
-/// A tenant's tally once a new entry of a key comes: the first part of that write.
+/// Updates a tenant's tally for a new entry of a key: the first step of that write.
 fn entry_comes<S: Alter>(
     connection: &mut Connection<S>,
     tenant: &str,
@@ -269,7 +271,7 @@ fn marker_of(place: Option<Place>) -> Option<u64>
     }
 }
 
-/// The newest entry of a key once the one with this id is gone, of the two newest before.
+/// The newest entry of a key after the one with this id is deleted, given the two newest before.
 fn newest_after(newest: NewestPlaces, id: u64) -> Option<Place>
     ensures { result ≡ place_after id newest }
 {
@@ -285,7 +287,8 @@ fn newest_after(newest: NewestPlaces, id: u64) -> Option<Place>
     }
 }
 
-/// A tenant's tally once the entry of a key with this id goes: the first part of that write.
+/// Updates a tenant's tally for the deletion of the entry of a key with this id: the first step of
+/// that write.
 fn entry_goes<S: Alter>(
     connection: &mut Connection<S>,
     tenant: &str,
@@ -315,7 +318,8 @@ fn entry_goes<S: Alter>(
     )
 }
 
-/// Adds a version, whose bytes are those of the body of its name. The tenant's next entry takes this number.
+/// Adds a version, whose bytes are those of the body of its name. The tenant's next entry gets this
+/// number.
 pub fn add_version<S: Alter>(
     connection: &mut Connection<S>,
     version: &NewVersion<'_>,
@@ -346,7 +350,7 @@ pub fn add_version<S: Alter>(
     Ok(())
 }
 
-/// Adds a numbered version. The tenant's next numbered version and its next entry take these numbers.
+/// Adds a numbered version. The tenant's next numbered version and next entry get these numbers.
 pub fn add_numbered<S: Alter>(
     connection: &mut Connection<S>,
     version: &NewVersion<'_>,
@@ -414,7 +418,8 @@ pub fn insert_marker<S: Alter>(
     insert_marker_row(connection, marker)
 }
 
-/// Takes the version or marker of a key with this id away, which has so many bytes.
+/// Deletes the version or marker of a key with this id, and subtracts its size from the tenant's
+/// use.
 pub fn delete_version<S: Alter>(
     connection: &mut Connection<S>,
     tenant: &str,

@@ -5,7 +5,7 @@ ghost use Rattle.sqlite.specs.Values.{bound};
 use sqlite::types::ValueRef;
 use sqlite::{Alter, Connection, Error};
 
-/// Runs a text that writes rows, and tells how many.
+/// Runs a statement that writes rows, and returns their number.
 pub fn write<S: Alter>(
     connection: &mut Connection<S>,
     text: &str,

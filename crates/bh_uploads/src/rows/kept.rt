@@ -1,4 +1,4 @@
-//! Parts that come or go with what their tenant uses and their upload keeps.
+//! Adds and deletes parts, and updates the bytes that their tenant and their upload use.
 
 ghost use Rattle.std.specs.Prelude.{ℕ, ◌≡◌, ◌∷◌, [], ◌<◌, ◌^◌, map, filter, IfOk, IfErr, OnOk};
 ghost use Rattle.bh_tables.specs.Typed.{number as stored, totals_of, bytes_kept, kept_changed};
@@ -16,7 +16,7 @@ use bh_schema::rows::writing::write;
 use sqlite::types::ToSql;
 use sqlite::{Alter, Connection, Error, ErrorCode, Row};
 
-/// So many bytes more and so many fewer are to be kept of an upload: in the midst of a write of those.
+/// Adds and subtracts bytes of an upload, as one step of a write of its parts.
 fn keep_bytes<S: Alter>(
     connection: &mut Connection<S>,
     tenant: &str,
@@ -58,7 +58,7 @@ fn kept_rows<S: Alter>(
     )
 }
 
-/// A number of bytes that a sum can be lowered by.
+/// Checks that a sum can be lowered by this number of bytes.
 fn read_kept(row: &Row) -> Result<u64, Error>
     ensures read { IfOk result (λ n. (m : ℕ) → row.now ≡ stored m ∷ [] → n ≡ m) }
     ensures small { IfOk result (λ n. n < 2 ^ 62) }
@@ -71,7 +71,7 @@ fn read_kept(row: &Row) -> Result<u64, Error>
     }
 }
 
-/// The bytes of an upload's parts, of its own row. The upload is to be there.
+/// The bytes of an upload's parts, from its own row. The upload must exist.
 fn find_kept<S: Alter>(
     connection: &mut Connection<S>,
     tenant: &str,
@@ -91,7 +91,7 @@ fn find_kept<S: Alter>(
     }
 }
 
-/// Adds a part in the place of that of its number, which has so many bytes. The tenant's next entry takes this number.
+/// Adds a part in place of the one with its number. The tenant's next entry gets this number.
 pub fn place_part<S: Alter>(
     connection: &mut Connection<S>,
     part: &PartRecord<'_>,
@@ -120,7 +120,7 @@ pub fn place_part<S: Alter>(
     Ok(())
 }
 
-/// Takes the parts of an upload away, of which so many bytes are kept.
+/// Deletes an upload's parts, and subtracts their bytes from the upload's.
 fn take_parts<S: Alter>(
     connection: &mut Connection<S>,
     tenant: &str,
@@ -140,7 +140,7 @@ fn take_parts<S: Alter>(
     Ok(())
 }
 
-/// Takes all parts of an upload away. The upload is to be there.
+/// Deletes all parts of an upload, which must exist.
 pub fn remove_parts<S: Alter>(
     connection: &mut Connection<S>,
     tenant: &str,

@@ -40,7 +40,7 @@ pub struct PartBody {
     pub size: u64,
 }
 
-/// A part that is to be added.
+/// A part to be added.
 #[derive(Clone, Copy)]
 pub struct PartRecord<'a> {
     pub tenant: &'a str,
@@ -49,13 +49,13 @@ pub struct PartRecord<'a> {
     /// Bytes.
     pub size: u64,
     pub checksum: &'a str,
-    /// When it is put, in seconds since 1970.
+    /// When it is stored, in seconds since 1970.
     pub stamp: u64,
     /// The entry number under which its bytes are stored.
     pub body: u64,
 }
 
-/// The moment is for listings.
+/// The moment is listed.
 fn read_part(row: &Row) -> Result<PartHead, Error>
     ensures row { IfOk result (λ head. (p : Stored) → row.now ≡ shown_part p → row_seen head.row ≡ seen_row p) }
     ensures body { IfOk result (λ head. (p : Stored) → row.now ≡ shown_part p → head.body ≡ p.body) }
@@ -134,7 +134,7 @@ impl FromRow for PartBody {
     }
 }
 
-/// The body of the part of this number, if it is there.
+/// The body of the part with this number, if it exists.
 pub fn find_body<S: Alter>(
     connection: &mut Connection<S>,
     tenant: &str,
@@ -155,7 +155,8 @@ pub fn find_body<S: Alter>(
     first_of(&rows)
 }
 
-/// Adds a part, whose bytes are those of its body: in the midst of a write of what its tenant uses and its upload keeps.
+/// Adds a part, whose bytes are those of its body, as one step of a write that updates its tenant's
+/// use and its upload's bytes.
 pub fn insert_part<S: Alter>(
     connection: &mut Connection<S>,
     part: &PartRecord<'_>,
@@ -185,7 +186,8 @@ pub fn insert_part<S: Alter>(
     )
 }
 
-/// Takes the part of a number away, if it is there: in the midst of a write of what its tenant uses and its upload keeps.
+/// Deletes the part with a number, if there is one, as one step of a write that updates its
+/// tenant's use and its upload's bytes.
 pub fn delete_part<S: Alter>(
     connection: &mut Connection<S>,
     tenant: &str,
@@ -207,7 +209,8 @@ pub fn delete_part<S: Alter>(
     )
 }
 
-/// Takes all parts of an upload away: in the midst of a write of what its tenant uses and it keeps.
+/// Deletes all parts of an upload, as one step of a write that updates its tenant's use and the
+/// upload's bytes.
 pub fn delete_parts<S: Alter>(
     connection: &mut Connection<S>,
     tenant: &str,

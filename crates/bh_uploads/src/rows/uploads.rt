@@ -13,7 +13,7 @@ use sqlite::types::ToSql;
 use sqlite::{Alter, Connection, Error, Row};
 use std::alloc::Global;
 
-/// What an upload was begun for, and when.
+/// The bucket, the key and the time of an upload.
 #[derive(Drop)]
 pub struct UploadHead {
     /// The bucket's name.
@@ -24,7 +24,7 @@ pub struct UploadHead {
     pub begun: u64,
 }
 
-/// An upload that is to be added.
+/// An upload to be added.
 #[derive(Clone, Copy)]
 pub struct UploadRecord<'a> {
     pub tenant: &'a str,
@@ -68,7 +68,7 @@ pub fn find_upload<S: Alter>(
     first_of(&rows)
 }
 
-/// The numbers of a bucket's uploads that were begun before a moment, the first begun first.
+/// The numbers of a bucket's uploads that began before a moment, oldest first.
 pub fn stale_list<S: Alter>(
     connection: &mut Connection<S>,
     alloc: Global,
@@ -89,7 +89,7 @@ pub fn stale_list<S: Alter>(
     all_of(alloc, &rows)
 }
 
-/// Adds an upload, of which no part is there.
+/// Adds an upload without parts.
 pub fn insert_upload<S: Alter>(
     connection: &mut Connection<S>,
     upload: &UploadRecord<'_>,
@@ -116,7 +116,7 @@ pub fn insert_upload<S: Alter>(
     )
 }
 
-/// Takes an upload away, if it is there. The store refuses to where a part of it is.
+/// Deletes an upload, if there is one. The store refuses if it has a part.
 pub fn delete_upload<S: Alter>(
     connection: &mut Connection<S>,
     tenant: &str,

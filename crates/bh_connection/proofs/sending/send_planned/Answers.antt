@@ -1,19 +1,24 @@
-use Rattle.std.proofs.Common.{◌≡◌, ◌++◌, [], refl, sym, ap, subst, ◌∙◌, append_assoc, arith, inl, inr}
+use Rattle.std.proofs.Common.{◌≡◌, ◌++◌, [], refl, sym, ap, subst, ◌∙◌, append_assoc, arith, inl, inr, length, length-append}
 use Rattle.bh_storage.specs.Calls.{Seen, IsAtRest}
 use Rattle.bh_storage.specs.Plans.{to_come}
 use Rattle.bh_tables.specs.Typed.{Tables}
 use Rattle.bh_view.specs.View.{limits_in}
-use Rattle.bh_connection.proofs.Pieces.{none_gone, gone_on, sends_failed, sends_part, sends_whole}
+use Rattle.bh_connection.proofs.Pieces.{none_gone, gone_on, measured_on, none_left, sends_failed, sends_part, sends_whole}
 use Rattle.bh_connection.proofs.sending.send_planned.Goals as goal
 
 -- more is to come than can be counted
 pub returns-then-is_too_long-clause-sends : goal.returns-then-is_too_long-clause-sends
 returns-then-is_too_long-clause-sends g c =
-    rw (c.sent_so.ensures.sent, c.sent_so.ensures.ended) (sends_failed _ _ _ _ _ _ _ _ [] (c.args.reply.head.items ++ to_come c.args.reply.plan (g.H.Storage.seen c.args.host.now).now) 0 (none_gone _ _ _ c.requires.writes) (λ i. refl))
+    rw (c.sent_so.ensures.sent, c.sent_so.ensures.ended) (sends_failed _ _ _ _ _ _ _ _ [] (c.args.reply.head.items ++ to_come c.args.reply.plan (g.H.Storage.seen c.args.host.now).now) 0 (none_gone _ _ _ c.requires.writes) (λ i. refl)
+    (λ i.
+    let long = rw c.as_slice.ensures.value at c.is_too_long.ensures.long c.if-is_too_long.true in
+    let all = length-append c.args.reply.head.items (to_come c.args.reply.plan (g.H.Storage.seen c.args.host.now).now) in
+    let measured = c.requires.measured (i, c.requires.open i) in
+    omega (arith, long, all, measured)))
 
 pub pieces-init : goal.pieces-init
 pieces-init g c =
-    let short = rw c.as_slice.ensures.value at c.is_too_long.ensures c.if-is_too_long.false in
+    let short = rw c.as_slice.ensures.value at c.is_too_long.ensures.short c.if-is_too_long.false in
     record {
       intact = λ i. i;
       stays_open = c.requires.open;
@@ -23,6 +28,7 @@ pieces-init g c =
       survives = λ i x l. l;
       fits = omega (arith, short);
       gone = ([], none_gone _ _ _ c.requires.writes, λ i. refl);
+      measured = λ i. c.requires.measured (i, c.requires.open i);
     }
 
 pub next_piece-requires : goal.next_piece-requires
@@ -62,6 +68,13 @@ pieces-preserved g c =
             ∙ append_assoc gone piece (to_come c.pieces.left start) ∙ is j
             ),
       );
+      measured = λ i. (
+          let j = step.within.intact i in
+          let before = inv.stays_open j in
+          let given = rw c.in-Ok-Some.field-0-is at step.gives (i, step.opens before i) in
+          let given_first = subst (λ (t : Tables). to_come c.pieces.left t ≡ next ++ to_come c.next_piece.new.plan t) (inv.same (j, before)) given in
+          measured_on c.pieces.left.left c.next_piece.new.plan.left next _ (inv.measured j ∙ ap length given_first) most
+          );
     }
 
 pub returns-then-count-bytes-clause-sends : goal.returns-then-count-bytes-clause-sends
@@ -160,9 +173,32 @@ returns-in-Err-clause-sends g c =
     let rest = to_come c.pieces.left (g.H.Storage.seen c.args.host.now).now in
     let told = c.sent_so-in-Err.ensures in
     rw (told.sent, told.ended) (sends_failed _ _ _ _ _ _ _ _ (gone ++ piece) rest _ (gone_on _ _ _ _ _ _ _ _ c.pieces.sent gone piece c.send-count.result went out taken low high broke)
-    (λ i. append_assoc gone piece rest ∙ is (step.within.intact (c.take_back.ensures.intact i))))
+    (λ i. append_assoc gone piece rest ∙ is (step.within.intact (c.take_back.ensures.intact i)))
+    (λ i.
+    let measured = inv.measured (step.within.intact (c.take_back.ensures.intact i)) in
+    let some = c.if-left-eq0.false in
+    omega (arith, measured, some)))
+
+pub returns-then-left-eq0-clause-sends : goal.returns-then-left-eq0-clause-sends
+returns-then-left-eq0-clause-sends g c =
+    let inv = c.pieces.invariant in
+    let (gone, went, is) = inv.gone in
+    let piece = c.pieces.piece.items in
+    let out = rw c.as_slice-bytes.ensures.value at c.send-count.ensures.bytes in
+    let taken = rw c.as_slice-bytes.ensures.value at c.send-count.ensures.taken in
+    let low = rw c.as_slice-bytes.ensures.value at c.send-count.ensures.within in
+    let high = rw c.as_slice-bytes.ensures.value at c.if-count-bytes.false in
+    let broke = rw c.as_slice-bytes.ensures.value at c.send-count.ensures.failed in
+    let rest = to_come c.pieces.left (g.H.Storage.seen c.args.host.now).now in
+    let told = c.sent_so-then-left-eq0.ensures in
+    rw (told.sent, told.ended) (sends_whole _ _ _ _ _ _ _ _ (gone ++ piece) rest _ (gone_on _ _ _ _ _ _ _ _ c.pieces.sent gone piece c.send-count.result went out taken low high broke)
+    (λ _. none_left c.pieces.left.left _ c.if-left-eq0.true)
+    (λ i. append_assoc gone piece rest ∙ is i))
 
 -- ---- the store is open, unless it was wanting
+
+pub returns-then-left-eq0-clause-opens : goal.returns-then-left-eq0-clause-opens
+returns-then-left-eq0-clause-opens g c i = inr (c.pieces.invariant.stays_open i)
 
 pub returns-then-is_too_long-clause-opens : goal.returns-then-is_too_long-clause-opens
 returns-then-is_too_long-clause-opens g c i = inl c.sent_so.ensures.ended

@@ -18,6 +18,7 @@ invariant-pieces g l = record {
       × Gone (g.W.Sink.contents l.fn.writer.inner) (g.W.Sink.contents l.writer.inner) (g.W.Sink.transfers l.fn.writer.inner) (g.W.Sink.transfers l.writer.inner) l.writer.failed l.sent gone
       × (g.H.Storage.IsIntact l.host → gone ++ (l.piece.items ++ to_come l.left (g.H.Storage.seen l.fn.host).now)
       ≡ l.fn.reply.head.items ++ to_come l.fn.reply.plan (g.H.Storage.seen l.fn.host).now);
+  measured : g.H.Storage.IsIntact l.host → l.left.left ≡ length (to_come l.left (g.H.Storage.seen l.fn.host).now);
 }
 
 abbrev pub decreases-pieces : goal.decreases-pieces

@@ -5,10 +5,10 @@ use Rattle.bh_storage.specs.Plans.{to_come}
 use Rattle.bh_host.proofs.Delivering.{alone_text, followed_text}
 use Rattle.bh_host.proofs.receiving.found.Goals as goal
 
-pub returns-then-is_head : goal.returns-then-is_head
-returns-then-is_head c body tables measured =
+pub returns-then-is_head-clause-told : goal.returns-then-is_head-clause-told
+returns-then-is_head-clause-told c body tables measured =
     alone_text (with_body c.args.head.now body) (found_answer tables c.args.version) c.in_ok-bytes.bytes.items (c.in_ok-bytes.ensures (to_come c.args.version.plan tables) measured) (sym c.is_head.ensures ∙ c.if-is_head.true)
 
-pub returns-else-is_head : goal.returns-else-is_head
-returns-else-is_head c body tables measured =
+pub returns-else-is_head-clause-told : goal.returns-else-is_head-clause-told
+returns-else-is_head-clause-told c body tables measured =
     followed_text (with_body c.args.head.now body) (found_answer tables c.args.version) c.in_ok-bytes.bytes.items (c.in_ok-bytes.ensures (to_come c.args.version.plan tables) measured) (sym c.is_head.ensures ∙ c.if-is_head.false)

@@ -28,6 +28,6 @@ pub returns-in-None-clause-receives : goal.returns-in-None-clause-receives
 returns-in-None-clause-receives g c =
     let tried = c.in-Err.ensures in
     let back = c.take_back-in-Err.ensures in
-    subst (λ (t : Option ℕ × List ℕ). Receives g.H.Storage.IsIntact g.H.Storage.IsOpen g.H.Storage.seen g.H.Storage.left c.args.reading c.args.head.now (g.B.Body.coming c.args.body.now) (g.B.Body.coming c.try_receive.new.body) c.args.host.now c.take_back-in-Err.new.self (Some t)) (sym c.wanting.ensures)
+    subst (λ (t : Option ℕ × List ℕ). Receives g.H.Storage.IsIntact g.H.Storage.IsOpen g.H.Storage.seen g.H.Storage.left c.args.reading c.args.head.now (g.B.Body.coming c.args.body.now) (g.B.Body.coming c.try_receive.new.body) c.args.host.now c.take_back-in-Err.new.self (Some t)) (sym c.wanting.ensures.told)
     (wanting_received g.H.Storage.IsIntact g.H.Storage.IsOpen g.H.Storage.seen g.H.Storage.left g.H.Storage.IsSoundStore c.args.reading c.args.host.now c.try_receive.new.host c.take_back-in-Err.new.self c.take_back-in-Err.new.self
     c.requires.rest tried.intact tried.opened tried.tries.tried.2 back.intact back.opened back.survives back.back (λ i. i) c.args.head.now (g.B.Body.coming c.args.body.now) (g.B.Body.coming c.try_receive.new.body) c.in-Err.trouble c.requires.due tried.tries (sym c.broken.ensures ∙ c.in-None.is))

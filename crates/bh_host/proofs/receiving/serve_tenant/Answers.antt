@@ -1,4 +1,7 @@
+use Rattle.std.proofs.Common.{sym, subst}
 use Rattle.std.proofs.lemmas.Result.{err_from_is_err_and}
+use Rattle.bh_storage.specs.Calls.{Seen}
+use Rattle.bh_host.specs.Answers.{IsPlanMeasured}
 use Rattle.bh_host.proofs.Delivering.{found_when}
 use Rattle.bh_host.proofs.Serving.{served_none, served_done, served_refused, served_spoilt}
 use Rattle.bh_host.proofs.receiving.serve_tenant.Goals as goal
@@ -13,7 +16,7 @@ returns-in-Ok-Done-clause-serves g c =
     let came = rw c.in-Ok-Done.field-0-is at c.in-Ok-Done.ensures in
     let out = c.in_ok-delivered-in-Ok-Done.ensures in
     served_done g.H.Storage.IsIntact g.H.Storage.IsOpen g.H.Storage.seen g.H.Storage.left g.H.Storage.IsSoundStore c.args.key c.args.at c.args.head.now _ _ c.args.host.now c.purge.new.self c.requested.new.host c.requires.keyed c.requires.working c.in_ok-purge.ensures.goes_on.within c.in_ok-purge.ensures.purges c.requested.ensures.within
-    c.delivered.new.host out.within out.same c.in-Ok-Done.offer c.in_ok-composed-in-Ok-Done.composed c.in_ok-delivered-in-Ok-Done.field-0 came.working came.operates (found_when c.in-Ok-Done.offer _ _ came.measured) c.in_ok-composed-in-Ok-Done.ensures out.bytes
+    c.delivered.new.host out.within out.same c.in-Ok-Done.offer c.in_ok-composed-in-Ok-Done.composed c.in_ok-delivered-in-Ok-Done.field-0 came.working came.operates (found_when c.in-Ok-Done.offer _ _ came.measured) c.in_ok-composed-in-Ok-Done.ensures.told out.bytes
 
 pub returns-in-Ok-Spoilt-clause-serves : goal.returns-in-Ok-Spoilt-clause-serves
 returns-in-Ok-Spoilt-clause-serves g c =
@@ -24,3 +27,11 @@ pub returns-in-Err-Refused-clause-serves : goal.returns-in-Err-Refused-clause-se
 returns-in-Err-Refused-clause-serves g c =
     let came = rw c.in-Err-Refused.field-0-is at c.in-Err-Refused.ensures in
     served_refused g.H.Storage.IsIntact g.H.Storage.IsOpen g.H.Storage.seen g.H.Storage.left g.H.Storage.IsSoundStore c.args.key c.args.at c.args.head.now _ _ c.args.host.now c.purge.new.self c.requested.new.host c.requires.keyed c.requires.working c.in_ok-purge.ensures.goes_on.within c.in_ok-purge.ensures.purges c.requested.ensures.within c.in-Err-Refused.rejection c.in_ok-text-in-Err-Refused.text came.working came.operates (rw c.in-Err-Refused.field-0-is at c.in_ok-text-in-Err-Refused.ensures)
+
+pub returns-in-Ok-Done-clause-measured : goal.returns-in-Ok-Done-clause-measured
+returns-in-Ok-Done-clause-measured g c clean =
+    let came = rw c.in-Ok-Done.field-0-is at c.in-Ok-Done.ensures in
+    let out = c.in_ok-delivered-in-Ok-Done.ensures in
+    let tables = (g.H.Storage.seen c.requested.new.host).now in
+    let found = found_when c.in-Ok-Done.offer _ _ came.measured (out.within.intact clean.0, out.within.opened clean.0 clean.1) in
+    subst (λ (s : Seen). IsPlanMeasured s.now c.in_ok-delivered-in-Ok-Done.field-0) (sym (out.same clean)) (out.measured tables (c.in_ok-composed-in-Ok-Done.ensures.measured tables found))

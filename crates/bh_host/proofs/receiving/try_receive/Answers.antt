@@ -5,7 +5,7 @@ use Rattle.bh_http.specs.Views.{with_body}
 use Rattle.bh_http.proofs.BodyLemmas.{going_may}
 use Rattle.bh_tables.specs.Typed.{Tables}
 use Rattle.bh_view.specs.View.{rows_purged, with_latest}
-use Rattle.bh_host.specs.Answers.{composed_in}
+use Rattle.bh_host.specs.Answers.{composed_in, IsToldMeasured}
 use Rattle.bh_host.specs.Runs.{Told}
 use Rattle.bh_host.specs.Receives.{AppliedAs, HasApplied, IsRefusedAs, IsStamp}
 use Rattle.bh_host.proofs.TakenBack.{applied_as}
@@ -163,3 +163,10 @@ returns-in_ok-commit-in-Kept-clause-tries g c =
         ),
       );
     }
+
+pub returns-in_ok-commit-in-Kept-clause-measured : goal.returns-in_ok-commit-in-Kept-clause-measured
+returns-in_ok-commit-in-Kept-clause-measured g c clean =
+    let served = rw c.in-Kept.is at c.in_ok-composed.ensures in
+    let done = c.in_ok-commit-in-Kept.ensures in
+    let tables = (g.H.Storage.seen c.serve.new.host).now in
+    subst (λ (t : Tables). IsToldMeasured t c.replied_at.result) (sym (done.done clean.0).now) (c.replied_at.ensures.measured tables (served.measured (done.intact clean.0, done.opened clean.0 clean.1)))

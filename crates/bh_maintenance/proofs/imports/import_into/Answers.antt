@@ -9,6 +9,6 @@ returns g c =
     let did = c.import_from.new in
     record {
       new = did.to.connection;
-      imports = subst (λ (p : Printed). Imports g.S.Store over_files c.args.from.now c.args.to did.from.connection did.to.connection p) (sym c.leave-printed.ensures.printed) c.in_ok-printed.ensures;
+      imports = subst (λ (p : Printed). Imports c.args.clock g.S.Store over_files c.args.from.now c.args.to did.from.connection did.to.connection p) (sym c.leave-printed.ensures.printed) c.in_ok-printed.ensures;
       closed = c.close.ensures did.to.connection c.leave-printed.ensures.left;
     }

@@ -11,7 +11,7 @@ use Rattle.bh_objects.proofs.retention.retention.Goals as goal
 pub returns-clause-carries : goal.returns-clause-carries
 returns-clause-carries g c clean =
     let first = state g.S.Store c.args.connection.now in
-    let last = state g.S.Store c.wanted_head.new.connection in
+    let last = state g.S.Store c.dated_head.new.connection in
     let new = state g.S.Store c.version_date.new.connection in
     let clean_last = c.in_ok-version_date.ensures.reads.within.follows.clean clean in
     let clean_first = c.in_ok-head.ensures.works.within.follows.clean clean_last in
@@ -26,7 +26,7 @@ returns-clause-works g c = record {
   opens = search rules;
   working = λ clean.
       let first = state g.S.Store c.args.connection.now in
-      let last = state g.S.Store c.wanted_head.new.connection in
+      let last = state g.S.Store c.dated_head.new.connection in
       let new = state g.S.Store c.version_date.new.connection in
       let clean_last = c.in_ok-version_date.ensures.reads.within.follows.clean clean in
       works_then first last new
@@ -40,10 +40,10 @@ returns-in_err-head-clause-carries g c clean =
     let clean_first = c.in_err-head.ensures.works.within.follows.clean clean in
     let one = c.in_ok-bucket_state.ensures.decides clean_first in
     rw (p.1, p.2) (gets_failed (tables_at (state g.S.Store c.args.connection.now)) (tables_at (state g.S.Store c.bucket_state.new.connection)) c.args.tenant.now c.args.bucket.now c.args.key.now
-    (c.requires (c.in_ok-bucket_state.ensures.works.within.follows.clean clean_first)).sound _ one.0 c.args.wanted one.1 head_seen Retention (tables_at (state g.S.Store c.wanted_head.new.connection)) c.in_err-head.field-0.0 (c.in_err-head.ensures.decides clean))
+    (c.requires (c.in_ok-bucket_state.ensures.works.within.follows.clean clean_first)).sound _ one.0 c.args.wanted one.1 head_seen Retention (tables_at (state g.S.Store c.dated_head.new.connection)) c.in_err-head.field-0.0 (c.in_err-head.ensures.decides clean))
 
-pub wanted_head-requires : goal.wanted_head-requires
-wanted_head-requires g c clean = (c.in_ok-bucket_state.ensures.works.working clean (λ bytes. bytes)).is
+pub dated_head-requires : goal.dated_head-requires
+dated_head-requires g c clean = (c.in_ok-bucket_state.ensures.works.working clean (λ bytes. bytes)).is
 
 pub version_date-requires : goal.version_date-requires
 version_date-requires g c clean = (c.in_ok-head.ensures.works.working clean (λ bytes. bytes)).is.inside
@@ -55,5 +55,5 @@ returns-in_err-head-clause-works g c = record {
   working =
       let p = err_from_is_err_and c.from_residual-in_err-head.result c.from_residual-in_err-head.ensures.1 in
       rw (p.1, p.2) (unless_then _ _ c.in_err-head.field-0.0
-      (λ still clean. works_then (state g.S.Store c.args.connection.now) (state g.S.Store c.bucket_state.new.connection) (state g.S.Store c.wanted_head.new.connection) (c.in_ok-bucket_state.ensures.works.working (c.in_err-head.ensures.works.within.follows.clean clean)) (still clean)) c.in_err-head.ensures.works.working);
+      (λ still clean. works_then (state g.S.Store c.args.connection.now) (state g.S.Store c.bucket_state.new.connection) (state g.S.Store c.dated_head.new.connection) (c.in_ok-bucket_state.ensures.works.working (c.in_err-head.ensures.works.within.follows.clean clean)) (still clean)) c.in_err-head.ensures.works.working);
 }

@@ -19,7 +19,7 @@ done : (g : given.Over) (c : goal.After-drop-head-2 g) → IsStateClean (state g
     × (tables_at (state g.S.Store c.set_date.new.connection) ≡ record (tables_at (state g.S.Store c.args.connection.now)) { retains = (tables_at (state g.S.Store c.set_date.new.connection)).retains })
 done g c clean =
     let first = state g.S.Store c.args.connection.now in
-    let last = state g.S.Store c.wanted_head.new.connection in
+    let last = state g.S.Store c.dated_head.new.connection in
     let clean_third = c.in_ok-set_date.ensures.changes.within.follows.clean clean in
     let clean_last = c.in_ok-present.ensures.works.within.follows.clean clean_third in
     let clean_first = c.in_ok-head.ensures.works.within.follows.clean clean_last in
@@ -51,7 +51,7 @@ returns-in_err-head-clause-carries g c clean =
     let clean_first = c.in_err-head.ensures.works.within.follows.clean clean in
     let one = c.in_ok-bucket_state.ensures.decides clean_first in
     rw (p.1, p.2) (puts_failed (tables_at (state g.S.Store c.args.connection.now)) (tables_at (state g.S.Store c.bucket_state.new.connection)) c.args.tenant.now c.args.bucket.now c.args.key.now
-    (c.requires (c.in_ok-bucket_state.ensures.works.within.follows.clean clean_first)).sound _ one.0 c.args.wanted one.1 head_seen (λ (_ : Unit {0}). Done) c.args.at c.args.until (tables_at (state g.S.Store c.wanted_head.new.connection)) c.in_err-head.field-0.0 (c.in_err-head.ensures.decides clean))
+    (c.requires (c.in_ok-bucket_state.ensures.works.within.follows.clean clean_first)).sound _ one.0 c.args.wanted one.1 head_seen (λ (_ : Unit {0}). Done) c.args.at c.args.until (tables_at (state g.S.Store c.dated_head.new.connection)) c.in_err-head.field-0.0 (c.in_err-head.ensures.decides clean))
 
 pub returns-in_err-present-clause-carries : goal.returns-in_err-present-clause-carries
 returns-in_err-present-clause-carries g c clean =
@@ -61,11 +61,11 @@ returns-in_err-present-clause-carries g c clean =
     let one = c.in_ok-bucket_state.ensures.decides clean_first in
     let two = c.in_ok-head.ensures.decides clean_last in
     rw (p.1, p.2) (puts_not_dated (tables_at (state g.S.Store c.args.connection.now)) (tables_at (state g.S.Store c.bucket_state.new.connection)) c.args.tenant.now c.args.bucket.now c.args.key.now
-    (c.requires (c.in_ok-bucket_state.ensures.works.within.follows.clean clean_first)).sound _ one.0 c.args.wanted one.1 (tables_at (state g.S.Store c.wanted_head.new.connection)) two.1 (head_seen c.in_ok-head.head) two.0
+    (c.requires (c.in_ok-bucket_state.ensures.works.within.follows.clean clean_first)).sound _ one.0 c.args.wanted one.1 (tables_at (state g.S.Store c.dated_head.new.connection)) two.1 (head_seen c.in_ok-head.head) two.0
     (λ date. date) (λ (_ : Unit {0}). Done) c.args.at c.args.until (tables_at (state g.S.Store c.present_date.new.connection)) c.in_err-present.field-0.0 (c.in_err-present.ensures.decides clean))
 
-pub wanted_head-requires : goal.wanted_head-requires
-wanted_head-requires g c clean = (c.in_ok-bucket_state.ensures.works.working clean (λ bytes. bytes)).is
+pub dated_head-requires : goal.dated_head-requires
+dated_head-requires g c clean = (c.in_ok-bucket_state.ensures.works.working clean (λ bytes. bytes)).is
 
 pub present_date-requires : goal.present_date-requires
 present_date-requires g c = record { working = λ clean. (c.in_ok-head.ensures.works.working clean (λ bytes. bytes)).is }
@@ -80,7 +80,7 @@ returns-in_err-head-clause-works g c = record {
   working =
       let p = err_from_is_err_and c.from_residual-in_err-head.result c.from_residual-in_err-head.ensures.1 in
       rw (p.1, p.2) (unless_then _ _ c.in_err-head.field-0.0
-      (λ still clean. works_then (state g.S.Store c.args.connection.now) (state g.S.Store c.bucket_state.new.connection) (state g.S.Store c.wanted_head.new.connection) (c.in_ok-bucket_state.ensures.works.working (c.in_err-head.ensures.works.within.follows.clean clean)) (still clean)) c.in_err-head.ensures.works.working);
+      (λ still clean. works_then (state g.S.Store c.args.connection.now) (state g.S.Store c.bucket_state.new.connection) (state g.S.Store c.dated_head.new.connection) (c.in_ok-bucket_state.ensures.works.working (c.in_err-head.ensures.works.within.follows.clean clean)) (still clean)) c.in_err-head.ensures.works.working);
 }
 
 pub returns-in_err-present-clause-works : goal.returns-in_err-present-clause-works
@@ -92,7 +92,7 @@ returns-in_err-present-clause-works g c = record {
       rw (p.1, p.2) (rejected_then _ _ c.in_err-present.field-0.0
       (λ still clean.
       let clean_last = c.in_err-present.ensures.works.within.follows.clean clean in
-      works_then (state g.S.Store c.args.connection.now) (state g.S.Store c.wanted_head.new.connection) (state g.S.Store c.present_date.new.connection)
-      (works_then (state g.S.Store c.args.connection.now) (state g.S.Store c.bucket_state.new.connection) (state g.S.Store c.wanted_head.new.connection) (c.in_ok-bucket_state.ensures.works.working (c.in_ok-head.ensures.works.within.follows.clean clean_last)) (c.in_ok-head.ensures.works.working clean_last))
+      works_then (state g.S.Store c.args.connection.now) (state g.S.Store c.dated_head.new.connection) (state g.S.Store c.present_date.new.connection)
+      (works_then (state g.S.Store c.args.connection.now) (state g.S.Store c.bucket_state.new.connection) (state g.S.Store c.dated_head.new.connection) (c.in_ok-bucket_state.ensures.works.working (c.in_ok-head.ensures.works.within.follows.clean clean_last)) (c.in_ok-head.ensures.works.working clean_last))
       (still clean)) c.in_err-present.ensures.works.working);
 }

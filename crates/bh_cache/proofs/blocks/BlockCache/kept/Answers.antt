@@ -1,5 +1,4 @@
-use Rattle.std.proofs.Common.{rules, ◌≡◌, ◌∙◌, sym, ap, subst, Contains, Some, option_copied}
-use Rattle.bh_cache.specs.Kept.{entries_in, KeptBlocks}
+use Rattle.std.proofs.Common.{◌∙◌, sym, ap, option_copied}
 use Rattle.bh_cache.specs.Names.{name_of}
 use Rattle.bh_cache.proofs.BlockNames.{exact}
 use Rattle.bh_cache.proofs.Keeping.{found_in}

@@ -1,89 +1,9 @@
-use Rattle.std.proofs.Common.{◌≤◌, sym, ◌∙◌, subst}
-use Rattle.bh_machine.specs.Machine.{operated}
-use Rattle.bh_model.specs.State.{Octets}
-use Rattle.bh_storage.specs.Calls.{Seen}
-use Rattle.bh_view.specs.View.{latest_of}
-use Rattle.bh_memo.proofs.Calls.{operates_shown, forgotten, measured_shown}
-use Rattle.bh_memo.proofs.Recalling.{same_limits}
-use Rattle.bh_schema.specs.Storage as storage
-use Rattle.bh_dispatch.specs.Seeing.{seen}
-use Rattle.bh_dispatch.proofs.Remembering.{unless_spoilt, finds, tells_so, so, alone_is, host_works}
 use Rattle.bh_dispatch.proofs.recalling.RecallingStorageStorage.operate.Goals as goal
 
-pub get_object-requires-clause-going : goal.get_object-requires-clause-going
-get_object-requires-clause-going g c = c.requires.going
+pub operate_in_blocks-requires : goal.operate_in_blocks-requires
+operate_in_blocks-requires g c = record { positive = c.block_size_of-size.ensures.positive; going = c.requires.going; working = c.requires.working; early = c.requires.early }
 
-pub get_object-requires-clause-working : goal.get_object-requires-clause-working
-get_object-requires-clause-working g c = c.requires.working
-
-pub operate-requires : goal.operate-requires
-operate-requires g c = record {
-  going = c.requires.going;
-  working = host_works g.S.Store g.D.Digester.digest_of c.args.self.now c.requires.working;
-  early = λ clean. subst (λ (x : Seen). c.args.at ≤ latest_of x.now) (alone_is g.S.Store g.D.Digester.digest_of c.args.self.now c.requires.working clean) (c.requires.early clean);
-}
-
-pub operate-requires-in_default-2 : goal.operate-requires-in_default-2
-operate-requires-in_default-2 g c = record {
-  going = c.requires.going;
-  working = host_works g.S.Store g.D.Digester.digest_of c.args.self.now c.requires.working;
-  early = λ clean. subst (λ (x : Seen). c.args.at ≤ latest_of x.now) (alone_is g.S.Store g.D.Digester.digest_of c.args.self.now c.requires.working clean) (c.requires.early clean);
-}
-
-pub returns-in-GetObject-clause-goes_on : goal.returns-in-GetObject-clause-goes_on
-returns-in-GetObject-clause-goes_on g c = c.get_object.ensures.goes_on
-
-pub returns-in-GetObject-clause-operates : goal.returns-in-GetObject-clause-operates
-returns-in-GetObject-clause-operates g c =
-    finds (seen g.S.Store c.args.self.now).limits c.args.at c.args.tenant.now c.in-GetObject.object c.in-GetObject.version c.in-GetObject.range _ _ _ (seen g.S.Store c.get_object.new.self).now (seen g.S.Store c.args.self.now).now (seen g.S.Store c.get_object.new.self).now c.get_object.result c.args.operation.now c.in-GetObject.is
-    (rw c.bytes_of.ensures at c.get_object.ensures.operates)
-
-pub returns-in-GetObject-clause-measured : goal.returns-in-GetObject-clause-measured
-returns-in-GetObject-clause-measured g c = c.get_object.ensures.measured
-
-pub returns-in_default : goal.returns-in_default
-returns-in_default g c =
-    let digest = g.D.Digester.digest_of in
-    let old = c.args.self.now in
-    let new = record old { storage = c.operate.new.self } in
-    let h = c.operate.ensures in
-    let w = h.goes_on.within in
-    let a = storage.seen g.S.Store old.storage.host in
-    let b = storage.seen g.S.Store c.operate.new.self.host in
-    let Clean = storage.IsClean g.S.Store c.operate.new.self.host in
-    let first : Clean → storage.IsClean g.S.Store old.storage.host = λ clean. (w.intact clean.0, w.opened clean.0 clean.1) in
-    let t = c.args.tenant.now in
-    let step = λ (given : Octets). operated a.limits c.args.at given c.args.operation.now in
-    let start = g.B.Body.coming c.args.body.now in
-    let end = g.B.Body.coming c.operate.new.body in
-    let was = λ (clean : Clean). alone_is g.S.Store digest old c.requires.working (first clean) in
-    let it = tells_so old.memo a.limits c.args.at t c.args.operation.now (sym c.only_tells.ensures ∙ c.if-only_tells.true) start end b.now a.now b.now Clean (λ clean. so g.S.Store digest old c.requires.working (first clean)) c.operate.result h.operates in
-    record {
-      goes_on = unless_spoilt g.S.Store digest old new c.operate.result h.goes_on it;
-      operates = rw (same_limits old.memo a) (operates_shown old.memo old.memo a b Clean was t step start end c.operate.result it h.operates);
-      measured = measured_shown old.memo old.memo a b Clean was c.operate.result it h.measured;
-    }
-
-pub returns-in_default-2 : goal.returns-in_default-2
-returns-in_default-2 g c =
-    let digest = g.D.Digester.digest_of in
-    let old = c.args.self.now in
-    let new = record old { storage = c.operate-in_default-2.new.self; memo = c.forget.new.self } in
-    let h = c.operate-in_default-2.ensures in
-    let w = h.goes_on.within in
-    let a = storage.seen g.S.Store old.storage.host in
-    let b = storage.seen g.S.Store c.operate-in_default-2.new.self.host in
-    let Clean = storage.IsClean g.S.Store c.operate-in_default-2.new.self.host in
-    let first : Clean → storage.IsClean g.S.Store old.storage.host = λ clean. (w.intact clean.0, w.opened clean.0 clean.1) in
-    let t = c.args.tenant.now in
-    let step = λ (given : Octets). operated a.limits c.args.at given c.args.operation.now in
-    let start = g.B.Body.coming c.args.body.now in
-    let end = g.B.Body.coming c.operate-in_default-2.new.body in
-    let was = λ (clean : Clean). alone_is g.S.Store digest old c.requires.working (first clean) in
-    let it = forgotten old.memo c.forget.new.self a b Clean was t step start end (record { latest = c.forget.ensures.latest; quiet = c.forget.ensures.quiet; buckets = c.forget.ensures.buckets; secrets = c.forget.ensures.secrets })
-    (λ clean. so g.S.Store digest old c.requires.working (first clean)) c.operate-in_default-2.result h.operates in
-    record {
-      goes_on = unless_spoilt g.S.Store digest old new c.operate-in_default-2.result h.goes_on it;
-      operates = rw (same_limits old.memo a) (operates_shown old.memo c.forget.new.self a b Clean was t step start end c.operate-in_default-2.result it h.operates);
-      measured = measured_shown old.memo c.forget.new.self a b Clean was c.operate-in_default-2.result it h.measured;
-    }
+pub returns : goal.returns
+returns g c =
+    let h = c.operate_in_blocks.ensures in
+    record { goes_on = h.goes_on; operates = h.operates; measured = h.measured; cuts = rw c.block_size_of-size.ensures.is at h.cuts }

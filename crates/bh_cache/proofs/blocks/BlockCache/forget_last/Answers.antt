@@ -1,0 +1,4 @@
+use Rattle.bh_cache.proofs.blocks.BlockCache.forget_last.Goals as goal
+
+pub returns-in-Some-clause-entries : goal.returns-in-Some-clause-entries
+returns-in-Some-clause-entries c = rw (← c.self.view_is, c.in-Some.is) c.drop_last.ensures.entries

@@ -1,0 +1,35 @@
+-- What a storage shows and leaves of the host beneath it.
+use Rattle.std.proofs.Common.{◌≡◌, Option, Some, sym, subst}
+use Rattle.std.specs.Prelude.{◌↔◌}
+use Rattle.sqlite_disk.specs.declared.Disk.{Ghosts}
+use Rattle.sqlite_store.specs.declared.store.FileStore.{FileStore}
+use Rattle.sqlite.specs.Files.{over_files}
+use Rattle.bh_types.specs.Limits.{HostLimits}
+use Rattle.bh_model.specs.State.{Octets}
+use Rattle.bh_tables.specs.Typed.{Tables}
+use Rattle.bh_view.specs.Bodies.{IsSoundHost}
+use Rattle.bh_storage.specs.Calls.{IsAtRest}
+use Rattle.bh_memo.proofs.Recalling.{rests_alone}
+use Rattle.bh_schema.specs.Storage as host
+use Rattle.bh_dispatch.specs.Seeing as recalling
+use Rattle.bh_dispatch.specs.declared.recalling.RecallingStorage.{RecallingStorage}
+use Rattle.bh_kept.specs.Kept as kept
+use Rattle.bh_kept.specs.Over.{StandsOver}
+use Rattle.bh_kept.specs.declared.host.KeptHost.{KeptHost}
+
+module _ {D G : Type 0} {g : Ghosts D} (digest : Octets → Octets) (it : RecallingStorage (FileStore D g) G) where
+  same_recalled : IsAtRest (IsSoundHost digest) (recalling.seen over_files it) → recalling.seen over_files it ≡ host.seen over_files it.storage.host
+  same_recalled rest = rests_alone it.memo (host.seen over_files it.storage.host) rest
+
+  pub recalling_over : StandsOver (λ (r : RecallingStorage (FileStore D g) G). host.IsIntact over_files r.storage.host) (λ r. host.IsOpen over_files r.storage.host) (IsSoundHost digest) (recalling.seen over_files)
+      (λ r. host.left over_files r.storage.host) it it.storage.host
+  recalling_over = record { intact = (λ i. i, λ i. i); opened = (λ o. o, λ o. o); leaves = λ x. (λ l. l, λ l. l); same = same_recalled }
+
+  pub kept_over : (h : KeptHost D G g) → h.storage ≡ Some it
+      → StandsOver (λ (k : KeptHost D G g). kept.IsIntact k.storage) (λ k. kept.IsOpen k.storage) (IsSoundHost digest) (λ k. kept.seen k.limits k.storage) (λ k. kept.left k.storage) h it.storage.host
+  kept_over h is = record {
+    intact = subst (λ o. kept.IsIntact o ↔ host.IsIntact over_files it.storage.host) (sym is) (λ i. i, λ i. i);
+    opened = subst (λ o. kept.IsOpen o ↔ host.IsOpen over_files it.storage.host) (sym is) (λ o. o, λ o. o);
+    leaves = λ x. subst (λ o. kept.left o x ↔ host.left over_files it.storage.host x) (sym is) (λ l. l, λ l. l);
+    same = subst (λ o. IsAtRest (IsSoundHost digest) (kept.seen h.limits o) → kept.seen h.limits o ≡ host.seen over_files it.storage.host) (sym is) same_recalled;
+  }

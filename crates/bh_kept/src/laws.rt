@@ -1,0 +1,18 @@
+//! What a crash leaves of a host beneath its storages, as the contract of a function that does
+//! nothing.
+
+ghost use Rattle.bh_kept.specs.Over.{RecallingStandsOver, KeptStandsOver};
+
+use crate::host::KeptHost;
+use bh_dispatch::recalling::RecallingStorage;
+use bh_schema::host::Digester;
+use bh_storage::storage::Storage;
+use sqlite::FileStore;
+use sqlite_disk::Disk;
+
+/// A storage that remembers facts and one that is served stand over their host: a crash leaves of
+/// them what it may leave of the host, and at rest they show what the host shows.
+pub fn stands_over<'a, D: Disk + Drop, G: Digester + Drop>()
+    ensures recalling { RecallingStandsOver ⟦<RecallingStorage<FileStore<D>, G> as Storage>⟧ }
+    ensures kept { KeptStandsOver ⟦<KeptHost<'a, D, G> as Storage>⟧ }
+{}

@@ -1,0 +1,4 @@
+pub mod RecordLemmas
+pub mod WholeLemmas
+pub mod KeptLemmas
+pub mod OutboxLemmas

@@ -1,0 +1,15 @@
+//! Many connections in one thread, of which each brings one request: what came of each is kept
+//! until the request is whole, and what it is answered until its socket takes it.
+#![tactic(auto)]
+
+mod connection;
+mod copying;
+pub mod draft;
+pub mod kept;
+pub mod order;
+pub mod outbox;
+pub mod record;
+pub mod stage;
+pub mod waiting;
+pub mod whole;
+pub mod wires;

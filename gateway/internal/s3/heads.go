@@ -1,0 +1,96 @@
+package s3
+
+import (
+	"bytes"
+	"context"
+	"net"
+	"net/http"
+	"sync"
+)
+
+// net/http takes away a length that stands beside a Transfer-Encoding, so that nobody sees that it stood there. A proxy before the
+// gateway may have cut the body by it: what follows would be another client's request for the one, and a body for the other (RFC
+// 9112, section 6.1). So each connection without TLS keeps the head that comes as it was sent.
+
+const longestHead = 40 << 10 // bytes; net/http refuses longer ones
+
+// headConn keeps the bytes of a head.
+type headConn struct {
+	net.Conn
+	mu      sync.Mutex
+	head    []byte
+	isWhole bool
+}
+
+// heads is a listener of such connections.
+type heads struct{ net.Listener }
+
+// Heads returns a listener whose connections keep the heads of requests, until Restart.
+func Heads(inner net.Listener) net.Listener { return heads{inner} }
+
+// Accept returns the next connection.
+func (h heads) Accept() (net.Conn, error) {
+	conn, err := h.Listener.Accept()
+	if err != nil {
+		return nil, err
+	}
+	return &headConn{Conn: conn}, nil
+}
+
+// NetConn returns the connection itself.
+func (c *headConn) NetConn() net.Conn { return c.Conn }
+
+// Read reads as the connection does.
+func (c *headConn) Read(b []byte) (int, error) {
+	n, err := c.Conn.Read(b)
+	c.mu.Lock()
+	defer c.mu.Unlock()
+	if !c.isWhole {
+		c.head = append(c.head, b[:n]...)
+		for _, end := range []string{"\n\r\n", "\n\n"} {
+			if at := bytes.Index(c.head, []byte(end)); at >= 0 {
+				c.head, c.isWhole = c.head[:at+1], true // (what follows is of the body)
+			}
+		}
+		c.isWhole = c.isWhole || len(c.head) > longestHead
+	}
+	return n, err
+}
+
+// Restart is for http.Server.ConnState: when a request has been answered the next head comes.
+func Restart(conn net.Conn, state http.ConnState) {
+	if c, isKept := conn.(*headConn); isKept && state == http.StateIdle {
+		c.mu.Lock()
+		defer c.mu.Unlock()
+		c.head, c.isWhole = nil, false
+	}
+}
+
+// hasLength returns whether a field of the head told a length, and whether the head was seen from its beginning on.
+func (c *headConn) hasLength() (isTold, isSeen bool) {
+	c.mu.Lock()
+	defer c.mu.Unlock()
+	text := bytes.ToLower(c.head)
+	return bytes.Contains(text, []byte("\ncontent-length:")), bytes.Contains(text, []byte("\ntransfer-encoding:"))
+}
+
+type headKey struct{}
+
+// withHead is for http.Server.ConnContext.
+func withHead(ctx context.Context, conn net.Conn) context.Context {
+	if c, isKept := conn.(*headConn); isKept {
+		return context.WithValue(ctx, headKey{}, c)
+	}
+	return ctx
+}
+
+// isTwofold returns whether a request has a length beside chunks, or may have. (Of one that came with the body before it the head
+// wasn't kept.)
+func isTwofold(r *http.Request) bool {
+	c, isKept := r.Context().Value(headKey{}).(*headConn)
+	if !isKept || len(r.TransferEncoding) == 0 {
+		return false
+	}
+	isTold, isSeen := c.hasLength()
+	return isTold || !isSeen
+}

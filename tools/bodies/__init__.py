@@ -1,0 +1,1 @@
+"""What tools/wrong-bodies is made of."""

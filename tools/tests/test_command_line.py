@@ -1,0 +1,78 @@
+"""The rows of words.txt: words of the command line, and what the program does."""
+import os
+import re
+import sqlite3
+import subprocess
+
+import pytest
+
+from host import PATIENCE, is_quick, listens, read
+
+HERE = os.path.dirname(os.path.abspath(__file__))
+LEAST = 130
+
+
+def rows():
+    """Each row's words and what is wanted, and whether it stands in the first block: each subcommand with what it needs."""
+    blocks, found = 0, []
+    for line in read(HERE, "words.txt").decode().split("\n"):
+        if line.startswith("#") or not line.strip():
+            blocks += not line
+            continue
+        row, _, wanted = line.partition(" => ")
+        found.append((row, wanted, blocks == 0))
+    return found
+
+
+def takes_seconds(row, wanted):
+    """Whether it opens a file with a host."""
+    return not (wanted in ("fault", "help") or wanted.startswith("2 ") or row.split(" ")[1].startswith("-") or row.split(" ")[1] == "script")
+
+
+def limits_of(folder, file):
+    it = sqlite3.connect(os.path.join(folder, file))
+    min_part, max_body = it.execute("SELECT min_part, max_body FROM host").fetchone()
+    it.close()
+    return f" min-part {min_part} max-body {max_body}"
+
+
+def served(program, folder, words):
+    """Whether a server says where it listens, or ends as one whose port is taken or not allowed."""
+    server = subprocess.Popen([program, *words], stdout=subprocess.PIPE, stderr=subprocess.PIPE, text=True, cwd=folder)
+    said = re.fullmatch(r"listening on 127\.0\.0\.1:(\d+)\n", server.stderr.readline())
+    if said:
+        port = words[words.index("--port") + 1]
+        is_well = listens(int(said[1])) and port in ("0", said[1])
+    else:
+        is_well = server.wait(60) == 1 and server.stdout.read() == "fault\n"
+    server.kill()
+    server.communicate()
+    return "serves" if is_well else f"status {server.returncode}"
+
+
+def done(program, folder, name, words):
+    """What a row of words does."""
+    given = "" if words[:1] == ["script"] else "greensecret\n"
+    it = subprocess.run([name, *words], executable=program, input=given, capture_output=True, text=True, cwd=folder, timeout=PATIENCE)
+    first = (it.stdout.splitlines() or [""])[0]
+    if first == "host":
+        file = next(word for n, word in enumerate(words) if words[n - 1] == "--file" or word.startswith("--file="))
+        first += limits_of(folder, file.removeprefix("--file="))
+    kind = "fault" if first.startswith("error: ") else "help" if "\nUsage: bucketd" in it.stdout else None
+    return [f"{it.returncode} {first}".strip(), *([kind] if kind and it.returncode == 2 else [])]
+
+
+@pytest.mark.cost(100)
+def test_words(expect, program, folder, every):
+    all_rows = rows()
+    left_out = 0
+    for row, wanted, is_first in all_rows:
+        if not (is_first or every or is_quick(program)) and takes_seconds(row, wanted):
+            left_out += 1
+            continue
+        name, *given = row.split(" ")
+        told = [served(program, folder, given)] if wanted == "serves" else done(program, folder, name, given)
+        expect(row, wanted in told, told)
+    expect("all rows are read", len(all_rows) >= LEAST, len(all_rows))
+    if left_out:
+        expect.skip(f"{left_out} rows that open a file", "a program without a proof takes too long (make test ALL=1)")

@@ -1,0 +1,271 @@
+"""An operator's lines to `bucketd serve` while it serves: each command beside requests, bad input, secrets, turns, and the log."""
+import json
+import os
+import re
+import socket
+import subprocess
+import threading
+import time
+
+import pytest
+
+from host import PATIENCE, all_of, is_fast, make_host, run
+from test_serve import Served
+
+SECRET = "Correct;horse:9battery"
+
+
+class Operated(Served):
+    """A server with a port for operators, and what is told it there."""
+
+    def __init__(self, program, file, *options, **more):
+        super().__init__(program, file, "--operator-port", "0", *options, **more)
+        self.program, self.door = program, self.operators()
+
+    def operator(self):
+        it = socket.create_connection(("127.0.0.1", self.door), PATIENCE)
+        it.settimeout(PATIENCE)
+        return it
+
+    def send(self, data, closes=False):
+        """What is answered to bytes; as much as comes where the connection breaks."""
+        with self.operator() as it:
+            try:
+                it.sendall(data)
+                if closes:
+                    it.shutdown(socket.SHUT_WR)
+            except OSError:
+                pass
+            return all_of(it)
+
+    def order(self, **members):
+        return self.send(json.dumps(members).encode() + b"\n").decode()
+
+    def tell(self, line, *more, given=None):
+        line = line if isinstance(line, str) else json.dumps(line)
+        told, status, _ = run(self.program, None, "tell", "--port", str(self.door), *more, line, given=given)
+        return told, status
+
+    def ask_as(self, tenant, secret, method, path, body=None):
+        return self.ask(tenant, method, path, body, secret=secret).status
+
+
+@pytest.fixture
+def file(program, folder):
+    return make_host(program, os.path.join(folder, "host"), ["green"])
+
+
+@pytest.fixture
+def it(program, file):
+    with Operated(program, file) as it:
+        it.get("PUT", "/plans", b"")
+        yield it
+
+
+@pytest.fixture
+def blue(it):
+    """The same with another tenant, who has no key."""
+    assert it.order(op="tenant-add", tenant="blue", quota=200000) == "tenant blue\n"
+    return it
+
+
+def loaded(it, ends, counts, slot):
+    """Requests of one client, until it is to end."""
+    while not ends.is_set():
+        path = f"/plans/load{slot}"
+        counts[slot] += it.get("PUT", path, b"load" * 100)[0] == 200
+        counts[slot] += it.get("GET", path)[0] == 200
+
+
+class Load:
+    """Clients that ask all the time."""
+
+    def __init__(self, it, clients):
+        self.ends, self.counts = threading.Event(), [0] * clients
+        self.threads = [threading.Thread(target=loaded, args=(it, self.ends, self.counts, slot)) for slot in range(clients)]
+        for thread in self.threads:
+            thread.start()
+
+    def end(self):
+        self.ends.set()
+        for thread in self.threads:
+            thread.join()
+        return sum(self.counts)
+
+
+def test_each_line(it, expect):
+    """Each of an operator's lines while four clients ask."""
+    load = Load(it, 4)
+    lines = [
+        ({"op": "tenant-add", "tenant": "blue", "quota": 100000}, "tenant blue\n"),
+        ({"op": "tenant-add", "tenant": "blue", "quota": 1}, "41 TenantExists\n"),
+        ({"op": "quota", "tenant": "blue", "quota": 200000}, "quota blue 200000\n"),
+        ({"op": "key-add", "tenant": "blue", "name": "k1", "secret": "bluesecret"}, "key blue$k1\n"),
+        ({"op": "usage", "tenant": "blue"}, "usage blue bytes 0 quota 200000\n"),
+        ({"op": "usage", "tenant": "none"}, "42 NoSuchTenant\n"),
+        ({"op": "keys", "tenant": "blue"}, "keys blue 1 k1\n"),
+        ({"op": "keys", "tenant": "none"}, "42 NoSuchTenant\n"),
+    ]
+    for members, wanted in lines:
+        told = it.order(**members)
+        expect(f"an operator's line while requests come: {members['op']} {wanted.split()[0]}", told == wanted, told)
+    status = [it.ask_as("blue", "bluesecret", "PUT", "/papers", b""), it.ask_as("blue", "bluesecret", "PUT", "/papers/x", b"12345")]
+    expect("a key that was added while it serves is used at once", status == [200, 200], f"{status}")
+    told = it.order(op="usage", tenant="blue", at=5)
+    expect("an `at` in a line doesn't count", told == "usage blue bytes 5 quota 200000\n", told)
+    it.ask_as("blue", "bluesecret", "DELETE", "/papers/x")
+    told = it.order(op="tenants")
+    expect("all tenants while it serves", re.fullmatch(r"tenants \d+( [a-z0-9]+ bytes \d+ quota \d+ keys \d+)+\n", told) is not None and " blue bytes 0 quota 200000 keys 1" in told, told)
+    told = it.order(op="report")
+    expect("a report while it serves", re.fullmatch(r"blocks \d+ stored \d+ referred \d+ clashes 0\n", told) is not None, told)
+    told = it.order(op="sweep", limit=100000)
+    expect("a sweep while it serves", re.fullmatch(r"sweep uploads 0 blocks [1-9]\d* (complete|partial)\n", told) is not None, told)
+    told = it.order(op="key-remove", tenant="blue", name="k1")
+    status = it.ask_as("blue", "bluesecret", "HEAD", "/papers")
+    expect("a key that was removed while it serves is of no use at once", (told, status) == ("removed blue$k1\n", 403), f"{told} {status}")
+    expect("requests go on meanwhile", load.end() > 0)
+
+
+def test_tell(blue, expect):
+    """The same by `bucketd tell`."""
+    for line, wanted in (
+        ({"op": "usage", "tenant": "blue"}, ("usage blue bytes 0 quota 200000", 0)),
+        ({"op": "quota", "tenant": "blue", "quota": 1 << 61}, ("46 InvalidQuota", 1)),
+        ({"op": "keys", "tenant": "blue"}, ("keys blue 0", 0)),
+        ('{\n  "op": "usage",\n  "tenant": "blue"\n}', ("usage blue bytes 0 quota 200000", 0)),
+        ("usage blue", ("bad line", 1)),
+        ({"http": "GET / HTTP/1.1\r\n\r\n"}, ("bad line", 1)),
+    ):
+        told = blue.tell(line)
+        expect(f"bucketd tell: {str(line)[:40]!r}", told == wanted, f"{told}")
+
+
+def test_tell_by_standard_input(blue, expect):
+    told = blue.tell("-", given='{"op":"usage","tenant":"blue"}\n{"op":"usage","tenant":"none"}\n')
+    expect("bucketd tell of the first line of standard input", told == ("usage blue bytes 0 quota 200000", 0), f"{told}")
+    told = blue.tell("-", given="")
+    expect("bucketd tell of no standard input", told == ("bad line", 1), f"{told}")
+
+
+def test_bad_input(blue, expect):
+    it, timeout = blue, blue.timeout
+    before = it.order(op="usage", tenant="blue")
+    add = b'{"op":"tenant-add","tenant":"bad","quota":1}'
+    cases = [
+        ("a line of 1 MB", b'{"op":"tenant-add","tenant":"bad","quota":1' + b" " * (1 << 20) + b"}\n", True),
+        ("a line of 16,385 bytes", add[:-1] + b" " * (16384 - len(add)) + b"}\n", True),
+        ("half a line, and the end", add[:20], True),
+        ("a whole object without a line feed, and the end", add, True),
+        ("an empty line", b"\n", False),
+        ("bytes that are no UTF-8", b'{"op":"tenant-add","tenant":"\xff","quota":1}\n', False),
+        ("a request", b"GET /plans HTTP/1.1\r\nhost: h\r\n\r\n", False),
+        ("a request of a script", b'{"http":"GET /plans HTTP/1.1\\r\\n\\r\\n"}\n', False),
+        ("a member too many", add[:-1] + b',"more":1}\n', False),
+        ("two objects", add + add + b"\n", False),
+    ]
+    for name, data, closes in cases:
+        told = it.send(data, closes)
+        # A socket that is closed with bytes unread may take the reply from whoever sent too many.
+        expect(f"bad input: {name}", told == b"bad line\n" or (len(data) > 16384 and told == b""), f"{told!r}")
+    begun = time.monotonic()
+    told = it.send(b'{"op":"report"')
+    took = time.monotonic() - begun
+    expect("bad input: no line within --timeout", told == b"" and 0.9 * timeout <= took < 2 * timeout + 1, f"{told!r} after {took:.1f} s")
+    longest = add[:-1].replace(b"bad", b"longest") + b" " * (16384 - len(add) - 5) + b"}\n"
+    told = it.send(longest)
+    expect("a line of 16,384 bytes", (len(longest), told) == (16384, b"tenant longest\n"), f"{len(longest)} {told!r}")
+    expect("nothing of bad input was applied", it.order(op="usage", tenant="bad") == "42 NoSuchTenant\n")
+    expect("serving goes on after bad input", it.get("HEAD", "/plans")[0] == 200 and it.order(op="usage", tenant="blue") == before)
+    first, second = it.operator(), it.operator()
+    second.sendall(b'{"op":"usage","tenant":"blue"}\n')
+    first.sendall(b'{"op":"usage","tenant":"none"}\n')
+    told = [each.makefile("rb").read() for each in (first, second)]
+    expect("two operators at once", told == [b"42 NoSuchTenant\n", before.encode()], f"{told}")
+
+
+def test_public_port(it, expect):
+    line = b'{"op":"tenant-add","tenant":"public","quota":1}\n'
+    answer = it.exchange(line + b"\r\n\r\n")
+    told = it.order(op="usage", tenant="public")
+    expect("an operator's line on the public port", answer.startswith(b"HTTP/1.1 400 ") and told == "42 NoSuchTenant\n", f"{answer} {told}")
+
+
+def test_turns(blue, expect):
+    """Lines one after another beside eight clients: neither starves the other."""
+    load, took, ends = Load(blue, 8), [], time.monotonic() + 3
+    while time.monotonic() < ends:
+        begun = time.monotonic()
+        blue.order(op="usage", tenant="blue")
+        took.append((time.monotonic() - begun) * 1000)
+        time.sleep(0.01)
+    count = load.end()
+    took.sort()
+    expect.note(f"{len(took)} lines, {took[len(took) // 2]:.1f} ms in the middle and {took[-1]:.1f} at most, beside {count} requests")
+    expect("lines and requests in turns", len(took) > 0 and count > 0, f"{len(took)} {count}")
+    ends, lines = threading.Event(), []
+    sending = [threading.Thread(target=lambda: [lines.append(blue.order(op="report")) for _ in iter(ends.is_set, True)]) for _ in range(8)]
+    for thread in sending:
+        thread.start()
+    status = [blue.get("HEAD", "/plans")[0] for _ in range(5)]
+    ends.set()
+    for thread in sending:
+        thread.join()
+    expect("requests beside eight operators", status == [200] * 5, f"{status}")
+
+
+def test_secrets(program, folder, file, expect):
+    path = os.path.join(folder, "operator.secret")
+    with open(os.open(path, os.O_CREAT | os.O_WRONLY, 0o600), "w") as out:
+        out.write(SECRET + "\nmore\n")
+    it = Operated(program, file, "--operator-secret-file", path, "--log")
+    line = b'{"op":"tenant-add","tenant":"secretive","quota":1}\n'
+    for name, data in (("no secret", line), ("another secret", b"Correct;horse:9batterx " + line), ("half a secret", SECRET[:8].encode() + b" " + line),
+                       ("a longer secret", SECRET.encode() + b"0 " + line), ("a secret without a space", SECRET.encode() + line)):
+        told = it.send(data)
+        expect(f"a line with {name}", told == b"bad line\n", f"{told!r}")
+    told = it.send(SECRET.encode() + b' {"op":"usage","tenant":"secretive"}\n')
+    expect("a refused line isn't applied", told == b"42 NoSuchTenant\n", f"{told!r}")
+    told = it.tell({"op": "key-add", "tenant": "green", "name": "k2", "secret": "anothersecret"}, "--secret-file", path)
+    expect("bucketd tell with a secret", told == ("key green$k2", 0), f"{told}")
+    told = it.tell({"op": "report"})
+    expect("bucketd tell without it", told == ("bad line", 1), f"{told}")
+    logged = [text for text in it.lines() if " operator " in text]
+    wanted = r"\d{4}-\d\d-\d\dT\d\d:\d\d:\d\dZ - operator - - (-|bad_line|42_NoSuchTenant) \d+ \d+ \d+"
+    expect("the log of lines", len(logged) == 8 and all(re.fullmatch(wanted, text) for text in logged), f"{logged}")
+    expect("no secret of an operator is in the log", not any(SECRET[:7] in text or "secret" in text for text in it.lines()), f"{it.lines()}")
+    it.end()
+    words = [program, "serve", "--file", file, "--port", "0", "--operator-port", "0", "--operator-secret-file", path, "--count", "1"]
+    os.chmod(path, 0o640)
+    done = subprocess.run(words, cwd=folder, capture_output=True, text=True, timeout=PATIENCE)
+    expect("a secret's file that others may read", (done.returncode, done.stdout) == (1, "fault\n") and "mode 0600" in done.stderr, f"{done}")
+    os.chmod(path, 0o600)
+    with open(path, "w") as out:
+        out.write("short\n")
+    done = subprocess.run(words, cwd=folder, capture_output=True, text=True, timeout=PATIENCE)
+    expect("a secret of 5 characters", (done.returncode, done.stdout) == (1, "fault\n"), f"{done}")
+    del words[words.index("--operator-port"):words.index("--operator-secret-file")]
+    done = subprocess.run(words, cwd=folder, capture_output=True, text=True, timeout=PATIENCE)
+    expect("a secret's file without a port for operators", done.returncode == 2 and "--operator-port" in done.stdout, f"{done}")
+
+
+def test_counted(program, file, expect):
+    it = Operated(program, file, count=2)
+    told, status = it.order(op="report"), it.get("HEAD", "/plans")[0]
+    it.process.communicate(timeout=60)
+    expect("a line and a request are two connections", told.startswith("blocks ") and (status, it.process.returncode) == (404, 0), f"{told} {status}")
+    told = it.tell({"op": "report"})
+    expect("bucketd tell where nobody listens", told == ("fault", 1), f"{told}")
+
+
+@pytest.mark.cost(60)
+def test_many_tenants(program, folder, expect):
+    """A list of tenants that is longer than any line that a host takes: 240 of the longest names are enough for that."""
+    quotas = {f"t{number:031}": (1 << 59) + number for number in range(2000 if is_fast(program) else 240)}
+    with Operated(program, make_host(program, os.path.join(folder, "many"), [])) as it:
+        added = [it.order(op="tenant-add", tenant=tenant, quota=quota) for tenant, quota in quotas.items()]
+        expect(f"{len(quotas)} tenants are added", added == [f"tenant {tenant}\n" for tenant in quotas], added[-1])
+        told = it.order(op="tenants")
+        found = {tenant: int(quota) for tenant, quota in re.findall(r" (t\d+) bytes 0 quota (\d+) keys 0", told)}
+        expect("all of them are told", len(told) > 16384 and found == quotas, f"{len(told)} {told[:100]}")
+        printed = it.tell({"op": "tenants"})
+        expect("and printed by bucketd tell", printed == (told.removesuffix("\n"), 0), f"{printed[1]} {printed[0][:100]}")
