@@ -265,12 +265,14 @@ func (l *Listener) pass() {
 // State is for http.Server.ConnState: a connection that waits for a request may be closed for another one, one that has a request
 // may not.
 func (l *Listener) State(conn net.Conn, state http.ConnState) {
-	if secure, ok := conn.(interface{ NetConn() net.Conn }); ok {
-		conn = secure.NetConn()
-	}
 	c, ok := conn.(*Conn)
-	if !ok {
-		return
+	for !ok {
+		outer, isOuter := conn.(interface{ NetConn() net.Conn })
+		if !isOuter {
+			return
+		}
+		conn = outer.NetConn()
+		c, ok = conn.(*Conn)
 	}
 	var oldest *Conn
 	l.mu.Lock()

@@ -152,7 +152,7 @@ func newGateway(t testing.TB, change func(o *options)) (*Server, *standin, signe
 	}
 	web := httptest.NewUnstartedServer(s)
 	web.Config = s.Web()
-	web.Listener = Heads(web.Listener)
+	web.Listener = Heads(web.Listener, web.Config.ErrorLog)
 	web.Start()
 	t.Cleanup(web.Close)
 	client := func(name string) signer {

@@ -130,7 +130,7 @@ func (s *Server) ServeHTTP(w http.ResponseWriter, r *http.Request) {
 	c := &call{Caller: &sigv4.Caller{}, server: s, w: w, r: r, conn: http.NewResponseController(w), line: accesslog.Of(r.Context())}
 	c.tell("Server", "bucketd-gateway")
 	if len(r.TransferEncoding) > 0 {
-		c.tell("Connection", "close") // (over TLS a length beside it isn't seen: nothing that follows is taken for a request)
+		c.tell("Connection", "close") // (a proxy may see the end of chunks elsewhere: nothing that follows is taken for a request)
 	}
 	defer func() {
 		for _, act := range c.ends {
