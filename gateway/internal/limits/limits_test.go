@@ -272,6 +272,7 @@ func TestLateEvent(t *testing.T) {
 	if c := l.poll.ready(number); c != nil || l.Taken() != 1 || !isOpen(conn) {
 		t.Fatalf("the silent one is %v, %d are taken", c, l.Taken())
 	}
+	conn.SetDeadline(time.Now().Add(30 * time.Second))
 	if err := asks(conn, "/"); err != nil {
 		t.Error(err)
 	}
