@@ -43,7 +43,7 @@ def test_examples(expect, every):
     if is_proved():
         pytest.skip("the gate has run them")
     left_out = dict([*LEFT_OUT.items()][1:] if every else LEFT_OUT)
-    words = ["rt", "try", *data_of("examples"), "--seconds", "1800", "--", *quick_words(left_out)]
+    words = ["rt", "try", *data_of("examples"), "--seconds", "3600", "--", *quick_words(left_out)]
     done = subprocess.run(words, cwd=os.path.join(CRATES, "examples"), input=read(CRATES, "examples/stdin"), capture_output=True)
     lines, wrote = read(CRATES, "examples/stdout").splitlines(True), done.stdout.splitlines()
     wanted = b"".join(line for line in lines if not any(text in line for text in left_out.values()))
