@@ -18,14 +18,23 @@ import zlib
 from contextlib import contextmanager
 from http.client import HTTPException
 
+from host import PATIENCE
 from s3_requests import TRAILER, Client, Gateway
 
 NONE = "UNSIGNED-PAYLOAD"
-PATIENCE = 20  # seconds that an honest client waits at most, on a machine with other work
+HONEST = 20  # seconds that an honest client waits at most, on a machine with other work
 
 
 def state(text):
     return f"<VersioningConfiguration><Status>{text}</Status></VersioningConfiguration>".encode()
+
+
+def until(is_well, patience=PATIENCE):
+    """Waits until something is so; whether it is, in the end."""
+    end = time.monotonic() + patience
+    while not (found := is_well()) and time.monotonic() < end:
+        time.sleep(0.05)
+    return found
 
 
 class World:
@@ -58,7 +67,7 @@ class World:
             other.end()
 
 
-def raw(port, text, seconds=PATIENCE, source="127.0.0.1"):
+def raw(port, text, seconds=HONEST, source="127.0.0.1"):
     """What comes back for some bytes, until the end or a pause of so many seconds."""
     with socket.create_connection(("127.0.0.1", port), timeout=seconds, source_address=(source, 0)) as link:
         link.sendall(text)
@@ -147,7 +156,7 @@ def strangers(w):
             except OSError as error:
                 status = str(error)
             took = time.monotonic() - begun
-            w.expect(f"strangers' connections that are {name} keep nobody out", status == b"HTTP/1.1 200" and took < PATIENCE / 2, (status, f"{took:.1f} s"))
+            w.expect(f"strangers' connections that are {name} keep nobody out", status == b"HTTP/1.1 200" and took < HONEST, (status, f"{took:.1f} s"))
             for it in links:
                 it.close()
 
@@ -160,7 +169,7 @@ def drip(w):
         begun, got = time.monotonic(), b""
         with socket.create_connection(("127.0.0.1", other.port), timeout=0.5) as link:
             link.sendall(head_of("PUT", "/base/drip", {**head, "content-length": "60000"}))
-            while not got and time.monotonic() - begun < 60:
+            while not got and time.monotonic() - begun < 120:
                 try:
                     link.sendall(b"x")
                     got = link.recv(1000)
@@ -169,7 +178,7 @@ def drip(w):
                 except OSError as error:
                     got = str(error).encode()
         took = time.monotonic() - begun
-        w.expect("a body that drips is ended, and not before half a minute", got and 25 < took < 50, (got, f"{took:.0f} s"))
+        w.expect("a body that drips is ended, and not before half a minute", got and took > 25, (got, f"{took:.0f} s"))
 
 
 def documents(w):
@@ -263,7 +272,7 @@ def key_file(w):
         w.want("a key that is in its file", client.ask("GET", "/"), 200)
         with open(os.path.join(other.folder, "keys"), "w") as file:
             file.write("what is no key\n" + whole.split("\n")[1] + "\n")
-        time.sleep(3)
+        until(lambda: client.ask("GET", "/")[0] == 403, HONEST)
         w.want("one that is revoked, beside a line that is bad", client.ask("GET", "/"), 403, "InvalidAccessKeyId")
 
 
@@ -394,7 +403,7 @@ def tls(w):
         context = ssl.SSLContext(ssl.PROTOCOL_TLS_CLIENT)
         context.check_hostname, context.verify_mode, context.maximum_version = False, ssl.CERT_NONE, ssl.TLSVersion.TLSv1_2
         context.set_ciphers(ciphers)
-        with socket.create_connection(("127.0.0.1", other.port), timeout=PATIENCE) as link:
+        with socket.create_connection(("127.0.0.1", other.port), timeout=HONEST) as link:
             try:
                 with context.wrap_socket(link) as safe:
                     return safe.cipher()[0], safe.getpeercert(True)
@@ -407,9 +416,8 @@ def tls(w):
         w.expect("keys aren't exchanged by RSA, nor bytes kept by CBC", not any(found.values()), found)
         before = handshake("ECDHE+AESGCM")[1]
         use("second")
-        time.sleep(3)
-        after = handshake("ECDHE+AESGCM")[1]
-        w.expect("a renewed certificate is taken up", before and after and before != after, "the old one")
+        is_taken_up = until(lambda: handshake("ECDHE+AESGCM")[1] not in (before, None), HONEST)
+        w.expect("a renewed certificate is taken up", before and is_taken_up, "the old one")
 
 
 def log(w):
@@ -419,7 +427,7 @@ def log(w):
         client = Client(other.port)
         ids = [client.bare("GET", "/logged/x?X-Amz-Signature=abcdef")[3]["x-amz-request-id"] for _ in range(2)]
         client.ask("GET", "/logged/none")
-        time.sleep(0.5)
+        until(lambda: "green$k1" in other.text(), HONEST)
         text = other.text()
     w.expect("each request has an id of its own", len(set(ids)) == 2 and None not in ids, ids)
     w.expect("address and key stand in the log", "127.0.0.1" in text.split("listening", 1)[1].split("\n", 1)[1] and "green$k1" in text, text[-400:])

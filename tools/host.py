@@ -13,6 +13,7 @@ import subprocess
 import sys
 import tempfile
 import time
+from collections import deque
 from contextlib import contextmanager
 
 TOP = os.path.dirname(os.path.dirname(os.path.abspath(__file__)))
@@ -22,8 +23,8 @@ PROVED = os.path.join(CRATES, "bucketd/out/bucketd")
 COUNT = 1_000_000_000
 # Seconds that a busy machine may take for anything that is waited for.
 PATIENCE = 300
-# Where files need no disk.
-SHARED_MEMORY = "/dev/shm" if os.path.isdir("/dev/shm") else None
+# Where files need no disk. A whole run has a folder of its own there, which goes with it.
+SHARED_MEMORY = os.environ.get("QUICK_FOLDER") or ("/dev/shm" if os.path.isdir("/dev/shm") else None)
 EIO, ENOSPC = 5, 28
 # Ends of the names of a host's files: its rows, and its log.
 TAILS = ("", "-wal")
@@ -251,10 +252,18 @@ def differing(wanted, found):
 # ---- servers
 
 
+# Sockets that keep the last ports that were given.
+KEPT_PORTS = deque(maxlen=200)
+
+
 def free_port():
-    with socket.socket() as it:
-        it.bind(("127.0.0.1", 0))
-        return it.getsockname()[1]
+    """A port that is given to nobody else while this process keeps it: a socket is bound to it, beside which a server may listen
+    that allows such a one (SO_REUSEADDR), as bucketd and nginx do."""
+    it = socket.socket()
+    it.setsockopt(socket.SOL_SOCKET, socket.SO_REUSEADDR, 1)
+    it.bind(("127.0.0.1", 0))
+    KEPT_PORTS.append(it)
+    return it.getsockname()[1]
 
 
 def connected(port, patience=PATIENCE, room=None):

@@ -44,7 +44,7 @@ def served(program, folder, words):
         port = words[words.index("--port") + 1]
         is_well = listens(int(said[1])) and port in ("0", said[1])
     else:
-        is_well = server.wait(60) == 1 and server.stdout.read() == "fault\n"
+        is_well = server.wait(PATIENCE) == 1 and server.stdout.read() == "fault\n"
     server.kill()
     server.communicate()
     return "serves" if is_well else f"status {server.returncode}"

@@ -13,7 +13,7 @@ import time
 
 import pytest
 
-from host import Answer, Server, all_of, event, is_quick, make_host, request, resets, script
+from host import Answer, Server, all_of, event, is_fast, is_quick, make_host, request, resets, script
 
 TARGET = "/plans/x"
 GREAT = 8 << 20
@@ -26,7 +26,7 @@ def stride(program, every):
 
 @pytest.fixture
 def server(program, folder):
-    timeout = 2 if is_quick(program) else 6
+    timeout = 2 if is_fast(program) else 6
     with Server(program, make_host(program, os.path.join(folder, "host"), ["green"]), "--timeout", str(timeout)) as it:
         it.timeout = timeout
         assert it.ask("green", "PUT", "/plans").status == 200

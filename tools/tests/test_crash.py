@@ -216,7 +216,7 @@ def disk_folder():
 def test_kills(expect, program, disk_folder, full, seed=1):
     file, left, steps = os.path.join(disk_folder, "killed"), budget(full, "kills"), 0
     host, number = made(program, file), 0
-    while number < (KILLS if full else SHORT_KILLS) and (number == 0 or left.is_left()):
+    while number < (KILLS if full else SHORT_KILLS) and (steps == 0 or left.is_left()):
         number += 1
         done, found = killed(program, file, disk_folder, host, seed, number)
         steps += done

@@ -84,8 +84,9 @@ def files_below(folder):
 
 
 def test_install(expect, program, folder):
-    place, staged = os.path.join(folder, "here"), os.path.join(folder, "staged")
-    done = install(program, place, "install")
+    place, staged, given = os.path.join(folder, "here"), os.path.join(folder, "staged"), os.path.join(folder, "a program")
+    os.symlink(program, given)
+    done = install(given, place, "install")
     expect("make install", files_below(place) == INSTALLED, f"{files_below(place)} {done.stderr}")
     expect("the program that was installed", open(os.path.join(place, "bin/bucketd"), "rb").read() == open(program, "rb").read())
     expect("its page and completions", all(read(place, name) == read(DEPLOY, source) for name, source in (

@@ -10,7 +10,7 @@ import time
 import pytest
 
 from host import PATIENCE, all_of, is_fast, make_host, run
-from test_serve import Served
+from test_serve import BUSY, Served
 
 SECRET = "Correct;horse:9battery"
 
@@ -170,7 +170,7 @@ def test_bad_input(blue, expect):
     begun = time.monotonic()
     told = it.send(b'{"op":"report"')
     took = time.monotonic() - begun
-    expect("bad input: no line within --timeout", told == b"" and 0.9 * timeout <= took < 2 * timeout + 1, f"{told!r} after {took:.1f} s")
+    expect("bad input: no line within --timeout", told == b"" and 0.9 * timeout <= took < timeout + BUSY, f"{told!r} after {took:.1f} s")
     longest = add[:-1].replace(b"bad", b"longest") + b" " * (16384 - len(add) - 5) + b"}\n"
     told = it.send(longest)
     expect("a line of 16,384 bytes", (len(longest), told) == (16384, b"tenant longest\n"), f"{len(longest)} {told!r}")
@@ -251,7 +251,7 @@ def test_secrets(program, folder, file, expect):
 def test_counted(program, file, expect):
     it = Operated(program, file, count=2)
     told, status = it.order(op="report"), it.get("HEAD", "/plans")[0]
-    it.process.communicate(timeout=60)
+    it.process.communicate(timeout=PATIENCE)
     expect("a line and a request are two connections", told.startswith("blocks ") and (status, it.process.returncode) == (404, 0), f"{told} {status}")
     told = it.tell({"op": "report"})
     expect("bucketd tell where nobody listens", told == ("fault", 1), f"{told}")

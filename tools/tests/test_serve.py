@@ -22,6 +22,10 @@ from host import PATIENCE, SCRIPTS, Server, all_of, command, event_words, is_fas
 ENABLED = b'{"Status":"Enabled"}'
 
 
+# Seconds more that a busy machine may take for what a connection has --timeout for.
+BUSY = 30
+
+
 class Served(Server):
     """A server whose connections have some seconds, asked by the tenant green."""
 
@@ -176,17 +180,18 @@ def test_answers_half_read(expect, on):
     expect("a get after a client that resets within a response", on.get("GET", "/plans/half-read")[2] == data)
 
 
-def timed(expect, on, name, least, most, act, **room):
+def timed(expect, on, name, act, **room):
     """What comes to a client, whose connection is broken off after the timeout and no sooner: then the next is answered."""
     begun, it = time.monotonic(), on.socket(**room)
     act(it)
     status = on.get("HEAD", "/plans")[0]
-    took = time.monotonic() - begun
-    expect(name, status == 200 and least <= took < most, f"{status} after {took:.1f} s, not {least} to {most}")
+    took, least = time.monotonic() - begun, 0.9 * on.timeout
+    expect(name, status == 200 and least <= took < least + BUSY, f"{status} after {took:.1f} s, not after {least:.1f} or somewhat more")
     return all_of(it)
 
 
 def drip(it):
+    """A minute of bytes."""
     try:
         for byte in head("PUT", "/plans/drip", 3) + b"abc":
             it.sendall(bytes([byte]))
@@ -197,16 +202,15 @@ def drip(it):
 
 @pytest.mark.cost(40)
 def test_slow_clients(expect, program, on):
-    least, most = 0.9 * on.timeout, 2 * on.timeout + 1
-    came = timed(expect, on, "a client that says nothing", least, most, lambda it: None)
+    came = timed(expect, on, "a client that says nothing", lambda it: None)
     expect("is told nothing", came == b"", came)
-    came = timed(expect, on, "a client that sends two bytes a second", least, most + 1, drip)
+    came = timed(expect, on, "a client that sends two bytes a second", drip)
     absent(expect, on, "a client that sends two bytes a second", "/plans/drip")
     if not is_fast(program):
         return expect.skip("a client that doesn't read", "its object is too large for a slow program")
     data = os.urandom(on.large)
     on.get("PUT", "/plans/large", data)
-    came = timed(expect, on, "a client that doesn't read", least, most + 1, lambda it: it.sendall(head("GET", "/plans/large", 0)), room=4096)
+    came = timed(expect, on, "a client that doesn't read", lambda it: it.sendall(head("GET", "/plans/large", 0)), room=4096)
     body = came.partition(b"\r\n\r\n")[2]
     expect("has a part of its answer", came.startswith(b"HTTP/1.1 200 OK\r\n") and data.startswith(body) and len(body) < len(data), f"{len(body)} of {len(data)} bytes")
 
@@ -269,9 +273,8 @@ def test_no_file_for_a_connection(expect, on):
 
 def logged_after(on, before, count):
     """What the log has after so many lines, once there are so many more; an answer may come before its line."""
-    for _ in range(2000):
-        if len(on.lines()) >= before + count:
-            break
+    begun = time.monotonic()
+    while len(on.lines()) < before + count and time.monotonic() - begun < BUSY:
         time.sleep(0.01)
     return on.lines()[before:]
 
@@ -319,7 +322,7 @@ def test_ends(expect, program, file):
     on = Served(program, file, count=2)
     on.get("HEAD", "/plans")
     on.get("HEAD", "/plans")
-    out, _ = on.process.communicate(timeout=60)
+    out, _ = on.process.communicate(timeout=PATIENCE)
     told = (on.process.returncode, out, on.lines())
     expect("two connections, and its end", told == (0, b"", [f"listening on 127.0.0.1:{on.port}"]), f"{told}")
     with socket.create_server(("127.0.0.1", 0)) as taken:
