@@ -10,4 +10,4 @@ use Rattle.bh_commands.specs.declared.asked.FileTask.TheVariants.{Init, Host}
 
 pub ready_opened : (asked : FileTask) (image : Image) (s : State) → HoldsFor asked image → IsOpenedOn image s → IsReadyFor asked s
 ready_opened (Init limits digest) image s holds start = tt
-ready_opened (Host clock work) image s holds start = sound_opened image s holds start
+ready_opened (Host tuning clock work) image s holds start = sound_opened image s holds start

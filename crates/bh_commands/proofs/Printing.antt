@@ -5,10 +5,10 @@ use Rattle.bh_model.specs.Runs.{last_reading}
 use Rattle.bh_host.specs.Replies.{clock_text, wanting_text}
 use Rattle.bh_host.specs.declared.reply.Caller.TheVariants.{Operator}
 use Rattle.bh_host.specs.Turns.{IsToldApart, fixed}
-use Rattle.bh_commands.specs.Commands.{message_of, ordered_at}
+use Rattle.bh_task.specs.Messages.{message_of, ordered_at}
 use Rattle.bh_maintenance.specs.Printing.{status_of}
-use Rattle.bh_commands.specs.declared.task.Task.{Task}
-use Rattle.bh_commands.specs.declared.task.Task.TheVariants.{Command, Sweep, Report, Tenants}
+use Rattle.bh_task.specs.declared.task.Task.{Task}
+use Rattle.bh_task.specs.declared.task.Task.TheVariants.{Command, Sweep, Report, Tenants}
 
 fixed_refuses : (reading : ℕ) → status_of (if nat_lt last_reading reading then clock_text Operator else wanting_text Operator) ≡ 1
 unfolding digits

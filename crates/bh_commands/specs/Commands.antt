@@ -1,6 +1,6 @@
 -- Work on a host, and its printed text.
 use Rattle.std.specs.Prelude.{◌≡◌, ℕ, List, Option, is_some, option_and_then}
-use Rattle.bh_event.specs.Events.{Arrival, Message, Ordered, SweepOrdered, ReportOrdered, TenantsOrdered, order_of}
+use Rattle.bh_event.specs.Events.{Arrival}
 use Rattle.bh_tables.specs.Typed.{Tables}
 use Rattle.bh_storage.specs.Calls.{Seen, Clean, IsAtRest}
 use Rattle.bh_host.specs.Runs.{Told}
@@ -9,22 +9,10 @@ use Rattle.bh_connection.specs.Listening.{WasVisited}
 use Rattle.bh_connection.specs.Visits.{RanFor}
 use Rattle.bh_maintenance.specs.Printing.{IsLine, IsNothing}
 use Rattle.bh_maintenance.specs.declared.printed.Printed.{Printed}
-use Rattle.bh_commands.specs.declared.task.Task.{Task}
-use Rattle.bh_commands.specs.declared.task.Task.TheVariants as task
+use Rattle.bh_task.specs.Messages.{message_of, ordered_at}
 use Rattle.bh_commands.specs.declared.asked.Serving.{Serving}
 use Rattle.bh_commands.specs.declared.asked.Work.{Work}
 use Rattle.bh_commands.specs.declared.asked.Work.TheVariants as work
-
--- an operator's task
-abbrev pub message_of : Task → Message
-message_of (task.Command command) = Ordered (order_of command)
-message_of (task.Sweep limit) = SweepOrdered limit
-message_of task.Report = ReportOrdered
-message_of task.Tenants = TenantsOrdered
-
--- at a reading of the clock, in seconds since 1970
-abbrev pub ordered_at : ℕ → Message → Arrival
-ordered_at reading message = record { reading = reading; message = message }
 
 -- the operators' secret, if there is a port for them and they have one
 abbrev pub secret_in : Serving → Option (List ℕ)

@@ -19,7 +19,7 @@ use Rattle.bh_commands.specs.declared.asked.FileTask.TheVariants.{Init, Host}
 -- a new host has no precondition on them
 abbrev pub HoldsFor : FileTask → Image → Type 0
 HoldsFor (Init limits digest) image = Unit {0}
-HoldsFor (Host clock work) image = HoldsSoundHost image
+HoldsFor (Host tuning clock work) image = HoldsSoundHost image
 
 -- the task was done on a connection, and its files were closed
 pub record IsEnded {D : Type 0} {g : disk.Ghosts D} (old : Held (FileStore D g)) (asked : FileTask) (printed : Printed) (files : Files D) :

@@ -1,5 +1,4 @@
 pub mod Clocks
 pub mod Commands
 pub mod Files
-pub mod Input
 pub mod Subcommands

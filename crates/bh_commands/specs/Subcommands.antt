@@ -6,7 +6,7 @@ use Rattle.sqlite.specs.Files.{file_state, over_files}
 use Rattle.sqlite.specs.Held.{Held}
 use Rattle.sqlite.specs.State.{State}
 use Rattle.bh_types.specs.BlockDigests.{digest_number}
-use Rattle.bh_types.specs.Limits.{HostLimits}
+use Rattle.bh_types.specs.Limits.{HostLimits, HostTuning}
 use Rattle.bh_types.specs.declared.block_digest.BlockDigest.{BlockDigest}
 use Rattle.bh_types.specs.declared.refusal.Refusal.TheVariants.{NotAHostFile}
 use Rattle.bh_tables.specs.Hosts.{tables_opened}
@@ -42,7 +42,7 @@ use Rattle.bh_commands.specs.declared.asked.Work.{Work}
 -- a new host has no precondition on it
 abbrev pub IsReadyFor : FileTask → State → Type 0
 IsReadyFor (Init limits digest) s = Unit {0}
-IsReadyFor (Host clock work) s = IsSoundIn s
+IsReadyFor (Host tuning clock work) s = IsSoundIn s
 
 -- none is created in it
 pub record IsNotMade (old new : State) (printed : Printed) : Type 0 where
@@ -124,20 +124,23 @@ module _ {D : Type 0} {g : disk.Ghosts D} where
       → Printed → Type 0
   IsWorkedInTime digest clock work host new printed = IsHeldBack clock host new printed ⊎ IsDone digest clock work host new printed
 
-  -- the host was opened with the digester of the function in its row
-  pub record HasWorked (clock : ClockGiven) (work : Work) (old new : Held (FileStore D g)) (printed : Printed) : Type 0 where
+  -- the host was opened with these settings, and with the digester of the function in its row
+  pub record HasWorked (tuning : HostTuning) (clock : ClockGiven) (work : Work) (old new : Held (FileStore D g)) (printed : Printed) :
+      Type 0 where
     pub opened : Opened (FileStore D g)
+    pub tuned : opened.tuning ≡ tuning
     pub row : IsStateClean (file_state opened.connection) → digest_number opened.digest
         ≡ digest_in (seen_in opened.limits (file_state opened.connection)).now
     pub found : IsFound (digest_by opened.digest) old (host_by opened.digest opened)
     pub worked : IsWorkedInTime (digest_by opened.digest) clock work (host_by opened.digest opened) new printed
 
-  abbrev pub Works : ClockGiven → Work → Held (FileStore D g) → Held (FileStore D g) → Printed → Type 0
-  Works clock work old new printed = IsNotFound (file_state old) (file_state new) printed ⊎ HasWorked clock work old new printed
+  abbrev pub Works : HostTuning → ClockGiven → Work → Held (FileStore D g) → Held (FileStore D g) → Printed → Type 0
+  Works tuning clock work old new printed =
+      IsNotFound (file_state old) (file_state new) printed ⊎ HasWorked tuning clock work old new printed
 
   abbrev pub CarriesOut : FileTask → Held (FileStore D g) → Held (FileStore D g) → Printed → Type 0
   CarriesOut (Init limits digest) old new printed = Makes limits digest (file_state old) (file_state new) printed
-  CarriesOut (Host clock work) old new printed = Works clock work old new printed
+  CarriesOut (Host tuning clock work) old new printed = Works tuning clock work old new printed
 
   -- the task is done; this is its printed text and the rest of the connection
   abbrev pub LeavesDone : FileTask → Held (FileStore D g) → Printed → Left (FileStore D g) → Type 0

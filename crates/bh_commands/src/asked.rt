@@ -2,10 +2,10 @@ ghost use Rattle.std.specs.Prelude.{◌≡◌, is_some, option_map};
 ghost use Rattle.bh_connection.specs.Listening.{secret_of};
 ghost use Rattle.bh_commands.specs.Commands.{secret_in};
 
-use crate::task::Task;
 use bh_connection::{Manner, OperatorPort, Ports};
+use bh_task::Task;
 use bh_types::block_digest::BlockDigest;
-use bh_types::limits::Limits;
+use bh_types::limits::{Limits, Tuning};
 use bh_types::names::Secret;
 use bh_words::ClockGiven;
 
@@ -78,7 +78,15 @@ impl Work {
 #[derive(Drop)]
 pub enum FileTask {
     /// Creates a host with these limits and this block digest.
-    Init { limits: Limits, digest: BlockDigest },
-    /// Work on the host in it, unless the clock is too far ahead of its last stamp.
-    Host { clock: ClockGiven, work: Work },
+    Init {
+        limits: Limits,
+        digest: BlockDigest,
+    },
+    /// Work on the host in it, opened with these settings, unless the clock is too far ahead of its
+    /// last stamp.
+    Host {
+        tuning: Tuning,
+        clock: ClockGiven,
+        work: Work,
+    },
 }

@@ -10,7 +10,7 @@ use bh_words::Leap;
 use std::io;
 
 /// The given time, or the machine's clock, in whole seconds since 1970.
-pub(crate) fn reading_of(rt: &HostRuntime, at: Option<u64>) -> io::Result<u64>
+pub fn reading_of(rt: &HostRuntime, at: Option<u64>) -> io::Result<u64>
     ensures { IfOk result (λ reading. IfSome at (λ given. reading ≡ given)) }
 {
     if let Some(reading) = at {

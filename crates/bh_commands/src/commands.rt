@@ -4,16 +4,17 @@ ghost use Rattle.std.specs.Prelude.{IfOk};
 ghost use Rattle.bh_storage.specs.Calls.{Clean, IsAtRest};
 ghost use Rattle.bh_host.specs.Replies.{reply_bytes};
 ghost use Rattle.bh_maintenance.specs.Printing.{IsLine};
-ghost use Rattle.bh_commands.specs.Commands.{message_of, ordered_at, IsTold, HasDone, HasServed, StaysReady};
+ghost use Rattle.bh_task.specs.Messages.{message_of, ordered_at};
+ghost use Rattle.bh_commands.specs.Commands.{IsTold, HasDone, HasServed, StaysReady};
 
 use crate::asked::{Serving, Work};
-use crate::task::Task;
 use bh_connection::{BackUp, MachineClock, serve_port};
 use bh_host::{Reply, apply};
 use bh_maintenance::fault::Fault;
 use bh_maintenance::printed::Printed;
 use bh_operation::routes::Routes;
 use bh_storage::storage::Storage;
+use bh_task::Task;
 use std::alloc::{AllocError, Global};
 
 /// A reply to an operator.

@@ -26,13 +26,12 @@ fn on_files<D: Disk + Drop>(
     rt: &HostRuntime,
     path: &str,
     connection: Connection<FileStore<D>>,
-    tuning: Tuning,
     asked: FileTask,
 ) -> Result<(Printed, Files<D>), Fault>
     requires { IsReadyFor asked (file_state connection) }
     ensures { IfOk result (λ it. IsEnded connection asked it.0 it.1) }
 {
-    let (printed, left) = on_connection(rt, path, connection, tuning, asked)?;
+    let (printed, left) = on_connection(rt, path, connection, asked)?;
     Ok((printed, close(left)))
 }
 
@@ -41,14 +40,13 @@ fn in_files<S: Start>(
     rt: &HostRuntime,
     path: &str,
     start: S,
-    tuning: Tuning,
     asked: FileTask,
 ) -> Result<Ended<FileFrom<S>>, Fault>
     requires { HoldsFor asked (image_at S.Start) }
     ensures { IfOk result (λ ended. IsAnswered ⟦<FileFrom<S> as Disk>⟧ (image_at S.Start) asked ended.printed ended.files) }
 {
     let connection = open(rt, path, start)?;
-    let (printed, files) = on_files(rt, path, connection, tuning, asked)?;
+    let (printed, files) = on_files(rt, path, connection, asked)?;
     Ok(Ended {
         printed,
         files: Some(files),
@@ -67,11 +65,11 @@ pub fn init_file<S: Start>(
         IsAnswered ⟦<FileFrom<S> as Disk>⟧ (image_at S.Start) (the_file.Init limits digest) ended.printed ended.files) }
 {
     let asked = FileTask::Init { limits, digest };
-    let ended = in_files(rt, path, start, Tuning::default(), asked)?;
+    let ended = in_files(rt, path, start, asked)?;
     Ok(ended)
 }
 
-/// Does the work on the host of a file, and prints the reply, unless the clock is too far ahead of
+/// Does the work on the host of a file, opened with these settings, and prints the reply, unless the clock is too far ahead of
 /// the host's last stamp. If the file is missing or empty, none is created.
 pub fn work_in_file<S: Start>(
     rt: &HostRuntime,
@@ -83,10 +81,15 @@ pub fn work_in_file<S: Start>(
 ) -> Result<Ended<FileFrom<S>>, Fault>
     requires { HoldsSoundHost (image_at S.Start) }
     ensures { IfOk result (λ ended.
-        IsAnswered ⟦<FileFrom<S> as Disk>⟧ (image_at S.Start) (the_file.Host clock work) ended.printed ended.files) }
+        IsAnswered ⟦<FileFrom<S> as Disk>⟧ (image_at S.Start) (the_file.Host tuning clock work) ended.printed ended.files) }
 {
+    let asked = FileTask::Host {
+        tuning,
+        clock,
+        work,
+    };
     match is_blank(rt, path) {
-        Ok(false) => Ok(in_files(rt, path, start, tuning, FileTask::Host { clock, work })?),
+        Ok(false) => Ok(in_files(rt, path, start, asked)?),
         Ok(true) => Ok(without_files(rt.alloc())?),
         Err(error) => Err(Fault::unopened(rt.alloc(), path, OpenFault::from(error))),
     }

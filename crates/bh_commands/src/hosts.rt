@@ -197,7 +197,7 @@ fn find<D: Disk + Drop>(
     asked: Work,
 ) -> Result<Done<FileStore<D>>, Fault>
     requires { IsSoundIn (file_state connection) }
-    ensures { IfOk result (λ done. Works clock asked connection done.connection done.printed) }
+    ensures { IfOk result (λ done. Works tuning clock asked connection done.connection done.printed) }
 {
     match open_host(rt.alloc(), connection, tuning) {
         Ok(opened) => Ok(work_by_digest(rt, path, opened, clock, asked)?),
@@ -212,7 +212,6 @@ fn carry_out<D: Disk + Drop>(
     rt: &HostRuntime,
     path: &str,
     connection: Connection<FileStore<D>>,
-    tuning: Tuning,
     asked: FileTask,
 ) -> Result<Done<FileStore<D>>, Fault>
     requires { IsReadyFor asked (file_state connection) }
@@ -220,7 +219,11 @@ fn carry_out<D: Disk + Drop>(
 {
     match asked {
         FileTask::Init { limits, digest } => Ok(make(rt, path, connection, limits, digest)?),
-        FileTask::Host { clock, work } => Ok(find(rt, path, connection, tuning, clock, work)?),
+        FileTask::Host {
+            tuning,
+            clock,
+            work,
+        } => Ok(find(rt, path, connection, tuning, clock, work)?),
     }
 }
 
@@ -229,12 +232,11 @@ pub(crate) fn on_connection<D: Disk + Drop>(
     rt: &HostRuntime,
     path: &str,
     connection: Connection<FileStore<D>>,
-    tuning: Tuning,
     asked: FileTask,
 ) -> Result<(Printed, Left<FileStore<D>>), Fault>
     requires { IsReadyFor asked (file_state connection) }
     ensures { IfOk result (λ it. LeavesDone asked connection it.0 it.1) }
 {
-    let done = carry_out(rt, path, connection, tuning, asked)?;
+    let done = carry_out(rt, path, connection, asked)?;
     Ok(leave(done))
 }

@@ -1,7 +1,7 @@
 //! bucketd: an S3-style object store for many tenants in one file.
 #![tactic(auto)]
 
-use bh_commands::carry_out;
+use bh_command_line::carry_out;
 use bh_maintenance::fault::Fault;
 use bh_maintenance::printed::Printed;
 use bh_words::read_words;

@@ -32,6 +32,7 @@ returns-in_ok-work_by_digest-in-Ok g c =
     let shown : beside (no_blocks opened.tuning) (seen_in opened.limits new) ≡ seen_in opened.limits new = beside_agreed (no_blocks opened.tuning) (seen_in opened.limits new) refl in
     inr (record {
       opened = opened;
+      tuned = it.given;
       row = row_seen opened.limits old new c.requires found opened.digest it.named;
       found = record {
         opened = found;

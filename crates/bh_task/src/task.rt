@@ -1,6 +1,6 @@
 ghost use Rattle.std.specs.Prelude.{◌≡◌};
 ghost use Rattle.bh_event.specs.Events.{arrival};
-ghost use Rattle.bh_commands.specs.Commands.{message_of, ordered_at};
+ghost use Rattle.bh_task.specs.Messages.{message_of, ordered_at};
 
 use bh_event::event::{Command, Event};
 
@@ -15,16 +15,6 @@ pub enum Task {
     Report,
     /// Lists all tenants.
     Tenants,
-}
-
-impl From<Command> for Task {
-    ghost use Rattle.bh_commands.specs.declared.task.Task.TheVariants as task;
-
-    ghost from_gives = { λ command given. given ≡ task.Command command };
-
-    fn from(command: Command) -> Task {
-        Task::Command(command)
-    }
 }
 
 impl Task {

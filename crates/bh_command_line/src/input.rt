@@ -2,7 +2,7 @@
 
 ghost use Rattle.std.specs.Prelude.{◌≡◌, IfOk};
 ghost use Rattle.std.specs.String.{string_bytes};
-ghost use Rattle.bh_commands.specs.Input as spec;
+ghost use Rattle.bh_command_line.specs.Input as spec;
 
 use bh_blocks::digester::{FastDigester, Sha256Digester};
 use bh_link::ends::Untold;

@@ -1,0 +1,103 @@
+-- What is done for a command line's task.
+use Rattle.std.specs.Prelude.{◌≡◌, List, ℕ, Option, MatchOption, is_some, option_map}
+use Rattle.std.specs.String.{string_bytes}
+use Rattle.std.specs.declared.alloc.Global.{Global}
+use Rattle.std.specs.declared.string.String.{String}
+use Rattle.sqlite_disk.specs.declared.Disk as disk
+use Rattle.sqlite_disk.specs.declared.Files.{Files}
+use Rattle.sqlite_disk.specs.declared.start.Wary.{Wary}
+use Rattle.sqlite_wal.specs.Recovery.{Image}
+use Rattle.bh_event.specs.declared.event.Command.TheVariants as command
+use Rattle.bh_types.specs.Limits.{HostLimits, HostTuning}
+use Rattle.bh_types.specs.declared.block_digest.BlockDigest.{BlockDigest}
+use Rattle.bh_words.specs.declared.lines.ClockGiven.{ClockGiven}
+use Rattle.bh_words.specs.declared.lines.Leap.{Leap}
+use Rattle.bh_maintenance.specs.Backups.{IsBackedUp}
+use Rattle.bh_maintenance.specs.Checks.{IsChecked}
+use Rattle.bh_maintenance.specs.Moves.{IsExported, IsImported}
+use Rattle.bh_maintenance.specs.declared.clocks.ClockRead.{ClockRead}
+use Rattle.bh_maintenance.specs.declared.printed.Printed.{Printed}
+use Rattle.bh_commands.specs.Commands.{secret_in}
+use Rattle.bh_commands.specs.Files.{IsAnswered}
+use Rattle.bh_command_line.specs.Input.{IsSecretGiven}
+use Rattle.bh_commands.specs.declared.asked.FileTask.TheVariants as file
+use Rattle.bh_commands.specs.declared.asked.OperatorServing.{OperatorServing}
+use Rattle.bh_commands.specs.declared.asked.Serving.{Serving}
+use Rattle.bh_commands.specs.declared.asked.Work.{Work}
+use Rattle.bh_commands.specs.declared.asked.Work.TheVariants as the_work
+use Rattle.bh_task.specs.declared.line_task.HostTask.{HostTask}
+use Rattle.bh_task.specs.declared.line_task.HostTask.TheVariants as asked
+use Rattle.bh_task.specs.declared.line_task.LineTask.{LineTask}
+use Rattle.bh_task.specs.declared.line_task.LineTask.TheVariants as task
+use Rattle.bh_task.specs.declared.line_task.Maintenance.{Maintenance}
+use Rattle.bh_task.specs.declared.line_task.Maintenance.TheVariants as maintenance
+use Rattle.bh_task.specs.declared.line_task.Starts.{Starts}
+use Rattle.bh_task.specs.declared.line_task.ServeTask.{ServeTask}
+use Rattle.bh_task.specs.declared.task.Task.TheVariants as order
+
+-- ---- work, once its secrets were read
+
+-- the host is served as it was asked; the operators have a secret if its file was named
+pub record IsServing (asked : ServeTask) (serving : Serving) : Type 0 where
+  pub port : serving.port ≡ asked.port
+  pub count : serving.count ≡ asked.count
+  pub timeout : serving.manner.timeout ≡ asked.timeout
+  pub logged : serving.manner.is_logged ≡ asked.is_logged
+  pub operator : option_map (λ (o : OperatorServing). o.port) serving.operator ≡ asked.operator.port
+  pub secret : is_some (secret_in serving) ≡ is_some asked.operator.secret_file
+
+abbrev pub IsWorkFor : HostTask → Work → Type 0
+IsWorkFor (asked.Order task) work = work ≡ the_work.Command task
+IsWorkFor (asked.KeyAdd tenant name given) work =
+    (secret : String Global) × IsSecretGiven given secret × (work ≡ the_work.Command (order.Command (command.KeyAdd tenant name secret)))
+IsWorkFor (asked.Serve it) work = (serving : Serving) × IsServing it serving × (work ≡ the_work.Serve serving)
+
+-- ---- on files with these first contents
+
+module _ {D : Type 0} (g : disk.Ghosts D) (image : Image) where
+  abbrev pub IsMadeIn : HostLimits → Option BlockDigest → Printed → Type 0
+  IsMadeIn limits digest printed =
+      MatchOption digest ⊥ (λ d. (files : Option (Files D)) × IsAnswered g image (file.Init limits d) printed files)
+
+  abbrev pub IsWorkedIn : HostTuning → ClockGiven → HostTask → Printed → Type 0
+  IsWorkedIn tuning clock asked printed =
+      (work : Work) × IsWorkFor asked work × (files : Option (Files D)) × IsAnswered g image (file.Host tuning clock work) printed files
+
+  abbrev pub IsCheckedIn : Printed → Type 0
+  IsCheckedIn printed = (files : Option (Files D)) × IsChecked g image printed files
+
+  module _ {E : Type 0} (e : disk.Ghosts E) where
+    abbrev pub IsBackedUpTo : Printed → Type 0
+    IsBackedUpTo printed = (files : Option (Files D)) × (copy : Option E) × IsBackedUp g e image printed files copy
+
+    -- by a reading of the clock
+    abbrev pub IsImportedFrom : Image → Leap → Printed → Type 0
+    IsImportedFrom given_image leap printed =
+        (clock : ClockRead) × (clock.leap ≡ leap) × (files : Option (Files D)) × (given : Option (Files E))
+        × IsImported clock g e image given_image printed files given
+
+    module _ {M : Type 0} (m : disk.Ghosts M) where
+      abbrev pub IsExportedTo : List ℕ → Printed → Type 0
+      IsExportedTo tenant printed =
+          (files : Option (Files D)) × (made : Option (Files M)) × (copy : Option E)
+          × IsExported g m e image tenant printed files made copy
+
+-- the program names `Wary` for each file, whose contents are empty
+abbrev pub wary : Starts Wary Wary Wary
+wary = record { host = record {}; other = record {}; made = record {} }
+
+-- what is done for a task, on files with these first contents: the host's, and the other's that it
+-- names; of a script and of a line to a server nothing is said
+module _ {D E M : Type 0} (g : disk.Ghosts D) (e : disk.Ghosts E) (m : disk.Ghosts M) (image given : Image) where
+  abbrev pub IsMaintained : {S T U : Type 0} → Maintenance S T U → Printed → Type 0
+  IsMaintained (maintenance.Backup of to) printed = IsBackedUpTo g image e printed
+  IsMaintained (maintenance.Export of tenant to made) printed = IsExportedTo g image e m (string_bytes tenant) printed
+  IsMaintained (maintenance.Import to from leap) printed = IsImportedFrom g image e given leap printed
+  IsMaintained (maintenance.Check file) printed = IsCheckedIn g image printed
+
+  abbrev pub IsCarriedOut : {S T U : Type 0} → LineTask S T U → Printed → Type 0
+  IsCarriedOut (task.Script limits tuning digest) printed = Unit {0}
+  IsCarriedOut (task.Init file limits digest) printed = IsMadeIn g image limits digest printed
+  IsCarriedOut (task.OnHost file tuning clock asked) printed = IsWorkedIn g image tuning clock asked printed
+  IsCarriedOut (task.Maintain asked) printed = IsMaintained asked printed
+  IsCarriedOut (task.Tell port secret_file order) printed = Unit {0}

@@ -1,0 +1,11 @@
+//! Carries out the command lines of `bucketd`.
+#![tactic(auto)]
+
+mod files;
+mod input;
+mod lines;
+mod secrets;
+mod telling;
+mod works;
+
+pub use lines::{carry_out, carry_task};

@@ -1,0 +1,94 @@
+//! A command line's task, carried out.
+
+ghost use Rattle.std.specs.Prelude.{IfOk};
+ghost use Rattle.sqlite_wal.specs.Files.{image_at};
+ghost use Rattle.bh_maintenance.specs.Files.{HoldsSoundHost};
+ghost use Rattle.bh_task.specs.Tasks as tasks;
+ghost use Rattle.bh_command_line.specs.Carrying.{IsMaintained, IsCarriedOut, wary};
+
+use crate::files::{back_up_in, check_in, export_in, import_in, known, make_in, work_in};
+use crate::input::answer_input;
+use crate::telling::tell;
+use bh_maintenance::fault::Fault;
+use bh_maintenance::printed::Printed;
+use bh_task::{LineTask, Maintenance, Starts, task_of};
+use bh_words::Line;
+use sqlite::{FileFrom, Start, Wary};
+use sqlite_disk::Disk;
+
+/// Carries out work on files whose hosts aren't being served.
+fn maintain<S: Start, T: Start, U: Start>(
+    rt: &HostRuntime,
+    asked: Maintenance<S, T, U>,
+) -> Result<Printed, Fault>
+    requires host { HoldsSoundHost (image_at S.Start) }
+    requires other { HoldsSoundHost (image_at T.Start) }
+    ensures { IfOk result (IsMaintained ⟦<FileFrom<S> as Disk>⟧ ⟦<FileFrom<T> as Disk>⟧ ⟦<FileFrom<U> as Disk>⟧
+        (image_at S.Start) (image_at T.Start) asked) }
+{
+    match asked {
+        Maintenance::Backup { of, to } => back_up_in(rt, of, to),
+        Maintenance::Export {
+            of,
+            tenant,
+            to,
+            made,
+        } => export_in(rt, of, tenant.as_str(), to, made),
+        Maintenance::Import { to, from, leap } => import_in(rt, to, from, leap),
+        Maintenance::Check { file } => check_in(rt, file),
+    }
+}
+
+/// Carries out a command line's task, whatever its files contain, and returns the printed text.
+pub fn carry_task<S: Start, T: Start, U: Start>(
+    rt: &HostRuntime,
+    task: LineTask<S, T, U>,
+) -> Result<Printed, Fault>
+    requires host { HoldsSoundHost (image_at S.Start) }
+    requires other { HoldsSoundHost (image_at T.Start) }
+    ensures { IfOk result (IsCarriedOut ⟦<FileFrom<S> as Disk>⟧ ⟦<FileFrom<T> as Disk>⟧ ⟦<FileFrom<U> as Disk>⟧
+        (image_at S.Start) (image_at T.Start) task) }
+{
+    match task {
+        LineTask::Script {
+            limits,
+            tuning,
+            digest,
+        } => answer_input(rt, known(digest)?, limits, tuning),
+        LineTask::Init {
+            file,
+            limits,
+            digest,
+        } => make_in(rt, file, limits, digest),
+        LineTask::OnHost {
+            file,
+            tuning,
+            clock,
+            asked,
+        } => work_in(rt, file, tuning, clock, asked),
+        LineTask::Maintain(asked) => maintain(rt, asked),
+        LineTask::Tell {
+            port,
+            secret_file,
+            order,
+        } => tell(rt, port, secret_file, order),
+    }
+}
+
+/// Carries out a command line, and returns the printed text.
+///
+/// A subcommand on a file reports the first of these problems. The file can't be opened. It has no
+/// host (`47 NotAHostFile`), or for `init` isn't empty. The clock can't be read, or is too far
+/// ahead. The event is refused.
+pub fn carry_out(rt: &HostRuntime, line: Line) -> Result<Printed, Fault>
+    ensures { IfOk result (IsCarriedOut ⟦<FileFrom<Wary> as Disk>⟧ ⟦<FileFrom<Wary> as Disk>⟧ ⟦<FileFrom<Wary> as Disk>⟧
+        (image_at ⟦<Wary as Start>⟧) (image_at ⟦<Wary as Start>⟧) (tasks.task_of wary line)) }
+{
+    let starts = Starts {
+        host: Wary,
+        other: Wary,
+        made: Wary,
+    };
+    let printed = carry_task(rt, task_of(line, starts))?;
+    Ok(printed)
+}
