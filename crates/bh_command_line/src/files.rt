@@ -1,6 +1,7 @@
 //! Tasks on files of given paths.
 
 ghost use Rattle.std.specs.Prelude.{◌≡◌, Some, IfOk};
+ghost use Rattle.std.specs.String.{string_bytes};
 ghost use Rattle.sqlite_wal.specs.Files.{image_at};
 ghost use Rattle.bh_maintenance.specs.Files.{HoldsSoundHost};
 ghost use Rattle.bh_command_line.specs.Carrying.{IsMadeIn, IsWorkedIn, IsCheckedIn, IsBackedUpTo, IsImportedFrom, IsExportedTo};
@@ -61,13 +62,13 @@ pub(crate) fn back_up_in<S: Start, T: Start>(
 pub(crate) fn export_in<S: Start, T: Start, U: Start>(
     rt: &HostRuntime,
     of: FileAt<S>,
-    tenant: &str,
+    tenant: String,
     to: FileAt<T>,
     made: U,
 ) -> Result<Printed, Fault>
     requires { HoldsSoundHost (image_at S.Start) }
     ensures { IfOk result (IsExportedTo ⟦<FileFrom<S> as Disk>⟧ (image_at S.Start) ⟦<FileFrom<T> as Disk>⟧ ⟦<FileFrom<U> as Disk>⟧
-        tenant.now) }
+        (string_bytes tenant)) }
 {
     let FileAt { path, start } = of;
     let FileAt {
@@ -78,7 +79,7 @@ pub(crate) fn export_in<S: Start, T: Start, U: Start>(
         rt,
         path.as_str(),
         start,
-        tenant,
+        tenant.as_str(),
         to_path.as_str(),
         made,
         to_start,

@@ -33,7 +33,7 @@ fn maintain<S: Start, T: Start, U: Start>(
             tenant,
             to,
             made,
-        } => export_in(rt, of, tenant.as_str(), to, made),
+        } => export_in(rt, of, tenant, to, made),
         Maintenance::Import { to, from, leap } => import_in(rt, to, from, leap),
         Maintenance::Check { file } => check_in(rt, file),
     }
