@@ -192,7 +192,7 @@ def ends_early(expect, program, base, folder, library):
         found = (got.status, got.body == BODY[:IN_ONE_WRITE], again.body == BODY, line.endswith(" memory"))
         if not got.is_whole:
             break
-    expect("a response that ends early", found == (200, True, True, True), found)
+    expect("a response that ends early", found == (200, True, True, True), f"{found}, {len(got.body)} bytes, allocation {number} of {total}: {server.lines()}")
 
 
 def numbers_of(around, total, full):
