@@ -7,6 +7,7 @@ mod Counted
 mod PlacedLemmas
 mod PlacedBodies
 mod OnceLemmas
+mod LaneLemmas
 mod NamedLemmas
 mod TotalIs
 mod NewestLemmas

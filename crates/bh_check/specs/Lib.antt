@@ -1,6 +1,7 @@
 pub mod Sums
 pub mod Holds
 pub mod Blocks
+pub mod Groups
 pub mod Placed
 pub mod Tallies
 pub mod Checked

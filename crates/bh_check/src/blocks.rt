@@ -15,7 +15,7 @@ use sqlite_value::row::Row;
 use std::alloc::{AllocError, Global};
 
 /// Whether a block has the digest of its bytes.
-fn has_digest<D: Digester>(digester: &D, row: &Row) -> bool
+pub(crate) fn has_digest<D: Digester>(digester: &D, row: &Row) -> bool
     ensures { IsTrue result → HasDigest D.digest_of row.now }
 {
     bytes_in(row, 1) == digester.digest(bytes_in(row, 3)).as_slice()

@@ -18,9 +18,10 @@ ghost use Rattle.bh_check.specs.Checked.{AreBytesHeld, IsChecked};
 ghost use Rattle.bh_check.specs.Holds.{block_refs, AreMeasures, AreTotals, Holds};
 ghost use Rattle.bh_check.specs.Tallies.{AreTalliesOf, AreTallied};
 
-use crate::blocks::{first_again, first_misnamed};
+use crate::blocks::first_again;
 use crate::checksums::{Places, first_missummed};
 use crate::flaw::{Flaw, Stop};
+use crate::groups::first_misnamed_in;
 use crate::measures::Measures;
 use crate::placed::first_misplaced;
 use crate::rows::{Table, is_host};
@@ -171,10 +172,10 @@ fn check_tallies(alloc: Global, stored: &Stored, edition: Edition) -> Result<(),
     }
 }
 
-fn check_digests<D: Digester>(digester: &D, blocks: &[Row]) -> Result<(), Stop>
+fn check_digests<D: Digester>(alloc: Global, digester: &D, blocks: &[Row]) -> Result<(), Stop>
     ensures { OnOk result (AllByRecursion (HasDigest D.digest_of) blocks.now) }
 {
-    match first_misnamed(digester, blocks) {
+    match first_misnamed_in(alloc, digester, blocks)? {
         None => Ok(()),
         Some(row) => Err(Stop::Flaw(Flaw::Digest(row))),
     }
@@ -194,7 +195,7 @@ fn check_once(alloc: Global, blocks: &[Row]) -> Result<(), Stop>
 fn check_bytes<D: Digester>(alloc: Global, digester: &D, blocks: &[Row]) -> Result<(), Stop>
     ensures { OnOk result (AreBytesHeld D.digest_of blocks.now) }
 {
-    check_digests(digester, blocks)?;
+    check_digests(alloc, digester, blocks)?;
     check_once(alloc, blocks)?;
     Ok(())
 }

@@ -180,9 +180,9 @@ func (o options) open(web *http.Server) (net.Listener, string, error) {
 		bounded.State(conn, state)
 	}
 	if config == nil {
-		return s3.Heads(bounded), "http", nil
+		return s3.Heads(bounded, web.ErrorLog), "http", nil
 	}
-	return tls.NewListener(bounded, config), "https", nil
+	return s3.Heads(tls.NewListener(bounded, config), web.ErrorLog), "https", nil
 }
 
 // tls returns how TLS is spoken; nil where it isn't.

@@ -211,6 +211,14 @@ func (c *Conn) wait(in *list.List) {
 	}
 }
 
+// CloseWrite tells the client that nothing more comes: http.Server does so before it closes a connection whose body it hasn't read.
+func (c *Conn) CloseWrite() error {
+	if inner, ok := c.Conn.(interface{ CloseWrite() error }); ok {
+		return inner.CloseWrite()
+	}
+	return nil
+}
+
 // Close closes the connection and frees its place.
 func (c *Conn) Close() error {
 	err := c.Conn.Close()
@@ -265,12 +273,14 @@ func (l *Listener) pass() {
 // State is for http.Server.ConnState: a connection that waits for a request may be closed for another one, one that has a request
 // may not.
 func (l *Listener) State(conn net.Conn, state http.ConnState) {
-	if secure, ok := conn.(interface{ NetConn() net.Conn }); ok {
-		conn = secure.NetConn()
-	}
 	c, ok := conn.(*Conn)
-	if !ok {
-		return
+	for !ok {
+		outer, isOuter := conn.(interface{ NetConn() net.Conn })
+		if !isOuter {
+			return
+		}
+		conn = outer.NetConn()
+		c, ok = conn.(*Conn)
 	}
 	var oldest *Conn
 	l.mu.Lock()

@@ -32,8 +32,8 @@ var Kept = map[string]bool{"content-type": true, "content-language": true, "expi
 // Metadata has the fields that are kept of an object, by their names in small letters.
 type Metadata map[string]string
 
-// isText returns whether a value can be kept and told again as it is: UTF-8 without control characters.
-func isText(value string) bool {
+// IsText returns whether a value can be kept and told again as it is: UTF-8 without control characters.
+func IsText(value string) bool {
 	isControl := func(r rune) bool { return r < ' ' && r != '\t' || r == 0x7f }
 	return utf8.ValidString(value) && strings.IndexFunc(value, isControl) < 0
 }
@@ -45,7 +45,7 @@ func Of(h http.Header) (Metadata, error) {
 	meta, size := Metadata{}, 0
 	for field, values := range h {
 		name, value := strings.ToLower(field), strings.Join(values, ",")
-		if (strings.HasPrefix(name, MetaField) || Kept[name]) && !isText(value) {
+		if (strings.HasPrefix(name, MetaField) || Kept[name]) && !IsText(value) {
 			return nil, s3err.New("InvalidArgument", "the value of "+name+" is no UTF-8, or has a control character")
 		}
 		if name == "content-encoding" {
@@ -155,6 +155,9 @@ func PlainUpload(id string) string {
 	return plain
 }
 
+// fields are the names of fields (RFC 9110, section 5.1).
+var fields = regexp.MustCompile("^[!#$%&'*+.^_`|~0-9A-Za-z-]+$")
+
 // InUpload returns the metadata in an upload's id, where it has any. A client told it: what is no metadata is passed over.
 func InUpload(id string) (Metadata, error) {
 	_, packed, isThere := strings.Cut(id, ".")
@@ -167,6 +170,9 @@ func InUpload(id string) (Metadata, error) {
 		return nil, nil
 	}
 	for name, value := range told {
+		if !fields.MatchString(name) {
+			return nil, nil
+		}
 		head.Set(name, value)
 	}
 	return Of(head)

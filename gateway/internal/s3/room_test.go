@@ -87,6 +87,41 @@ func TestRefusedBeforeTheBody(t *testing.T) {
 	expect(t, green.do("PUT", "/plans/up?partNumber=3&uploadId="+id, make([]byte, 105_000)), 200, "")
 }
 
+// Who still sends a body that is refused by its head finds the answer, and no broken connection.
+func TestRefusedWhileSending(t *testing.T) {
+	_, _, green, _ := newGateway(t, nil)
+	wrong := green
+	wrong.secret = "x"
+	for code, it := range map[string]signer{"NoSuchBucket": green, "SignatureDoesNotMatch": wrong} {
+		told := ""
+		for i := 0; told == "" && i < 10; i++ { // (on a busy machine the while may be over)
+			r := it.request("PUT", "/nothing/x", nil, map[string]string{"x-amz-content-sha256": sigv4.UnsignedPayload})
+			conn := begin(t, r, 200_000, strings.Repeat("a", 100_000))
+			time.Sleep(50 * time.Millisecond)
+			if _, err := io.WriteString(conn, strings.Repeat("a", 50_000)); err != nil {
+				continue
+			}
+			time.Sleep(50 * time.Millisecond)
+			if _, err := io.WriteString(conn, strings.Repeat("a", 50_000)); err == nil {
+				told = answerOf(t, conn)
+			}
+		}
+		if !strings.Contains(told, "<Code>"+code) {
+			t.Errorf("%s: %q", code, told)
+		}
+	}
+}
+
+// A body of more pieces than an upload has parts is refused by its head.
+func TestTooManyPieces(t *testing.T) {
+	_, _, green, _ := newGateway(t, nil)
+	expect(t, green.do("PUT", "/plans", nil), 200, "")
+	unsigned := map[string]string{"x-amz-content-sha256": sigv4.UnsignedPayload}
+	if text := answerOf(t, begin(t, green.request("PUT", "/plans/x", nil, unsigned), 10000*65536+1, "abc")); !strings.Contains(text, "<Code>EntityTooLarge") {
+		t.Fatal(text)
+	}
+}
+
 // Bodies that wait have a bound in all and of a tenant, and those that are refused take none.
 func TestSpoolRoom(t *testing.T) {
 	s, _, green, blue := newGateway(t, func(o *options) { o.Piece, o.MaxPart = 4<<20, 4<<20 })
@@ -166,7 +201,7 @@ func TestPiecesGo(t *testing.T) {
 	expect(t, green.do("PUT", "/plans/x", great, "x-amz-checksum-crc32", "AAAAAA=="), 400, "BadDigest")
 	expect(t, green.do("PUT", "/plans/x", great, "If-None-Match", "*"), 412, "PreconditionFailed")
 	half := begin(t, green.request("PUT", "/plans/x", nil, map[string]string{"x-amz-content-sha256": sigv4.UnsignedPayload}), 300_000, string(great[:200_000]))
-	for begun, isPut := time.Now(), false; !isPut && time.Since(begun) < 10*time.Second; {
+	for begun, isPut := time.Now(), false; !isPut && time.Since(begun) < 15*time.Second; {
 		stand.set(func() {
 			for _, it := range stand.tenants["green"].buckets["plans"].uploads {
 				isPut = len(it.parts) == 3

@@ -42,8 +42,9 @@ func (r route) String() string {
 	return strings.TrimSpace(scopes[r.scope] + r.method + " " + r.subresource)
 }
 
-// operation is a call with the parameters that it takes beside its sub-resource, and the fields of Object Lock.
+// operation is a call with its names in S3's API, the parameters that it takes beside its sub-resource, and the fields of Object Lock.
 type operation struct {
+	names      string // with a blank between
 	act        func(c *call) error
 	parameters []string
 	lockFields []string
@@ -57,8 +58,8 @@ const (
 	remove = http.MethodDelete
 )
 
-func takes(act func(c *call) error, parameters ...string) operation {
-	return operation{act: act, parameters: parameters}
+func takes(names string, act func(c *call) error, parameters ...string) operation {
+	return operation{names: names, act: act, parameters: parameters}
 }
 
 func (o operation) withLock(fields ...string) operation {
@@ -84,22 +85,22 @@ func objectOperations() map[route]operation {
 	shown := []string{"versionId", "response-content-type", "response-content-language", "response-expires", "response-cache-control",
 		"response-content-disposition", "response-content-encoding"}
 	return map[route]operation{
-		{ofObject, get, "acl"}:         takes((*call).getACL, "versionId"),
-		{ofObject, put, "acl"}:         takes(notThere("an acl but private"), "versionId"),
-		{ofObject, get, "tagging"}:     takes((*call).getTagging, "versionId"),
-		{ofObject, post, "uploads"}:    takes((*call).beginUpload),
-		{ofObject, get, "retention"}:   takes((*call).getRetention, "versionId"),
-		{ofObject, put, "retention"}:   takes((*call).putRetention, "versionId"),
-		{ofObject, put, "uploadId"}:    takes((*call).putPart, "partNumber"),
-		{ofCopy, put, "uploadId"}:      takes((*call).copyPart, "partNumber"),
-		{ofObject, post, "uploadId"}:   takes((*call).completeUpload),
-		{ofObject, get, "uploadId"}:    takes((*call).listParts, "max-parts", "part-number-marker", "encoding-type"),
-		{ofObject, remove, "uploadId"}: takes((*call).abortUpload),
-		{ofObject, put, ""}:            takes((*call).putObject).withLock(modeField, untilField),
-		{ofCopy, put, ""}:              takes((*call).copyObject).withLock(modeField, untilField),
-		{ofObject, get, ""}:            takes((*call).getObject, shown...),
-		{ofObject, head, ""}:           takes((*call).getObject, shown...),
-		{ofObject, remove, ""}:         takes((*call).deleteObject, "versionId"),
+		{ofObject, get, "acl"}:         takes("GetObjectAcl", (*call).getACL, "versionId"),
+		{ofObject, put, "acl"}:         takes("PutObjectAcl", notThere("an acl but private"), "versionId"),
+		{ofObject, get, "tagging"}:     takes("GetObjectTagging", (*call).getTagging, "versionId"),
+		{ofObject, post, "uploads"}:    takes("CreateMultipartUpload", (*call).beginUpload),
+		{ofObject, get, "retention"}:   takes("GetObjectRetention", (*call).getRetention, "versionId"),
+		{ofObject, put, "retention"}:   takes("PutObjectRetention", (*call).putRetention, "versionId"),
+		{ofObject, put, "uploadId"}:    takes("UploadPart", (*call).putPart, "partNumber"),
+		{ofCopy, put, "uploadId"}:      takes("UploadPartCopy", (*call).copyPart, "partNumber"),
+		{ofObject, post, "uploadId"}:   takes("CompleteMultipartUpload", (*call).completeUpload),
+		{ofObject, get, "uploadId"}:    takes("ListParts", (*call).listParts, "max-parts", "part-number-marker", "encoding-type"),
+		{ofObject, remove, "uploadId"}: takes("AbortMultipartUpload", (*call).abortUpload),
+		{ofObject, put, ""}:            takes("PutObject", (*call).putObject).withLock(modeField, untilField),
+		{ofCopy, put, ""}:              takes("CopyObject", (*call).copyObject).withLock(modeField, untilField),
+		{ofObject, get, ""}:            takes("GetObject", (*call).getObject, shown...),
+		{ofObject, head, ""}:           takes("HeadObject", (*call).getObject, shown...),
+		{ofObject, remove, ""}:         takes("DeleteObject", (*call).deleteObject, "versionId"),
 	}
 }
 
@@ -107,26 +108,26 @@ func objectOperations() map[route]operation {
 func bucketOperations() map[route]operation {
 	listed := []string{"prefix", "delimiter", "max-keys", "encoding-type"}
 	return map[route]operation{
-		{ofBucket, get, "acl"}:          takes((*call).getACL),
-		{ofBucket, put, "acl"}:          takes(notThere("an acl but private")),
-		{ofBucket, get, "versioning"}:   takes((*call).getVersioning),
-		{ofBucket, put, "versioning"}:   takes((*call).putVersioning),
-		{ofBucket, get, "lifecycle"}:    takes((*call).getLifecycle),
-		{ofBucket, put, "lifecycle"}:    takes((*call).putLifecycle),
-		{ofBucket, remove, "lifecycle"}: takes((*call).deleteLifecycle),
-		{ofBucket, get, "location"}:     takes((*call).getLocation),
-		{ofBucket, get, "object-lock"}:  takes((*call).getObjectLock),
-		{ofBucket, get, "uploads"}:      takes((*call).listUploads, "prefix", "delimiter", "max-uploads", "key-marker", "upload-id-marker", "encoding-type"),
-		{ofBucket, get, "versions"}:     takes((*call).listVersions, append([]string{"key-marker", "version-id-marker"}, listed...)...),
-		{ofBucket, get, ""}: takes((*call).listObjects, append([]string{"list-type", "marker", "start-after", "continuation-token",
+		{ofBucket, get, "acl"}:          takes("GetBucketAcl", (*call).getACL),
+		{ofBucket, put, "acl"}:          takes("PutBucketAcl", notThere("an acl but private")),
+		{ofBucket, get, "versioning"}:   takes("GetBucketVersioning", (*call).getVersioning),
+		{ofBucket, put, "versioning"}:   takes("PutBucketVersioning", (*call).putVersioning),
+		{ofBucket, get, "lifecycle"}:    takes("GetBucketLifecycleConfiguration", (*call).getLifecycle),
+		{ofBucket, put, "lifecycle"}:    takes("PutBucketLifecycleConfiguration", (*call).putLifecycle),
+		{ofBucket, remove, "lifecycle"}: takes("DeleteBucketLifecycle", (*call).deleteLifecycle),
+		{ofBucket, get, "location"}:     takes("GetBucketLocation", (*call).getLocation),
+		{ofBucket, get, "object-lock"}:  takes("GetObjectLockConfiguration", (*call).getObjectLock),
+		{ofBucket, get, "uploads"}:      takes("ListMultipartUploads", (*call).listUploads, "prefix", "delimiter", "max-uploads", "key-marker", "upload-id-marker", "encoding-type"),
+		{ofBucket, get, "versions"}:     takes("ListObjectVersions", (*call).listVersions, append([]string{"key-marker", "version-id-marker"}, listed...)...),
+		{ofBucket, get, ""}: takes("ListObjects ListObjectsV2", (*call).listObjects, append([]string{"list-type", "marker", "start-after", "continuation-token",
 			"fetch-owner"}, listed...)...),
-		{ofBucket, post, "delete"}: takes((*call).deleteObjects),
-		{ofBucket, post, ""}:       takes(notThere("an upload by a form")),
-		{ofBucket, put, ""}:        takes((*call).createBucket).withLock(enabledField),
-		{ofBucket, head, ""}:       takes((*call).headBucket),
-		{ofBucket, remove, ""}:     takes((*call).deleteBucket),
+		{ofBucket, post, "delete"}: takes("DeleteObjects", (*call).deleteObjects),
+		{ofBucket, post, ""}:       takes("PostObject", notThere("an upload by a form")),
+		{ofBucket, put, ""}:        takes("CreateBucket", (*call).createBucket).withLock(enabledField),
+		{ofBucket, head, ""}:       takes("HeadBucket", (*call).headBucket),
+		{ofBucket, remove, ""}:     takes("DeleteBucket", (*call).deleteBucket),
 
-		{ofAll, get, ""}: takes((*call).listBuckets, "prefix", "max-buckets", "continuation-token", "bucket-region"),
+		{ofAll, get, ""}: takes("ListBuckets", (*call).listBuckets, "prefix", "max-buckets", "continuation-token", "bucket-region"),
 	}
 }
 
@@ -136,7 +137,7 @@ func notThere(what string) func(*call) error {
 
 var subresources = []string{"acl", "tagging", "versioning", "lifecycle", "uploadId", "uploads", "location", "versions", "delete", "retention", "object-lock"}
 
-// Parameters that each call takes: those of its signature, and the name that SDKs give it.
+// Parameters that each call takes: those of its signature, and the name that SDKs give it, which is compared elsewhere.
 var everywhere = map[string]bool{"x-id": true, "X-Amz-Algorithm": true, "X-Amz-Credential": true, "X-Amz-Date": true, "X-Amz-Expires": true,
 	"X-Amz-SignedHeaders": true, "X-Amz-Signature": true, "X-Amz-Content-Sha256": true, "AWSAccessKeyId": true, "Signature": true, "Expires": true}
 
@@ -184,6 +185,7 @@ func (c *call) findOperation() (func(c *call) error, error) {
 	c.route = c.routeOf()
 	c.line.Call = c.route.String()
 	it, isThere := operations[c.route]
+	c.names = it.names
 	for name := range c.query {
 		if err := c.checkParameter(it, isThere, name); err != nil {
 			return nil, err
@@ -195,7 +197,7 @@ func (c *call) findOperation() (func(c *call) error, error) {
 	if !isThere {
 		return nil, s3err.New("MethodNotAllowed", "there is no such call")
 	}
-	return it.act, nil
+	return it.act, c.checkMeaning(it)
 }
 
 // checkParameter refuses a parameter that the call doesn't take: S3 may have a sub-resource of that name, and what it does there is
@@ -257,7 +259,7 @@ func (c *call) checkFields(it operation) error {
 			return s3err.New(allowed.code, fmt.Sprintf("%s: %s is not there", field, values[0]))
 		}
 	}
-	if c.r.Header.Get("x-amz-security-token") != "" || c.query.Has("X-Amz-Security-Token") {
+	if token := "X-Amz-Security-Token"; c.r.Header.Get(token) != "" || c.query.Has(token) || c.query.Has(strings.ToLower(token)) {
 		return s3err.New("InvalidToken", "there are no tokens")
 	}
 	return c.checkOwners()

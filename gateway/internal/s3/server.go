@@ -28,7 +28,10 @@ import (
 	"bucketd/gateway/internal/xmlio"
 )
 
-const writeSlice = 128 << 10 // how many bytes a client has to take within the time that it may be silent
+const (
+	writeSlice = 128 << 10              // how many bytes a client has to take within the time that it may be silent
+	lingering  = 500 * time.Millisecond // how long the rest of a body is taken that was refused
+)
 
 // Options are what a server is told.
 type Options struct {
@@ -76,6 +79,7 @@ type call struct {
 	query  url.Values
 	target host.Object
 	route  route
+	names  string // of the call in S3's API
 	client *host.Client
 	own    *tenant
 	was    *details // of the key that is held, before
@@ -130,7 +134,7 @@ func (s *Server) ServeHTTP(w http.ResponseWriter, r *http.Request) {
 	c := &call{Caller: &sigv4.Caller{}, server: s, w: w, r: r, conn: http.NewResponseController(w), line: accesslog.Of(r.Context())}
 	c.tell("Server", "bucketd-gateway")
 	if len(r.TransferEncoding) > 0 {
-		c.tell("Connection", "close") // (over TLS a length beside it isn't seen: nothing that follows is taken for a request)
+		c.tell("Connection", "close") // (a proxy may see the end of chunks elsewhere: nothing that follows is taken for a request)
 	}
 	defer func() {
 		for _, act := range c.ends {
@@ -212,9 +216,10 @@ func (c *call) refuse(err error) {
 		c.tell("Connection", "close")
 	}
 	if c.isBodyLeft(e.Code) {
-		// The body isn't waited for: net/http would, before it answers.
+		// The body isn't waited for before the answer, as the connection ends with it. Behind it net/http takes what comes for a while,
+		// so that who still sends finds the answer, and not a broken connection.
 		c.tell("Connection", "close")
-		if err := c.conn.SetReadDeadline(time.Now()); err != nil {
+		if err := c.conn.SetReadDeadline(time.Now().Add(lingering)); err != nil {
 			return
 		}
 	}
@@ -268,9 +273,7 @@ func (c *call) readTarget() (string, error) {
 		}
 	}
 	path, escaped := c.r.URL.Path, c.r.URL.EscapedPath()
-	name, _, _ := strings.Cut(strings.ToLower(c.r.Host), ":")
-	name = strings.TrimSuffix(name, ".")
-	if bucket := strings.TrimSuffix(name, "."+strings.ToLower(c.server.Domain)); c.server.Domain != "" && bucket != name {
+	if _, bucket, _ := c.hostName(); bucket != "" {
 		path, escaped = "/"+bucket+path, "/"+bucket+escaped
 	}
 	c.target.Bucket, c.target.Key, _ = strings.Cut(path[1:], "/")
