@@ -205,7 +205,7 @@ def documents(w):
 def readers(w):
     """900 readers of a great object that take nothing keep the processors busy, as long as pieces come and then."""
     if not w.is_fast:
-        print("bucketd is slow here: readers that take nothing aren't tried")
+        print("Fast bucketd isn't here: readers that take nothing aren't tried")
         return
     resource.setrlimit(resource.RLIMIT_NOFILE, (min(4096, resource.getrlimit(resource.RLIMIT_NOFILE)[1]), resource.getrlimit(resource.RLIMIT_NOFILE)[1]))
     w.green.ask("PUT", "/readers")
