@@ -256,6 +256,28 @@ func TestPlacesAreFreed(t *testing.T) {
 	}
 }
 
+// An event of a connection that is gone doesn't end another one that has got its file's number and is silent yet.
+func TestLateEvent(t *testing.T) {
+	logged(t)
+	l, address := web(t, NewPlaces(64, 64))
+	conn := dial(t, address, "127.0.0.2")
+	number := int32(0)
+	eventually(t, "the connection isn't waited for", func() bool {
+		l.poll.mu.Lock()
+		defer l.poll.mu.Unlock()
+		for number = range l.poll.conns {
+		}
+		return number != 0
+	})
+	if c := l.poll.ready(number); c != nil || l.Taken() != 1 || !isOpen(conn) {
+		t.Fatalf("the silent one is %v, %d are taken", c, l.Taken())
+	}
+	conn.SetDeadline(time.Now().Add(30 * time.Second))
+	if err := asks(conn, "/"); err != nil {
+		t.Error(err)
+	}
+}
+
 // A connection that was served stays where strangers take all places.
 func TestServedBeforeStrangers(t *testing.T) {
 	logged(t)

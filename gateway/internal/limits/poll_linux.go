@@ -70,36 +70,49 @@ func (p *poll) next() (ready []*Conn, err error) {
 				syscall.Close(p.wake)
 				return nil, errPollEnded
 			}
-			p.mu.Lock()
-			c := p.conns[event.Fd]
-			delete(p.conns, event.Fd)
-			p.mu.Unlock()
-			if c == nil {
-				continue
-			}
-			if p.leave(c) && event.Events&(syscall.EPOLLHUP|syscall.EPOLLERR) == 0 {
+			if c := p.ready(event.Fd); c != nil {
 				ready = append(ready, c)
-			} else {
-				c.Close()
 			}
 		}
 	}
 	return ready, nil
 }
 
-// leave has a connection no longer waited for, and returns whether it has sent something.
-func (p *poll) leave(c *Conn) (hasSent bool) {
+// ready returns the connection of a file that an event came for, where it has sent something; nil where it hasn't. One whose client
+// has gone is closed. One that hasn't sent anything yet goes on to be waited for: the event may be that of a connection which had the
+// file's number before.
+func (p *poll) ready(fd int32) *Conn {
+	p.mu.Lock()
+	c := p.conns[fd]
+	delete(p.conns, fd)
+	p.mu.Unlock()
+	if c == nil {
+		return nil
+	}
+	hasSent, isSilent := p.leave(c)
+	if hasSent {
+		return c
+	}
+	if !isSilent || !p.add(c) {
+		c.Close()
+	}
+	return nil
+}
+
+// leave has a connection no longer waited for. It returns whether it has sent something, or hasn't yet; neither where its client has
+// gone.
+func (p *poll) leave(c *Conn) (hasSent, isSilent bool) {
 	raw, err := c.Conn.(syscall.Conn).SyscallConn()
 	if err != nil {
-		return false
+		return false, false
 	}
 	raw.Control(func(fd uintptr) {
 		syscall.EpollCtl(p.epoll, syscall.EPOLL_CTL_DEL, int(fd), nil)
 		var first [1]byte
 		n, _, err := syscall.Recvfrom(int(fd), first[:], syscall.MSG_PEEK|syscall.MSG_DONTWAIT)
-		hasSent = n > 0 && err == nil
+		hasSent, isSilent = n > 0 && err == nil, err == syscall.EAGAIN || err == syscall.EINTR
 	})
-	return hasSent
+	return hasSent, isSilent
 }
 
 // drop forgets a connection that is closed: the kernel has it no longer.
