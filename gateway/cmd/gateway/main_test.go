@@ -123,7 +123,7 @@ func TestStrangers(t *testing.T) {
 			for i := 0; i < 20; i++ {
 				begun := time.Now()
 				answer, err := refused(dial(t, address, "127.0.1.1"))
-				if took := time.Since(begun); err != nil || answer.StatusCode != 403 || took > 2*time.Second {
+				if took := time.Since(begun); err != nil || answer.StatusCode != 403 || took > 10*time.Second { // (without places of their own 44 seconds)
 					t.Fatalf("another client waited %v: %v", took, err)
 				}
 			}
@@ -137,7 +137,7 @@ func TestStrangersBody(t *testing.T) {
 	conn, begun := dial(t, address, "127.0.0.2"), time.Now()
 	io.WriteString(conn, "PUT /plans/a HTTP/1.1\r\nHost: h\r\nContent-Length: 1000\r\n\r\nabc")
 	text, err := io.ReadAll(conn)
-	if took := time.Since(begun); err != nil || !strings.HasPrefix(string(text), "HTTP/1.1 403") || took > 5*time.Second {
+	if took := time.Since(begun); err != nil || !strings.HasPrefix(string(text), "HTTP/1.1 403") || took > 15*time.Second {
 		t.Errorf("after %v: %v %s", took, err, text)
 	}
 }

@@ -161,6 +161,9 @@ func TestPortIsTaken(t *testing.T) {
 	told, _ := thief(t, address)
 	time.AfterFunc(time.Second, func() { os.Remove(wait) })
 	r, err := ask(h)
+	for i := 0; errors.Is(err, ErrNoAnswer) && i < 10; i++ { // (on a busy machine it takes a while to start)
+		r, err = ask(h)
+	}
 	if err != nil || r.Header.Get("x-asked") == "" {
 		t.Fatal(err, r)
 	}
@@ -252,7 +255,7 @@ func TestWaitingEnds(t *testing.T) {
 	for _, end := range []func(){endSecond, endFirst} {
 		begun := time.Now()
 		end()
-		if err := <-done; !errors.Is(err, context.Canceled) || time.Since(begun) > time.Second {
+		if err := <-done; !errors.Is(err, context.Canceled) || time.Since(begun) > 20*time.Second { // (without it five minutes)
 			t.Fatal(err, time.Since(begun))
 		}
 	}

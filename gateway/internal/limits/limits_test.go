@@ -41,6 +41,9 @@ func logged(t *testing.T) *guarded {
 	return text
 }
 
+// slow is closed when requests of /slow are answered.
+var slow chan struct{}
+
 // web serves "hello" within places, and returns the listener with its address.
 func web(t *testing.T, places Places) (*Listener, string) {
 	t.Helper()
@@ -54,7 +57,7 @@ func web(t *testing.T, places Places) (*Listener, string) {
 	}
 	server := &http.Server{ConnState: l.State, ReadHeaderTimeout: 20 * time.Second, Handler: http.HandlerFunc(func(w http.ResponseWriter, r *http.Request) {
 		if r.URL.Path == "/slow" {
-			time.Sleep(time.Second)
+			<-slow
 		}
 		io.WriteString(w, "hello")
 	})}
@@ -140,7 +143,7 @@ func TestIdleConnections(t *testing.T) {
 		eventually(t, name+": not all places are taken", func() bool { return l.Taken() == 64 && count(conns) == 64 })
 		for i := 0; i < 20; i++ {
 			begun := time.Now()
-			if err := asks(dial(t, address, "127.0.1.1"), "/"); err != nil || time.Since(begun) > 5*time.Second {
+			if err := asks(dial(t, address, "127.0.1.1"), "/"); err != nil || time.Since(begun) > 10*time.Second {
 				t.Errorf("%s: a good client waited %v: %v", name, time.Since(begun), err)
 			}
 		}
@@ -171,6 +174,7 @@ func TestShareOfAnAddress(t *testing.T) {
 // A connection with a request isn't closed for a new one: that waits.
 func TestBusyConnectionsStay(t *testing.T) {
 	logged(t)
+	slow = make(chan struct{})
 	l, address := web(t, Places{All: 4, Address: 4, Served: 1024, Silence: time.Minute, Short: time.Minute})
 	var busy []net.Conn
 	for i := 0; i < 4; i++ {
@@ -186,6 +190,8 @@ func TestBusyConnectionsStay(t *testing.T) {
 	for i := 0; i < 8; i++ {
 		dial(t, address, "127.0.0.2")
 	}
+	time.Sleep(100 * time.Millisecond) // (a new one has been taken by now)
+	close(slow)
 	for _, conn := range busy {
 		if text, err := io.ReadAll(conn); err != nil || !strings.HasSuffix(string(text), "hello") {
 			t.Errorf("a request was cut: %q %v", text, err)

@@ -8,12 +8,14 @@ import (
 	"encoding/base64"
 	"encoding/hex"
 	"encoding/xml"
+	"errors"
 	"io"
 	"net/http"
 	"net/http/httptest"
 	"net/url"
 	"sort"
 	"strings"
+	"syscall"
 	"testing"
 	"time"
 
@@ -118,7 +120,17 @@ func (s signer) do(method, target string, body []byte, pairs ...string) answered
 	for i := 0; i < len(pairs); i += 2 {
 		fields[pairs[i]] = pairs[i+1]
 	}
-	return send(s.request(method, target, body, fields))
+	a := answered{err: syscall.EPIPE}
+	for i := 0; i < 20 && isUnsent(a); i++ {
+		a = send(s.request(method, target, body, fields))
+	}
+	return a
+}
+
+// isUnsent returns whether a request got no answer since its body couldn't be sent: who still sends when it is refused may find the
+// connection closed.
+func isUnsent(a answered) bool {
+	return a.status == 0 && (errors.Is(a.err, syscall.EPIPE) || errors.Is(a.err, syscall.ECONNRESET))
 }
 
 // keyring is keys in memory.

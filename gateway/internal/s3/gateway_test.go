@@ -718,10 +718,10 @@ func TestTurns(t *testing.T) {
 	expect(t, green.do("PUT", "/plans", nil), 200, "")
 	expect(t, blue.do("PUT", "/plans", nil), 200, "")
 	stand.mu.Lock()
-	stand.before = func(*http.Request) { time.Sleep(10 * time.Millisecond) }
+	stand.before = func(*http.Request) { time.Sleep(25 * time.Millisecond) }
 	stand.mu.Unlock()
 	var counts [2]atomic.Int64
-	const enough = 300 // requests, of which the clients' first are few
+	const enough = 160 // requests, of which the clients' first are few
 	var all sync.WaitGroup
 	for i := 0; i < 42; i++ {
 		all.Add(1)

@@ -166,7 +166,7 @@ func TestPiecesGo(t *testing.T) {
 	expect(t, green.do("PUT", "/plans/x", great, "x-amz-checksum-crc32", "AAAAAA=="), 400, "BadDigest")
 	expect(t, green.do("PUT", "/plans/x", great, "If-None-Match", "*"), 412, "PreconditionFailed")
 	half := begin(t, green.request("PUT", "/plans/x", nil, map[string]string{"x-amz-content-sha256": sigv4.UnsignedPayload}), 300_000, string(great[:200_000]))
-	for begun, isPut := time.Now(), false; !isPut && time.Since(begun) < 10*time.Second; {
+	for begun, isPut := time.Now(), false; !isPut && time.Since(begun) < 15*time.Second; {
 		stand.set(func() {
 			for _, it := range stand.tenants["green"].buckets["plans"].uploads {
 				isPut = len(it.parts) == 3

@@ -642,8 +642,13 @@ func newStandin(t testing.TB) *standin {
 
 func (s *standin) listen(address string) {
 	listener, err := net.Listen("tcp", address)
+	for i := 0; err != nil && i < 100; i++ { // (another program may have the port for a moment)
+		time.Sleep(20 * time.Millisecond)
+		listener, err = net.Listen("tcp", address)
+	}
 	if err != nil {
-		s.t.Fatal(err)
+		s.t.Error(err)
+		return
 	}
 	s.listener = listener
 	go func() {

@@ -125,23 +125,13 @@ func TestHostileDocuments(t *testing.T) {
 	}
 }
 
-// untilAnswered asks again where no answer came: who still sends when it is refused may find the connection closed.
-func untilAnswered(ask func() answered) answered {
-	a := ask()
-	for i := 0; a.err != nil && i < 20; i++ {
-		a = ask()
-	}
-	return a
-}
-
 // What is longer than a document may be is refused by its head.
 func TestLongDocuments(t *testing.T) {
 	_, _, green, _ := newGateway(t, nil)
 	expect(t, green.do("PUT", "/plans", nil), 200, "")
 	for target, most := range map[string]int{"POST /plans?delete": 2 << 20, "PUT /plans?versioning": 64 << 10, "PUT /plans?lifecycle": 64 << 10, "PUT /other": 64 << 10} {
 		method, path, _ := strings.Cut(target, " ")
-		long := func() answered { return green.do(method, path, make([]byte, most+1)) }
-		if a := untilAnswered(long); a.code != "EntityTooLarge" {
+		if a := green.do(method, path, make([]byte, most+1)); a.code != "EntityTooLarge" {
 			t.Errorf("%s with %d bytes: %d %s", target, most+1, a.status, a.code)
 		}
 		if a := green.do(method, path, make([]byte, most)); a.code != "MalformedXML" {
