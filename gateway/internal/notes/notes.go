@@ -32,8 +32,8 @@ var Kept = map[string]bool{"content-type": true, "content-language": true, "expi
 // Metadata has the fields that are kept of an object, by their names in small letters.
 type Metadata map[string]string
 
-// isText returns whether a value can be kept and told again as it is: UTF-8 without control characters.
-func isText(value string) bool {
+// IsText returns whether a value can be kept and told again as it is: UTF-8 without control characters.
+func IsText(value string) bool {
 	isControl := func(r rune) bool { return r < ' ' && r != '\t' || r == 0x7f }
 	return utf8.ValidString(value) && strings.IndexFunc(value, isControl) < 0
 }
@@ -45,7 +45,7 @@ func Of(h http.Header) (Metadata, error) {
 	meta, size := Metadata{}, 0
 	for field, values := range h {
 		name, value := strings.ToLower(field), strings.Join(values, ",")
-		if (strings.HasPrefix(name, MetaField) || Kept[name]) && !isText(value) {
+		if (strings.HasPrefix(name, MetaField) || Kept[name]) && !IsText(value) {
 			return nil, s3err.New("InvalidArgument", "the value of "+name+" is no UTF-8, or has a control character")
 		}
 		if name == "content-encoding" {

@@ -5,6 +5,8 @@ import (
 	"io"
 	"log"
 	"net/http"
+	"slices"
+	"strings"
 
 	"bucketd/gateway/internal/host"
 	"bucketd/gateway/internal/notes"
@@ -38,8 +40,11 @@ func (c *call) headBucket() error {
 
 // deleteBucket deletes a bucket, and the notes that crashes left of it.
 func (c *call) deleteBucket() error {
-	c.own.buckets.Lock()
-	defer c.own.buckets.Unlock()
+	leave, err := c.own.buckets.enter(c.r.Context(), true)
+	if err != nil {
+		return err
+	}
+	defer leave()
 	if _, err := c.need(c.request(remove)); err != nil {
 		return err
 	}
@@ -84,12 +89,24 @@ func (c *call) getLocation() error {
 	return c.sendDocument("LocationConstraint", name)
 }
 
+// listBuckets tells all buckets on one page, or those that begin so; all are of the gateway's region.
 func (c *call) listBuckets() error {
 	members, err := c.needDocument(c.request(get))
 	if err != nil {
 		return err
 	}
-	members["Buckets"], members["Owner"] = xmlio.Document{"Buckets": members["Buckets"]}, c.writer().OwnerOf()
+	prefix, region := c.query.Get("prefix"), c.query.Get("bucket-region")
+	isElsewhere := region != "" && c.server.Region != "" && region != c.server.Region
+	all, _ := members["Buckets"].([]any)
+	told := slices.DeleteFunc(all, func(it any) bool {
+		bucket, _ := it.(xmlio.Document)
+		name, _ := bucket["Name"].(string)
+		return isElsewhere || !strings.HasPrefix(name, prefix)
+	})
+	members["Buckets"], members["Owner"] = xmlio.Document{"Buckets": told}, c.writer().OwnerOf()
+	if prefix != "" {
+		members["Prefix"] = prefix
+	}
 	return c.sendDocument("ListAllMyBucketsResult", members)
 }
 

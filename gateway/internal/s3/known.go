@@ -36,7 +36,7 @@ func (d *details) metadata() notes.Metadata {
 
 // tenant has the locks of one tenant, and what is known of its objects.
 type tenant struct {
-	buckets sync.RWMutex // held for writing where a bucket goes with its notes
+	buckets passage // held alone where a bucket goes with its notes
 	keys    [64]keyLock
 	mu      sync.Mutex
 	known   map[host.Object]*details
@@ -99,12 +99,15 @@ func (c *call) hold(o host.Object, beside ...host.Object) (release func(), err e
 	o.Version = ""
 	t, own := c.own, c.own.lockOf(o)
 	locks := t.locksOf(append(beside, o))
-	t.buckets.RLock()
+	leave, err := t.buckets.enter(c.r.Context(), false)
+	if err != nil {
+		return nil, err
+	}
 	free := func() {
 		for _, it := range locks {
 			it.unlock()
 		}
-		t.buckets.RUnlock()
+		leave()
 	}
 	for i, it := range locks {
 		if err := it.lock(c.r.Context()); err != nil {

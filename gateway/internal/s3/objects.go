@@ -158,6 +158,11 @@ func (c *call) entryOf(o host.Object, told string) (host.Entry, error) {
 func (c *call) getObject() error {
 	c.server.readers.Add(1)
 	defer c.server.readers.Add(-1)
+	for name := range notes.Kept {
+		if !notes.IsText(c.query.Get("response-" + name)) {
+			return s3err.New("InvalidArgument", "the value of response-"+name+" is no UTF-8, or has a control character")
+		}
+	}
 	o, h, isHead := c.target, c.r.Header, c.r.Method == head
 	if isHead {
 		h.Del("Range")

@@ -74,6 +74,42 @@ func TestFieldPromises(t *testing.T) {
 	expect(t, green.do("GET", "/plans/y", nil), 404, "NoSuchKey")
 }
 
+// A page of buckets has those that begin so, of that region, and no others.
+func TestListedBuckets(t *testing.T) {
+	_, _, green, _ := newGateway(t, nil)
+	for _, it := range []string{"/plans", "/plants", "/seeds"} {
+		expect(t, green.do("PUT", it, nil), 200, "")
+	}
+	for query, want := range map[string]string{"": "plans plants seeds", "?prefix=pla": "plans plants", "?prefix=plant&max-buckets=7": "plants", "?prefix=none": "",
+		"?bucket-region=us-east-1": "plans plants seeds", "?bucket-region=eu-west-1": ""} {
+		text := expect(t, green.do("GET", "/"+query, nil), 200, "").body
+		var names []string
+		for _, it := range strings.Split(text, "<Name>")[1:] {
+			name, _, _ := strings.Cut(it, "<")
+			names = append(names, name)
+		}
+		if found := strings.Join(names, " "); found != want || strings.Contains(text, "<Prefix>") != strings.Contains(query, "prefix") {
+			t.Errorf("%q: %s", query, text)
+		}
+	}
+}
+
+// What a link wants answered brings no control byte into a head.
+func TestAnsweredFields(t *testing.T) {
+	_, _, green, _ := newGateway(t, nil)
+	expect(t, green.do("PUT", "/plans", nil), 200, "")
+	expect(t, green.do("PUT", "/plans/x", []byte("abc")), 200, "")
+	for _, value := range []string{"a%00b", "a%01", "%7F", "a%0D%0Ab%3A%20c", "%FF"} {
+		for _, field := range []string{"response-content-type", "response-content-disposition", "response-expires"} {
+			expect(t, green.do("GET", "/plans/x?"+field+"="+value, nil), 400, "InvalidArgument")
+		}
+	}
+	a := expect(t, green.do("GET", "/plans/x?response-content-disposition="+escaped(`inline; filename="é.txt"`), nil), 200, "")
+	if found := a.head.Get("Content-Disposition"); found != `inline; filename="é.txt"` {
+		t.Fatal(found)
+	}
+}
+
 // A field that is read once and stands twice is refused, though its text is what was signed.
 func TestFieldTwice(t *testing.T) {
 	_, _, green, _ := newGateway(t, nil)

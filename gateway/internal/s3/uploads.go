@@ -20,6 +20,11 @@ func (c *call) beginUpload() error {
 	if err != nil {
 		return err
 	}
+	leave, err := c.own.buckets.enter(c.r.Context(), false) // (its metadata isn't to go with those of a bucket before)
+	if err != nil {
+		return err
+	}
+	defer leave()
 	release, err := c.beginning()
 	if err != nil {
 		return err
