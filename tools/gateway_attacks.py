@@ -6,6 +6,7 @@ import base64
 import hashlib
 import hmac
 import os
+import resource
 import shutil
 import socket
 import ssl
@@ -28,10 +29,11 @@ def state(text):
 
 
 class World:
-    """A gateway that serves a host in a folder, clients of two tenants, and where results go: expect(name, is_well, found)."""
+    """A gateway that serves a host in a folder, clients of two tenants, and where results go: expect(name, is_well, found). Whether
+    bucketd is fast says what can be asked of it."""
 
-    def __init__(self, build, program, folder, gateway, expect):
-        self.build, self.program, self.folder, self.gateway, self.expect = build, program, folder, gateway, expect
+    def __init__(self, build, program, folder, gateway, expect, is_fast=False):
+        self.build, self.program, self.folder, self.gateway, self.expect, self.is_fast = build, program, folder, gateway, expect, is_fast
         self.green, self.blue, self.count = Client(gateway.port), Client(gateway.port, "blue"), 0
 
     def want(self, name, answer, status, code=""):
@@ -189,6 +191,41 @@ def documents(w):
         seconds, most = other.spent(), other.memory("VmHWM")
         w.expect("30 documents of 233,000 objects cost little", seconds < 6 and most < 200, f"{seconds:.1f} s of a processor, {most:.0f} MiB")
         print(f"  {seconds:.1f} s of a processor, {most:.0f} MiB")
+
+
+def readers(w):
+    """900 readers of a great object that take nothing keep the processors busy, as long as pieces come and then."""
+    if not w.is_fast:
+        print("bucketd is slow here: readers that take nothing aren't tried")
+        return
+    resource.setrlimit(resource.RLIMIT_NOFILE, (min(4096, resource.getrlimit(resource.RLIMIT_NOFILE)[1]), resource.getrlimit(resource.RLIMIT_NOFILE)[1]))
+    w.green.ask("PUT", "/readers")
+    w.green.ask("PUT", "/readers/great", os.urandom(12 << 20))
+    with w.beside("--connections", "4096") as other:
+        target, links = Client(other.port).presigned("GET", "/readers/great"), []
+        for i in range(900):
+            link = socket.socket()
+            link.setsockopt(socket.SOL_SOCKET, socket.SO_RCVBUF, 4096)
+            link.settimeout(PATIENCE)
+            link.bind((f"127.0.0.{2 + i % 5}", 0))
+            link.connect(("127.0.0.1", other.port))
+            link.sendall(f"GET {target} HTTP/1.1\r\nHost: 127.0.0.1:{other.port}\r\n\r\n".encode())
+            links.append(link)
+        begun = sum(it.recv(15) == b"HTTP/1.1 200 OK" for it in links)
+        for _ in range(20):  # (until the kernel has taken what it takes)
+            before = other.spent()
+            time.sleep(3)
+            spent = other.spent() - before
+            if spent < 0.5:
+                break
+        honest, most = time.monotonic(), other.memory("VmRSS")
+        status = Client(other.port, "blue").ask("GET", "/")[0]
+        waited = time.monotonic() - honest
+        for it in links:
+            it.close()
+        told = f"{begun} begun, {other.spent():.1f} s of a processor in all, {spent:.1f} of the last 3 s, {most:.0f} MiB, {status} after {waited:.2f} s"
+        w.expect("900 readers that take nothing cost little", begun == 900 and other.spent() < 11 and spent < 0.5 and most < 300 and status == 200 and waited < 5, told)
+        print(f"  {told}")
 
 
 def deletes_with_conditions(w):
@@ -404,7 +441,25 @@ def open_names(w):
             w.expect(f"a host's name {name}", got.startswith(b"HTTP/1.1 200"), got[:200])
 
 
-ATTACKS = (evidence, no_room_for_metadata, body_before_quota, full_disk, strangers, drip, documents, deletes_with_conditions, key_file, links, subresources, uploads,
+def bucket_in_host(w):
+    """A client that names buckets in the host's name makes or deletes one of its key's name, where no --domain is given."""
+    w.green.ask("PUT", "/hosted")
+    with w.beside() as other:
+        client = Client(other.port, host="hosted.files.example")
+
+        def sent(method, target, query="", fields={}):
+            head, _ = client.head(method, target, query, fields=fields)
+            return raw(other.port, head_of(method, target + ("?" + query if query else ""), {**head, "content-length": "0", "connection": "close"}))
+
+        for name, got in (("an empty object with a checksum", sent("PUT", "/notes", fields={"x-amz-checksum-crc32": "AAAAAA=="})), ("one by its x-id", sent("PUT", "/notes", "x-id=PutObject")),
+                          ("one with metadata", sent("PUT", "/notes", fields={"x-amz-meta-n": "1"})), ("one with a type", sent("PUT", "/notes", fields={"content-type": "text/plain"})),
+                          ("a deletion", sent("DELETE", "/hosted", "x-id=DeleteObject"))):
+            w.expect(f"{name} is refused where it would be a bucket's", got.startswith(b"HTTP/1.1 400") and b"--domain" in got, got[:300])
+    found = [w.green.ask("HEAD", it)[0] for it in ("/notes", "/hosted")]
+    w.expect("no bucket is made of a key, nor deleted", found == [404, 200], found)
+
+
+ATTACKS = (evidence, no_room_for_metadata, body_before_quota, full_disk, strangers, drip, documents, readers, bucket_in_host, deletes_with_conditions, key_file, links, subresources, uploads,
            promises, split_fields, tls, log, open_names)
 
 
