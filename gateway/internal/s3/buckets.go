@@ -27,6 +27,9 @@ func (c *call) createBucket() error {
 	if err != nil {
 		return err
 	}
+	if err := c.checkHost(); err != nil {
+		return err
+	}
 	q := c.request(put)
 	q.Fields = fields
 	c.tell("Location", q.Path())
@@ -40,6 +43,9 @@ func (c *call) headBucket() error {
 
 // deleteBucket deletes a bucket, and the notes that crashes left of it.
 func (c *call) deleteBucket() error {
+	if err := c.checkHost(); err != nil {
+		return err
+	}
 	leave, err := c.own.buckets.enter(c.r.Context(), true)
 	if err != nil {
 		return err

@@ -2,16 +2,18 @@ package s3
 
 import (
 	"mime"
+	"net/netip"
 	"regexp"
 	"slices"
 	"strings"
 
+	"bucketd/gateway/internal/host"
 	"bucketd/gateway/internal/s3err"
 )
 
 // A client may name its bucket in the host's name. Where the gateway isn't told of that name by --domain, it reads the first part of
-// such a client's key as the bucket: an object's put or delete would make or delete a bucket. A host's name doesn't show that, since
-// any may be the gateway's own. What else a request says of itself does.
+// such a client's key as the bucket: an object's put or delete would make or delete a bucket. A host's name alone doesn't show that,
+// since any may be the gateway's own. What else a request says of itself does, and so does a bucket with which the name begins.
 
 // objectFields are fields that no call of a bucket has.
 var objectFields = regexp.MustCompile("^(X-Amz-(Meta-.*|Copy-Source.*|Metadata-Directive|Storage-Class|Trailer|Decoded-Content-Length)|" +
@@ -45,8 +47,44 @@ func (c *call) checkMeaning(it operation) error {
 	return nil
 }
 
+// hostName returns the host's name that the client used. Where that has the domain, it is known, and a bucket may stand before it.
+func (c *call) hostName() (name, bucket string, isKnown bool) {
+	name, _, _ = strings.Cut(strings.ToLower(c.r.Host), ":")
+	name = strings.TrimSuffix(name, ".")
+	domain := strings.ToLower(c.server.Domain)
+	if domain == "" || name == domain {
+		return name, "", domain != ""
+	}
+	bucket, isKnown = strings.CutSuffix(name, "."+domain)
+	if !isKnown {
+		bucket = ""
+	}
+	return name, bucket, isKnown
+}
+
+// checkHost refuses to make or delete a bucket for who uses a host's name that isn't known and begins with a bucket of theirs.
+func (c *call) checkHost() error {
+	name, _, isKnown := c.hostName()
+	if _, err := netip.ParseAddr(name); err == nil || isKnown {
+		return nil
+	}
+	for at, it := range name {
+		if it != '.' || !isBucketName(name[:at]) {
+			continue
+		}
+		r, err := c.ask(host.Object{Bucket: name[:at]}.Request(head))
+		if err != nil {
+			return err
+		}
+		if r.Refusal == 0 {
+			return c.errMeaning("the host's name begins with that of the bucket " + name[:at])
+		}
+	}
+	return nil
+}
+
 func (c *call) errMeaning(why string) error {
-	message := "the target and the method are those of " + operations[c.route].names + ", but " + why
+	message := "the target and the method are those of " + c.names + ", but " + why
 	if c.server.Domain == "" && c.route.scope != ofObject {
 		message += ": buckets are named in the path, or in the host's name by a gateway with --domain"
 	}

@@ -31,6 +31,17 @@ func TestBucketInHost(t *testing.T) {
 		expect(t, hosted.do(method, target, nil), 400, "InvalidRequest")
 	}
 	expect(t, hosted.do("DELETE", "/plans", nil, "If-Match", "*"), 400, "InvalidRequest")
+	// What shows nothing of it comes by a name that begins with a bucket.
+	expect(t, green.do("PUT", "/old.plans", nil), 200, "")
+	for _, name := range []string{"plans.files.example", "PLANS.files.example.:9000", "old.plans.files.example", "plans.localhost"} {
+		hosted.host = name
+		for _, it := range []string{"PUT /notes.txt", "DELETE /plans", "DELETE /old.plans"} {
+			method, target, _ := strings.Cut(it, " ")
+			if a := expect(t, hosted.do(method, target, nil), 400, "InvalidRequest"); !strings.Contains(a.body, "--domain") {
+				t.Error(a.body)
+			}
+		}
+	}
 	expect(t, green.do("HEAD", "/plans", nil), 200, "")
 	expect(t, green.do("HEAD", "/notes.txt", nil), 404, "")
 }
@@ -38,6 +49,7 @@ func TestBucketInHost(t *testing.T) {
 // What clients say of themselves who do make a bucket is taken.
 func TestBucketsAsClientsMakeThem(t *testing.T) {
 	_, _, green, _ := newGateway(t, nil)
+	expect(t, green.do("PUT", "/255.1", nil), 200, "")
 	const document = "<CreateBucketConfiguration><LocationConstraint>us-east-1</LocationConstraint></CreateBucketConfiguration>"
 	for i, it := range []struct {
 		body   string
@@ -53,6 +65,12 @@ func TestBucketsAsClientsMakeThem(t *testing.T) {
 			target += "?x-id=CreateBucket"
 		}
 		expect(t, green.do("PUT", target, []byte(it.body), it.fields...), 200, "")
+	}
+	for _, it := range []string{"files.example:9000", "s3.made.example", "localhost", "[::1]:9000", "127.0.0.1", "255.1.1.1"} {
+		named := green
+		named.host = it
+		expect(t, named.do("PUT", "/named", nil), 200, "")
+		expect(t, named.do("DELETE", "/named", nil), 204, "")
 	}
 	for _, it := range []string{"GET /?x-id=ListBuckets", "GET /madea?x-id=ListObjectsV2&list-type=2", "GET /madea?x-id=ListObjects", "GET /madea?versioning&x-id=GetBucketVersioning"} {
 		method, target, _ := strings.Cut(it, " ")
@@ -73,4 +91,8 @@ func TestBucketInDomain(t *testing.T) {
 	expect(t, hosted.do("PUT", "/notes.txt?x-id=CopyObject", nil), 400, "InvalidRequest")
 	expect(t, hosted.do("DELETE", "/notes.txt?x-id=DeleteObject", nil), 204, "")
 	expect(t, hosted.do("GET", "/?x-id=ListObjectsV2&list-type=2", nil), 200, "")
+	expect(t, hosted.do("DELETE", "/", nil), 204, "")
+	expect(t, hosted.do("PUT", "/", nil), 200, "")
+	hosted.host = "files.example"
+	expect(t, hosted.do("DELETE", "/plans", nil), 204, "")
 }

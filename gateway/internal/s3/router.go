@@ -185,6 +185,7 @@ func (c *call) findOperation() (func(c *call) error, error) {
 	c.route = c.routeOf()
 	c.line.Call = c.route.String()
 	it, isThere := operations[c.route]
+	c.names = it.names
 	for name := range c.query {
 		if err := c.checkParameter(it, isThere, name); err != nil {
 			return nil, err

@@ -76,6 +76,7 @@ type call struct {
 	query  url.Values
 	target host.Object
 	route  route
+	names  string // of the call in S3's API
 	client *host.Client
 	own    *tenant
 	was    *details // of the key that is held, before
@@ -268,9 +269,7 @@ func (c *call) readTarget() (string, error) {
 		}
 	}
 	path, escaped := c.r.URL.Path, c.r.URL.EscapedPath()
-	name, _, _ := strings.Cut(strings.ToLower(c.r.Host), ":")
-	name = strings.TrimSuffix(name, ".")
-	if bucket := strings.TrimSuffix(name, "."+strings.ToLower(c.server.Domain)); c.server.Domain != "" && bucket != name {
+	if _, bucket, _ := c.hostName(); bucket != "" {
 		path, escaped = "/"+bucket+path, "/"+bucket+escaped
 	}
 	c.target.Bucket, c.target.Key, _ = strings.Cut(path[1:], "/")
