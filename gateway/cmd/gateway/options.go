@@ -48,7 +48,7 @@ func parseOptions(words []string, out io.Writer) (options, error) {
 	set.IntVar(&o.ahead, "ahead", 4, "how many requests of all, and of a tenant, are sent before bucketd has answered")
 	set.Int64Var(&o.Piece, "piece", 16<<20, "a put of more bytes goes as an upload of parts of so many: at least the host's least part, at most its greatest body")
 	set.Int64Var(&o.MaxPart, "max-part", 1<<30, "the most bytes of a part, and of a put with a date: these go to the host at once, so no more than its greatest body ('bucketd init --max-body')")
-	set.Int64Var(&o.MaxPut, "max-put", 5<<30, "the most bytes of a put")
+	set.Int64Var(&o.MaxPut, "max-put", 5<<30, "the most bytes of a put; never more than 10,000 pieces")
 	set.BoolVar(&o.LastModified, "last-modified", true, "tells Last-Modified on GET and HEAD, by a listing each")
 	set.BoolVar(&o.Meta, "meta", true, "keeps x-amz-meta-*, Content-Type and the like in a hidden bucket of the tenant, bucketd.meta")
 	o.addTLS(set)

@@ -103,8 +103,8 @@ func Restart(conn net.Conn, state http.ConnState) {
 	}
 }
 
-// hasLength returns whether a field of the head told a length, and whether the head was seen from its beginning on.
-func (c *headConn) hasLength() (isTold, isSeen bool) {
+// framing returns whether a field of the head that was seen told a length, and whether one told of chunks.
+func (c *headConn) framing() (hasLength, hasChunks bool) {
 	c.mu.Lock()
 	defer c.mu.Unlock()
 	text := bytes.ToLower(c.head)
@@ -122,12 +122,15 @@ func withHead(ctx context.Context, conn net.Conn) context.Context {
 }
 
 // isTwofold returns whether a request has a length beside chunks, or may have. (Of one that came with the body before it the head
-// wasn't kept.)
+// wasn't kept. Of HTTP/1.0, which has no chunks, net/http passes them over.)
 func isTwofold(r *http.Request) bool {
 	c, isKept := r.Context().Value(headKey{}).(*headConn)
-	if !isKept || len(r.TransferEncoding) == 0 {
+	if !isKept || len(r.TransferEncoding) == 0 && r.ProtoAtLeast(1, 1) {
 		return false
 	}
-	isTold, isSeen := c.hasLength()
-	return isTold || !isSeen
+	hasLength, hasChunks := c.framing()
+	if !r.ProtoAtLeast(1, 1) {
+		return hasChunks
+	}
+	return hasLength || !hasChunks
 }

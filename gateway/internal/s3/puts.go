@@ -22,7 +22,7 @@ func (c *call) putObject() error {
 	if err != nil {
 		return err
 	}
-	most := c.server.MaxPut
+	most := min(c.server.MaxPut, xmlio.MostParts*c.server.Piece)
 	if date != nil { // (what bucketd puts as an upload has none)
 		most = c.server.MaxPart
 	}

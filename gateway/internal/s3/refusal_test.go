@@ -213,6 +213,8 @@ func TestSmuggled(t *testing.T) {
 	}{
 		{"alone", both, 1, "400"},
 		{"in other letters", strings.Replace(both, "Content-Length", "cONTENT-lENGTH", 1), 1, "400"},
+		{"of HTTP/1.0", strings.Replace(both, "HTTP/1.1\r\nHost", "HTTP/1.0\r\nConnection: keep-alive\r\nHost", 1), 1, "400"},
+		{"of HTTP/1.0, chunks alone", "PUT /plans/x HTTP/1.0\r\nHost: h\r\nTransfer-Encoding: chunked\r\n\r\n0\r\n\r\n", 1, "400"},
 		{"chunks alone", strings.Replace(both, "Content-Length: 30\r\n", "", 1), 1, "403"},
 	} {
 		t.Run(it.name, func(t *testing.T) {
@@ -224,7 +226,7 @@ func TestSmuggled(t *testing.T) {
 			conn.SetDeadline(time.Now().Add(10 * time.Second))
 			io.WriteString(conn, it.sent)
 			text, err := io.ReadAll(conn)
-			if err != nil || strings.Count(string(text), "HTTP/1.1 ") != it.answers || !strings.Contains(string(text), "HTTP/1.1 "+it.last) {
+			if err != nil || strings.Count(string(text), "HTTP/1.") != it.answers || !strings.Contains(string(text), " "+it.last+" ") {
 				t.Fatalf("%q %v", text, err)
 			}
 		})

@@ -87,6 +87,16 @@ func TestRefusedBeforeTheBody(t *testing.T) {
 	expect(t, green.do("PUT", "/plans/up?partNumber=3&uploadId="+id, make([]byte, 105_000)), 200, "")
 }
 
+// A body of more pieces than an upload has parts is refused by its head.
+func TestTooManyPieces(t *testing.T) {
+	_, _, green, _ := newGateway(t, nil)
+	expect(t, green.do("PUT", "/plans", nil), 200, "")
+	unsigned := map[string]string{"x-amz-content-sha256": sigv4.UnsignedPayload}
+	if text := answerOf(t, begin(t, green.request("PUT", "/plans/x", nil, unsigned), 10000*65536+1, "abc")); !strings.Contains(text, "<Code>EntityTooLarge") {
+		t.Fatal(text)
+	}
+}
+
 // Bodies that wait have a bound in all and of a tenant, and those that are refused take none.
 func TestSpoolRoom(t *testing.T) {
 	s, _, green, blue := newGateway(t, func(o *options) { o.Piece, o.MaxPart = 4<<20, 4<<20 })
