@@ -72,6 +72,9 @@ func TestFieldPromises(t *testing.T) {
 		})
 	}
 	expect(t, green.do("GET", "/plans/y", nil), 404, "NoSuchKey")
+	for _, it := range []string{"X-Amz-Security-Token", "x-amz-security-token"} {
+		expect(t, green.do("GET", "/plans/x?"+it+"=bogus", nil), 400, "InvalidToken")
+	}
 }
 
 // A page of buckets has those that begin so, of that region, and no others.

@@ -259,7 +259,7 @@ func (c *call) checkFields(it operation) error {
 			return s3err.New(allowed.code, fmt.Sprintf("%s: %s is not there", field, values[0]))
 		}
 	}
-	if c.r.Header.Get("x-amz-security-token") != "" || c.query.Has("X-Amz-Security-Token") {
+	if token := "X-Amz-Security-Token"; c.r.Header.Get(token) != "" || c.query.Has(token) || c.query.Has(strings.ToLower(token)) {
 		return s3err.New("InvalidToken", "there are no tokens")
 	}
 	return c.checkOwners()
