@@ -8,7 +8,7 @@ without the gateway, with nothing beside them, and with each of those, in one ru
 PROGRAM: a bucketd; without it the stand-in of gateway/'s tests, which answers from memory. --gateway: a build to be measured in place
 of one of these sources. It wants 11,000 open files (ulimit -n); the host's file lies in /dev/shm. A table of Markdown comes on standard
 output, in milliseconds: the median of all turns, and the least median of a turn. The ratio is that of a turn's medians with the load
-and without it: the median of all turns, the least and the greatest.
+and without it: the median of all turns, the least and the greatest. Each turn has a line on standard error.
 """
 import argparse
 import multiprocessing
@@ -205,6 +205,12 @@ def start(folder, program, build):
     return [Gateway(build, None, folder, *options, "--host", f"127.0.0.1:{port}", "--alone"), standin], port
 
 
+def tell_turn(name, turn):
+    """What one turn had, on standard error: so a ratio that stands out can be looked into."""
+    told = ", ".join(f"{statistics.median(it):.2f} (longest {max(it):.0f})" for it in turn[:3])
+    print(f"  {name}: {told}; {len(turn[2])} in {turn[4]:.1f} s, load {os.getloadavg()[0]:.0f}", file=sys.stderr, flush=True)
+
+
 def measure(o, build):
     """Prints a row for each load."""
     loads = {name: it for name, it in LOADS.items() if o.only in (None, it.__name__)}
@@ -216,7 +222,9 @@ def measure(o, build):
             for _ in range(o.turns):
                 for name, load in loads.items():
                     bare, alone = good.times(o.requests, is_bare=True), good.times(o.requests)
-                    rows.setdefault(name, []).append((bare, alone, *beside(load, good, started[0], o.requests)))
+                    turn = (bare, alone, *beside(load, good, started[0], o.requests))
+                    rows.setdefault(name, []).append(turn)
+                    tell_turn(name, turn)
                     time.sleep(1)
         finally:
             for it in started:
