@@ -155,6 +155,9 @@ func PlainUpload(id string) string {
 	return plain
 }
 
+// fields are the names of fields (RFC 9110, section 5.1).
+var fields = regexp.MustCompile("^[!#$%&'*+.^_`|~0-9A-Za-z-]+$")
+
 // InUpload returns the metadata in an upload's id, where it has any. A client told it: what is no metadata is passed over.
 func InUpload(id string) (Metadata, error) {
 	_, packed, isThere := strings.Cut(id, ".")
@@ -167,6 +170,9 @@ func InUpload(id string) (Metadata, error) {
 		return nil, nil
 	}
 	for name, value := range told {
+		if !fields.MatchString(name) {
+			return nil, nil
+		}
 		head.Set(name, value)
 	}
 	return Of(head)

@@ -1,6 +1,7 @@
 package notes
 
 import (
+	"encoding/base64"
 	"encoding/json"
 	"fmt"
 	"math/rand"
@@ -95,5 +96,19 @@ func TestOf(t *testing.T) {
 				t.Fatal(meta, err)
 			}
 		})
+	}
+}
+
+// Metadata in an upload's id, which a client may make, has names of fields alone.
+func TestInUpload(t *testing.T) {
+	for text, want := range map[string]string{`{"X-Amz-Meta-N":"1"}`: "map[x-amz-meta-n:1]", `{"x-amz-meta-a b":"1"}`: "map[]", `{"x-amz-meta-a\r\nset-cookie":"1"}`: "map[]",
+		`{"x-amz-meta-a:":"1"}`: "map[]", `{"":"1"}`: "map[]", `{`: "map[]", `[]`: "map[]"} {
+		meta, err := InUpload("0000000000000001." + base64.RawURLEncoding.EncodeToString([]byte(text)))
+		if found := fmt.Sprint(map[string]string(meta)); err != nil || found != want {
+			t.Errorf("%s: %s %v", text, found, err)
+		}
+	}
+	if meta, err := InUpload("0000000000000001"); meta != nil || err != nil {
+		t.Error(meta, err)
 	}
 }
