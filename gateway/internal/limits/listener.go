@@ -211,6 +211,14 @@ func (c *Conn) wait(in *list.List) {
 	}
 }
 
+// CloseWrite tells the client that nothing more comes: http.Server does so before it closes a connection whose body it hasn't read.
+func (c *Conn) CloseWrite() error {
+	if inner, ok := c.Conn.(interface{ CloseWrite() error }); ok {
+		return inner.CloseWrite()
+	}
+	return nil
+}
+
 // Close closes the connection and frees its place.
 func (c *Conn) Close() error {
 	err := c.Conn.Close()

@@ -52,6 +52,14 @@ func (h heads) Accept() (net.Conn, error) {
 // NetConn returns the connection itself.
 func (c *headConn) NetConn() net.Conn { return c.Conn }
 
+// CloseWrite tells the client that nothing more comes.
+func (c *headConn) CloseWrite() error {
+	if inner, ok := c.Conn.(interface{ CloseWrite() error }); ok {
+		return inner.CloseWrite()
+	}
+	return nil
+}
+
 // The first bytes of requests without TLS.
 var plainHeads = []string{"GET /", "HEAD ", "PUT /", "POST ", "DELET", "OPTIO"}
 

@@ -87,6 +87,31 @@ func TestRefusedBeforeTheBody(t *testing.T) {
 	expect(t, green.do("PUT", "/plans/up?partNumber=3&uploadId="+id, make([]byte, 105_000)), 200, "")
 }
 
+// Who still sends a body that is refused by its head finds the answer, and no broken connection.
+func TestRefusedWhileSending(t *testing.T) {
+	_, _, green, _ := newGateway(t, nil)
+	wrong := green
+	wrong.secret = "x"
+	for code, it := range map[string]signer{"NoSuchBucket": green, "SignatureDoesNotMatch": wrong} {
+		told := ""
+		for i := 0; told == "" && i < 10; i++ { // (on a busy machine the while may be over)
+			r := it.request("PUT", "/nothing/x", nil, map[string]string{"x-amz-content-sha256": sigv4.UnsignedPayload})
+			conn := begin(t, r, 200_000, strings.Repeat("a", 100_000))
+			time.Sleep(50 * time.Millisecond)
+			if _, err := io.WriteString(conn, strings.Repeat("a", 50_000)); err != nil {
+				continue
+			}
+			time.Sleep(50 * time.Millisecond)
+			if _, err := io.WriteString(conn, strings.Repeat("a", 50_000)); err == nil {
+				told = answerOf(t, conn)
+			}
+		}
+		if !strings.Contains(told, "<Code>"+code) {
+			t.Errorf("%s: %q", code, told)
+		}
+	}
+}
+
 // A body of more pieces than an upload has parts is refused by its head.
 func TestTooManyPieces(t *testing.T) {
 	_, _, green, _ := newGateway(t, nil)

@@ -28,7 +28,10 @@ import (
 	"bucketd/gateway/internal/xmlio"
 )
 
-const writeSlice = 128 << 10 // how many bytes a client has to take within the time that it may be silent
+const (
+	writeSlice = 128 << 10              // how many bytes a client has to take within the time that it may be silent
+	lingering  = 500 * time.Millisecond // how long the rest of a body is taken that was refused
+)
 
 // Options are what a server is told.
 type Options struct {
@@ -213,9 +216,10 @@ func (c *call) refuse(err error) {
 		c.tell("Connection", "close")
 	}
 	if c.isBodyLeft(e.Code) {
-		// The body isn't waited for: net/http would, before it answers.
+		// The body isn't waited for before the answer, as the connection ends with it. Behind it net/http takes what comes for a while,
+		// so that who still sends finds the answer, and not a broken connection.
 		c.tell("Connection", "close")
-		if err := c.conn.SetReadDeadline(time.Now()); err != nil {
+		if err := c.conn.SetReadDeadline(time.Now().Add(lingering)); err != nil {
 			return
 		}
 	}
