@@ -117,7 +117,7 @@ func TestChangeWithinTheGrain(t *testing.T) {
 // grain of the file system's clock, and the file is read between them.
 func TestRewrittenInPlace(t *testing.T) {
 	logged(t)
-	const count = 1500
+	const count = 500
 	name := filepath.Join(t.TempDir(), "keys")
 	write(t, name, "green$k0 x\n")
 	f, err := Open(name)
