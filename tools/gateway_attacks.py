@@ -206,7 +206,7 @@ def readers(w):
         for i in range(900):
             link = socket.socket()
             link.setsockopt(socket.SOL_SOCKET, socket.SO_RCVBUF, 4096)
-            link.settimeout(PATIENCE)
+            link.settimeout(6 * PATIENCE)
             link.bind((f"127.0.0.{2 + i % 5}", 0))
             link.connect(("127.0.0.1", other.port))
             link.sendall(f"GET {target} HTTP/1.1\r\nHost: 127.0.0.1:{other.port}\r\n\r\n".encode())
