@@ -451,11 +451,11 @@ def bucket_in_host(w):
             head, _ = client.head(method, target, query, fields=fields)
             return raw(other.port, head_of(method, target + ("?" + query if query else ""), {**head, "content-length": "0", "connection": "close"}))
 
-        for name, got in (("an empty object with a checksum", sent("PUT", "/notes", fields={"x-amz-checksum-crc32": "AAAAAA=="})), ("one by its x-id", sent("PUT", "/notes", "x-id=PutObject")),
-                          ("one with metadata", sent("PUT", "/notes", fields={"x-amz-meta-n": "1"})), ("one with a type", sent("PUT", "/notes", fields={"content-type": "text/plain"})),
+        for name, got in (("an empty object with a checksum", sent("PUT", "/letter", fields={"x-amz-checksum-crc32": "AAAAAA=="})), ("one by its x-id", sent("PUT", "/letter", "x-id=PutObject")),
+                          ("one with metadata", sent("PUT", "/letter", fields={"x-amz-meta-n": "1"})), ("one with a type", sent("PUT", "/letter", fields={"content-type": "text/plain"})),
                           ("a deletion", sent("DELETE", "/hosted", "x-id=DeleteObject"))):
             w.expect(f"{name} is refused where it would be a bucket's", got.startswith(b"HTTP/1.1 400") and b"--domain" in got, got[:300])
-    found = [w.green.ask("HEAD", it)[0] for it in ("/notes", "/hosted")]
+    found = [w.green.ask("HEAD", it)[0] for it in ("/letter", "/hosted")]
     w.expect("no bucket is made of a key, nor deleted", found == [404, 200], found)
 
 
