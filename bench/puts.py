@@ -10,7 +10,7 @@ to another one's. The last lines have the most memory that each server had, in M
 
 With `--alone` each program serves a second host, whose blocks have 65,535 bytes. Lanes are for multiples of 64 bytes, so there
 each block is hashed alone: the same program, and the same work but for the lanes. Bodies are whole blocks of each host, and the
-ratios are to the first program's second host.
+ratios are to the first program's second host. Bodies of four to seven blocks are left out: idle lanes would be hashed alone, too.
 """
 import os
 import statistics
@@ -19,7 +19,7 @@ import tempfile
 
 from server import SHARED_MEMORY, Server, proved_program
 
-SIZES = [(1 << 10, 100), (1 << 16, 60), (1 << 17, 40), (1 << 18, 40), (3 << 17, 30), (1 << 20, 40), (1 << 24, 10)]
+SIZES = [(1 << 10, 100), (1 << 16, 60), (1 << 17, 40), (1 << 18, 40), (3 << 17, 30), (1 << 19, 40), (1 << 20, 40), (1 << 24, 10)]
 BLOCK, ODD = 65536, 65535
 
 
@@ -51,10 +51,11 @@ def main():
     words = [it for it in sys.argv[1:] if it != "--alone"]
     alone = len(words) < len(sys.argv) - 1
     programs = [proved_program(words), *words[1:]]
+    sizes = [it for it in SIZES if not (alone and 3 < it[0] // BLOCK < 8)]
     with tempfile.TemporaryDirectory(dir=os.environ.get("FOLDER", SHARED_MEMORY)) as folder:
         servers = start(programs, [ODD, BLOCK] if alone else [BLOCK], folder)
         print(f"{'bytes':>9} " + " ".join(f"{f'{it}: median (least)':>20} {'ratio':>6}" for it in range(len(servers))))
-        for size, count in SIZES:
+        for size, count in sizes:
             took = [[] for _ in servers]
             for number in range(count):
                 for (server, block), times in zip(servers, took):

@@ -72,7 +72,7 @@ class Lines:
             self.terminal.write_line("    " + it[:4000].replace("\n", "\n    "))
 
     def pytest_unconfigure(self):
-        shutil.rmtree(os.environ.pop("BASES_OF_HOSTS"))
+        shutil.rmtree(os.environ.pop("BASES_OF_HOSTS"), ignore_errors=True)
         passed, failed, skipped = self.counts.values()
         self.terminal.write_line(f"{passed} passed, {failed} failed, {skipped} skipped")
 

@@ -29,7 +29,10 @@ QUOTA = 1_000_000
 
 
 def bytes_of(path):
-    return read(path) if os.path.isfile(path) else None
+    """A file's bytes; of one that this user may not read, when it was changed."""
+    if not os.path.isfile(path):
+        return None
+    return read(path) if os.access(path, os.R_OK) else os.stat(path).st_mtime_ns
 
 
 class Files:

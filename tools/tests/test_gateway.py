@@ -6,7 +6,7 @@ import subprocess
 import pytest
 
 from conftest import need
-from host import TOP, is_quick
+from host import TOP, is_fast, is_quick
 
 CASE = re.compile(r"(.*): as expected")
 LEFT_OUT = re.compile(r"(no \S+ is here|\S+ \S+ isn't here): (.*)")
@@ -41,4 +41,5 @@ def test_go(expect, request):
 
 @pytest.mark.cost(300)
 def test_requests(expect, program):
-    cases_of(expect, 150, "--requests", *([] if is_quick(program) else ["--slow"]), program)
+    """Many clients at once are the gateway's matter: they are asked for before a fast program."""
+    cases_of(expect, 150, "--requests", *([] if is_fast(program) else ["--slow"]), program)

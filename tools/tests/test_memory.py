@@ -20,7 +20,7 @@ from concurrent.futures import ThreadPoolExecutor
 import pytest
 
 from faults import LANES, Budget
-from host import CRATES, PATIENCE, SCRIPTS, Server, copied, make_host, read, removed
+from host import CRATES, PATIENCE, SCRIPTS, Clock, Server, copied, make_host, read, removed
 
 pytestmark = pytest.mark.proved
 SHORT_SECONDS = 15
@@ -192,7 +192,7 @@ def ends_early(expect, program, base, folder, library):
         found = (got.status, got.body == BODY[:IN_ONE_WRITE], again.body == BODY, line.endswith(" memory"))
         if not got.is_whole:
             break
-    expect("a response that ends early", found == (200, True, True, True), found)
+    expect("a response that ends early", found == (200, True, True, True), f"{found}, {len(got.body)} bytes, allocation {number} of {total}: {server.lines()}")
 
 
 def numbers_of(around, total, full):
@@ -226,8 +226,10 @@ def test_connections(expect, program, folder, library, full):
     expect("some requests are refused, and some servers end before they listen", is_refused, f"{len(done)} allocations refused, {vars(counts)}")
 
 
-def test_response_that_ends_early(expect, program, folder, library):
-    base = base_of(program, folder)
+def test_response_that_ends_early(expect, program, folder, library, monkeypatch):
+    base, clock = base_of(program, folder), Clock(folder, time.time() + 60)
     with Server(program, base) as server:
         server.ask("green", "PUT", "/plans/b", BODY)
-    ends_early(expect, program, base, folder, library("refuse_allocation"))
+    # By a clock that stands: the first request of each second writes a stamp, which allocates.
+    monkeypatch.setenv("CLOCK_FILE", clock.file)
+    ends_early(expect, program, base, folder, f"{library('refuse_allocation')}:{clock.env['LD_PRELOAD']}")

@@ -10,10 +10,12 @@ import json
 import os
 import re
 import resource
+import select
 import signal
 import socket
 import subprocess
 import time
+from contextlib import suppress
 
 import pytest
 
@@ -191,13 +193,12 @@ def timed(expect, on, name, act, **room):
 
 
 def drip(it):
-    """A minute of bytes."""
-    try:
+    """A minute of bytes, or as long as the connection stands."""
+    with suppress(OSError):
         for byte in head("PUT", "/plans/drip", 3) + b"abc":
             it.sendall(bytes([byte]))
-            time.sleep(0.5)
-    except OSError:
-        pass
+            if select.select([it], [], [], 0.5)[0]:
+                return
 
 
 @pytest.mark.cost(40)

@@ -8,7 +8,7 @@ import (
 )
 
 // smallHeap is how many bytes the gateway may take before garbage is collected sooner than by its share.
-const smallHeap = 48 << 20
+const smallHeap = 40 << 20
 
 // pace bounds the memory until the context is done. While little of it is in use the bound is low. Where more is, the bound goes
 // with it, so that garbage isn't collected all the time, up to some bytes.

@@ -11,7 +11,7 @@ import (
 
 func TestHeapBound(t *testing.T) {
 	const most = 256 << 20
-	for _, it := range []struct{ used, want int64 }{{0, smallHeap}, {30 << 20, smallHeap}, {100 << 20, 150 << 20}, {200 << 20, most}, {400 << 20, most}} {
+	for _, it := range []struct{ used, want int64 }{{0, smallHeap}, {26 << 20, smallHeap}, {100 << 20, 150 << 20}, {200 << 20, most}, {400 << 20, most}} {
 		if found := heapBound(it.used, most); found != it.want {
 			t.Errorf("where %d bytes are in use the bound is %d, not %d", it.used, found, it.want)
 		}

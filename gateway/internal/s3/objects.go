@@ -20,7 +20,7 @@ import (
 
 // Objects are read in pieces, so that neither a great one nor a slow client holds bucketd. Each reader has two pieces in memory.
 const (
-	readMemory    = 12 << 20 // of all readers, but for leastPiece of each
+	readMemory    = 8 << 20 // of all readers, but for leastPiece of each
 	greatestPiece = 2 << 20
 	leastPiece    = 64 << 10
 )
