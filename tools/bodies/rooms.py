@@ -2,6 +2,7 @@
 import os
 import re
 import shutil
+import signal
 import subprocess
 import time
 from functools import cached_property
@@ -15,7 +16,7 @@ NO_FUNCTION = re.compile(r"has no function `([^`]*)`")
 
 
 class OutOfTime(Exception):
-    """A check was ended at the time until which it might run."""
+    """A check was ended at the time until which it might run, or killed."""
 
 
 class Room:
@@ -82,6 +83,10 @@ class Room:
             if left < PATIENCE:
                 raise OutOfTime from None
             return Said(2, "it took too long", changed)
+        if ran.returncode == -signal.SIGKILL:
+            # The system kills the greatest process if memory runs out. That says nothing of any wrong body.
+            print(f"{self.crate.name}: its check was killed, most likely for memory", flush=True)
+            raise OutOfTime
         if ran.returncode < 0:
             raise SystemExit(f"{self.crate.name}: its check was stopped by signal {-ran.returncode}")
         return Said(ran.returncode, ran.stdout, changed)
