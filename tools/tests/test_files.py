@@ -411,6 +411,23 @@ def test_check_of_rows(on, every, checked):
     check_broken(on, "checked", some(on, every, BROKEN))
 
 
+@pytest.mark.cost(60)
+@pytest.mark.proved
+@pytest.mark.parametrize("word", DIGESTS)
+def test_eight_blocks(on, word):
+    """A put hashes eight blocks side by side, or the four to seven that are left, and a check does if most of eight have one size. Their
+    names are those of blocks hashed alone. Wrong bytes are found in each of the eight, in one of another size, and after the last eight."""
+    file, digest, numbers = on.made(f"eights by {word}", "--digest", word), DIGESTS[word][1], [f"{n:064d}" for n in range(23)]
+    bodies = [("/plans",), ("/plans/x", "abc"), ("/plans/y", "".join(numbers[:17]) + "rest"), ("/plans/z", "".join(numbers[17:]))]
+    ask(on, file, *(request("green$k1", "PUT", *it) for it in bodies), options=("--block-size", "64"))
+    wanted = [(row, digest(it.encode()), it.encode()) for row, it in enumerate(["abc", *numbers[:17], "rest", *numbers[17:]], 1)]
+    found = rows_of(on, file, "SELECT rowid, digest, bytes FROM blocks ORDER BY rowid")[0]
+    on.note(f"25 blocks by {word}", found == wanted, found)
+    sound(on, file)
+    check_broken(on, file, [(f"block {row} by {word}", f"UPDATE blocks SET bytes = zeroblob(length(bytes)) WHERE rowid = {row}",
+                             f"blocks: another digest than that of its bytes, row {row}") for row in (1, 2, 5, 8, 9, 12, 16, 17, 18, 19, 20, 24, 25)])
+
+
 @pytest.mark.cost(40)
 @pytest.mark.proved
 def test_check_of_locks(on, every, locked):
