@@ -33,16 +33,21 @@ use Rattle.bh_dispatch.proofs.Receiving.{spoilt_told, operates_told, says_nothin
 
 -- ---- what a call gave, told as an answer
 
+module _ {S : Type 0} (g : Ghosts S) (t : Octets) (old new : Held S) {X Y : Type 0} (shown : Y → machine.Answer) (made : X → Y) where
+  shown_made : {E : Type 0} (step : Option Machine → Result Step E) (outcome : Result X (StepError E)) → StaysWithin g old new → Unless outcome (StaysOpen g old new) → Unless outcome (StillWorks g old new)
+      → (IsClean g new → Carries (λ x. shown (made x)) t step (tables g old) (tables g new) outcome) → CarriesOut g shown t step old new (result_map_both made (λ e. e) outcome)
+  shown_made step (Ok x) within opens working h = record { works = record { within = within; opens = opens; working = working }; carries = h }
+  shown_made step (Err (Refused r)) within opens working h = record { works = record { within = within; opens = opens; working = working }; carries = h }
+  shown_made step (Err (Failed trouble)) within opens working h = record { works = record { within = within; opens = opens; working = working }; carries = h }
+
 module _ {S : Type 0} (g : Ghosts S) (t : Octets) (old new : Held S) {X : Type 0} (made : X → Answer) where
   pub carried : {E : Type 0} (step : Option Machine → Result Step E) (outcome : Result X (StepError E)) → StaysWithin g old new → Unless outcome (StaysOpen g old new) → Unless outcome (StillWorks g old new)
-      → (IsClean g new → Carries (λ x. answer_view (made x)) t step (tables g old) (tables g new) outcome) → CarriesOut g t step old new (result_map_both made (λ e. e) outcome)
-  carried step (Ok x) within opens working h = record { works = record { within = within; opens = opens; working = working }; carries = h }
-  carried step (Err (Refused r)) within opens working h = record { works = record { within = within; opens = opens; working = working }; carries = h }
-  carried step (Err (Failed trouble)) within opens working h = record { works = record { within = within; opens = opens; working = working }; carries = h }
+      → (IsClean g new → Carries (λ x. answer_view (made x)) t step (tables g old) (tables g new) outcome) → CarriesOut g answer_view t step old new (result_map_both made (λ e. e) outcome)
+  carried step outcome within opens working h = shown_made g t old new answer_view made step outcome within opens working h
 
   -- where its refusals tell nothing else
   pub carried_plainly : (step : Option Machine → Result Step Refusal) (outcome : Result X (StepError Refusal)) → StaysWithin g old new → Unless outcome (StaysOpen g old new) → Unless outcome (StillWorks g old new)
-      → (IsClean g new → Carries (λ x. answer_view (made x)) t step (tables g old) (tables g new) outcome) → CarriesOut g t (λ s. plainly (step s)) old new (result_map_both made step_rejected outcome)
+      → (IsClean g new → Carries (λ x. answer_view (made x)) t step (tables g old) (tables g new) outcome) → CarriesOut g answer_view t (λ s. plainly (step s)) old new (result_map_both made step_rejected outcome)
   carried_plainly step (Ok x) within opens working h = record {
     works = record { within = within; opens = opens; working = working };
     carries = λ clean. (let k = h clean in record { gives = ap plainly k.gives; others = k.others; latest = k.latest; shared = k.shared });
@@ -77,28 +82,28 @@ module _ {S : Type 0} (g : Ghosts S) (c : Held S) (works : Works g c) where
   }
 
   module _ (t : Octets) where
-    pub undone : {E : Type 0} (step : Option Machine → Result Step E) (trouble : Trouble) → CarriesOut g t step c c (Err (Failed trouble))
+    pub undone : {E : Type 0} (step : Option Machine → Result Step E) (trouble : Trouble) → CarriesOut g answer_view t step c c (Err (Failed trouble))
     undone step trouble = record { works = still _ (λ P _. tt); carries = λ _. tt }
 
     -- a document that can't be read
     pub unread : {X D : Type 0} (step : Option Machine → Result Step Rejection) (shown : X → D) (read : Result D Refusal) → ((r : Refusal) (s : Option Machine) → read ≡ Err r → step s ≡ Err (plain r)) → (error : RequestError) → Gives {X = X} shown (Err error) read
-        → CarriesOut g t step c c (Err (request_rejected error))
+        → CarriesOut g answer_view t step c c (Err (request_rejected error))
     unread step shown read fails (request.Refused r) gives = record { works = still _ (λ P p. p); carries = λ _. (fails r (view (tables g c) t) gives, refl) }
     unread step shown read fails request.OutOfMemory gives = undone step _
 
 -- ---- the same step
 
-pub by_step : {S : Type 0} (g : Ghosts S) (t : Octets) (old new : Held S) {E : Type 0} (step other : Option Machine → Result Step E) (result : Result Answer (StepError E)) → step ≡ other → CarriesOut g t step old new result → CarriesOut g t other old new result
-by_step g t old new step other result same h = subst (λ (f : Option Machine → Result Step _). CarriesOut g t f old new result) same h
+pub by_step : {S : Type 0} (g : Ghosts S) (t : Octets) (old new : Held S) {X E : Type 0} {shown : X → machine.Answer} (step other : Option Machine → Result Step E) (result : Result X (StepError E)) → step ≡ other → CarriesOut g shown t step old new result → CarriesOut g shown t other old new result
+by_step g t old new {shown = shown} step other result same h = subst (λ (f : Option Machine → Result Step _). CarriesOut g shown t f old new result) same h
 
 -- a command on a tenant, by a text that names it
-pub commanded : {S : Type 0} (g : Ghosts S) (old new : Held S) (name text : Octets) → name ≡ text → IsTrue (is_tenant_name text) → {X : Type 0} (made : X → Answer) (step : Option Machine → Result Step Refusal) (outcome : Result X (StepError Refusal))
-    → StaysWithin g old new → Unless outcome (StaysOpen g old new) → Unless outcome (StillWorks g old new) → (IsClean g new → Carries (λ x. answer_view (made x)) name step (tables g old) (tables g new) outcome)
-    → CarriesOut g text (λ s. require (is_tenant_name text) InvalidName >>= (λ _. step s)) old new (result_map_both made (λ e. e) outcome)
-commanded g old new name text same good made step outcome within opens working h =
+pub commanded : {S : Type 0} (g : Ghosts S) (old new : Held S) (name text : Octets) → name ≡ text → IsTrue (is_tenant_name text) → {X Y : Type 0} (shown : Y → machine.Answer) (made : X → Y) (step : Option Machine → Result Step Refusal) (outcome : Result X (StepError Refusal))
+    → StaysWithin g old new → Unless outcome (StaysOpen g old new) → Unless outcome (StillWorks g old new) → (IsClean g new → Carries (λ x. shown (made x)) name step (tables g old) (tables g new) outcome)
+    → CarriesOut g shown text (λ s. require (is_tenant_name text) InvalidName >>= (λ _. step s)) old new (result_map_both made (λ e. e) outcome)
+commanded g old new name text same good shown made step outcome within opens working h =
     let named : Bool → Option Machine → Result Step Refusal = λ b s. require b InvalidName >>= (λ _. step s) in
     by_step g text old new step (named (is_tenant_name text)) _ (ap named (sym good))
-    (carried g text old new made step outcome within opens working (subst (λ t. IsClean g new → Carries (λ x. answer_view (made x)) t step (tables g old) (tables g new) outcome) same h))
+    (shown_made g text old new shown made step outcome within opens working (subst (λ t. IsClean g new → Carries (λ x. shown (made x)) t step (tables g old) (tables g new) outcome) same h))
 
 -- ---- a step whose body came
 

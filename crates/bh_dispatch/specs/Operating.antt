@@ -6,9 +6,7 @@ use Rattle.bh_cache.specs.Kept.{KeptBlocks, Agrees}
 use Rattle.bh_http.specs.Bodies.{Coming}
 use Rattle.bh_model.specs.Operations as machine
 use Rattle.bh_model.specs.State.{Octets, State}
-use Rattle.bh_storage.specs.Answers.{answer_view}
 use Rattle.bh_storage.specs.Calls.{Unless, UnlessSpoilt, Carries, Operates, OperatesBy}
-use Rattle.bh_storage.specs.declared.answer.Answer.{Answer}
 use Rattle.bh_storage.specs.declared.error.Outcome.{Outcome}
 use Rattle.bh_storage.specs.declared.error.StepError.{StepError}
 use Rattle.bh_view.specs.Blocks.{AreDigests}
@@ -24,10 +22,10 @@ module _ {S : Type 0} (g : Ghosts S) where
     pub positive : 1 ≤ size
 
   -- a tenant's step is carried out in the open transaction
-  pub record CarriesOut {E : Type 0} (t : Octets) (step : Option State → Result machine.Outcome E) (old new : Held S)
-      (result : Result Answer (StepError E)) : Type 0 where
+  pub record CarriesOut {X E : Type 0} (shown : X → machine.Answer) (t : Octets) (step : Option State → Result machine.Outcome E)
+      (old new : Held S) (result : Result X (StepError E)) : Type 0 where
     pub works : WorksOn g (Unless result) old new
-    pub carries : IsClean g new → Carries answer_view t step (tables g old) (tables g new) result
+    pub carries : IsClean g new → Carries shown t step (tables g old) (tables g new) result
 
   -- a tenant's step is carried out so by the received bytes of a body
   pub record OperatesOn {X E : Type 0} (shown : X → machine.Answer) (t : Octets) (step : Octets → Option State → Result machine.Outcome E)

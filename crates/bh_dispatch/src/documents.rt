@@ -54,7 +54,7 @@ fn carry_out_document<S: Alter>(
 ) -> Result<Answer, StepError<Rejection>>
     requires working { Works S.Store connection.old }
     requires early { IsClean S.Store connection.old → asked.now.at ≤ latest_of (tables S.Store connection.old) }
-    ensures { CarriesOut S.Store asked.now.tenant.now
+    ensures { CarriesOut S.Store answer_view asked.now.tenant.now
         (document_operated asked.now.limits asked.now.at document.now operation.now) connection.old connection.new result }
 {
     let tenant = asked.tenant;

@@ -1,5 +1,6 @@
 //! The operations on the rule of a bucket, as answers of a host's storage.
 ghost use Rattle.bh_machine.specs.Machine.{lifecycle_operated};
+ghost use Rattle.bh_storage.specs.Answers.{answer_view};
 ghost use Rattle.bh_schema.specs.Working.{Works};
 ghost use Rattle.bh_dispatch.specs.Operating.{CarriesOut};
 
@@ -19,7 +20,7 @@ pub fn operate_lifecycle<S: Alter>(
     operation: &LifecycleOperation,
 ) -> Result<Answer, StepError<Rejection>>
     requires { Works S.Store connection.old }
-    ensures { CarriesOut S.Store tenant.now (lifecycle_operated operation.now) connection.old connection.new result }
+    ensures { CarriesOut S.Store answer_view tenant.now (lifecycle_operated operation.now) connection.old connection.new result }
 {
     match operation {
         LifecycleOperation::GetLifecycle(bucket) => {

@@ -4,6 +4,7 @@ ghost use Rattle.std.specs.Prelude.{◌≡◌, option_map};
 ghost use Rattle.bh_listing.specs.Told.{asked_view};
 ghost use Rattle.bh_machine.specs.Machine.{listing_operated, page_asked, place_asked, upload_asked};
 ghost use Rattle.bh_pages.specs.Seen.{token_of};
+ghost use Rattle.bh_storage.specs.Answers.{answer_view};
 ghost use Rattle.bh_schema.specs.Working.{Works};
 ghost use Rattle.bh_dispatch.specs.Operating.{CarriesOut};
 
@@ -65,7 +66,7 @@ pub fn operate_listing<S: Alter>(
     operation: &ListingOperation,
 ) -> Result<Answer, StepError<Rejection>>
     requires { Works S.Store connection.old }
-    ensures { CarriesOut S.Store tenant.now (listing_operated operation.now) connection.old connection.new result }
+    ensures { CarriesOut S.Store answer_view tenant.now (listing_operated operation.now) connection.old connection.new result }
 {
     match operation {
         ListingOperation::ListObjectsV2 {

@@ -64,7 +64,7 @@ fn operate_service<S: Alter>(
     operation: &ServiceOperation,
 ) -> Result<Answer, StepError<Rejection>>
     requires { Works S.Store connection.old }
-    ensures { CarriesOut S.Store tenant.now (service_operated operation.now) connection.old connection.new result }
+    ensures { CarriesOut S.Store answer_view tenant.now (service_operated operation.now) connection.old connection.new result }
 {
     match operation {
         ServiceOperation::ListBuckets => {
@@ -85,7 +85,8 @@ fn operate_bucket<S: Alter>(
 ) -> Result<Answer, StepError<Rejection>>
     requires working { Works S.Store connection.old }
     requires early { IsClean S.Store connection.old → asked.now.at ≤ latest_of (tables S.Store connection.old) }
-    ensures { CarriesOut S.Store asked.now.tenant.now (bucket_operated asked.now.at operation.now) connection.old connection.new result }
+    ensures { CarriesOut S.Store answer_view asked.now.tenant.now (bucket_operated asked.now.at operation.now)
+        connection.old connection.new result }
 {
     let tenant = asked.tenant;
     match operation {
@@ -123,7 +124,7 @@ fn copy_object<S: Alter>(
 ) -> Result<Answer, StepError<Rejection>>
     requires working { Works S.Store connection.old }
     requires early { IsClean S.Store connection.old → asked.now.at ≤ latest_of (tables S.Store connection.old) }
-    ensures { CarriesOut S.Store asked.now.tenant.now
+    ensures { CarriesOut S.Store answer_view asked.now.tenant.now
         (λ s. plainly (machine.copy_object asked.now.at object.now.bucket object.now.key
         source.now.object.bucket source.now.object.key source.now.version date s))
         connection.old connection.new result }
@@ -149,7 +150,8 @@ fn operate_object<S: Alter>(
 ) -> Result<Answer, StepError<Rejection>>
     requires working { Works S.Store connection.old }
     requires early { IsClean S.Store connection.old → asked.now.at ≤ latest_of (tables S.Store connection.old) }
-    ensures { CarriesOut S.Store asked.now.tenant.now (object_operated asked.now.at operation.now) connection.old connection.new result }
+    ensures { CarriesOut S.Store answer_view asked.now.tenant.now (object_operated asked.now.at operation.now)
+        connection.old connection.new result }
 {
     let tenant = asked.tenant;
     match operation {
@@ -185,7 +187,8 @@ fn carry_out<S: Alter>(
 ) -> Result<Answer, StepError<Rejection>>
     requires working { Works S.Store connection.old }
     requires early { IsClean S.Store connection.old → asked.now.at ≤ latest_of (tables S.Store connection.old) }
-    ensures { CarriesOut S.Store asked.now.tenant.now (bare_operated asked.now.at operation.now) connection.old connection.new result }
+    ensures { CarriesOut S.Store answer_view asked.now.tenant.now (bare_operated asked.now.at operation.now)
+        connection.old connection.new result }
 {
     match operation {
         BareOperation::Service(operation) => {

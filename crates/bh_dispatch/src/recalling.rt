@@ -22,7 +22,7 @@ use bh_memo::memo::Memo;
 use bh_operation::address::ObjectName;
 use bh_operation::operation::Operation;
 use bh_schema::host::{Digester, Host};
-use bh_storage::answer::{Answer, FoundVersion, Offer};
+use bh_storage::answer::{CommandAnswer, FoundVersion, Offer};
 use bh_storage::error::{Outcome, StepError, Trouble};
 use bh_storage::plan::Plan;
 use bh_storage::report::{StoreReport, SweepReport, TenantReport};
@@ -277,7 +277,11 @@ impl<S: Alter + Drop, D: Digester + Drop> Storage for RecallingStorage<S, D> {
         self.storage.next_piece(alloc, plan)
     }
 
-    fn command(&mut self, alloc: Global, command: &Command) -> Result<Answer, StepError<Refusal>> {
+    fn command(
+        &mut self,
+        alloc: Global,
+        command: &Command,
+    ) -> Result<CommandAnswer, StepError<Refusal>> {
         self.memo.clear();
         self.storage.command(alloc, command)
     }

@@ -21,7 +21,7 @@ use bh_objects::{gets, reads};
 use bh_operation::address::ObjectName;
 use bh_operation::operation::Operation;
 use bh_schema::host::{Digester, Host};
-use bh_storage::answer::{Answer, FoundVersion, Offer};
+use bh_storage::answer::{CommandAnswer, FoundVersion, Offer};
 use bh_storage::error::{Outcome, StepError, Trouble};
 use bh_storage::plan::Plan;
 use bh_storage::report::{StoreReport, SweepReport, TenantReport};
@@ -234,7 +234,11 @@ impl<S: Alter + Drop, D: Digester + Drop> Storage for HostStorage<S, D> {
         gets::next_piece(&mut host.connection, &mut host.cache, alloc, plan)
     }
 
-    fn command(&mut self, alloc: Global, command: &Command) -> Result<Answer, StepError<Refusal>> {
+    fn command(
+        &mut self,
+        alloc: Global,
+        command: &Command,
+    ) -> Result<CommandAnswer, StepError<Refusal>> {
         match command {
             Command::Usage { tenant } => {
                 commands::show_usage(&mut self.host.connection, alloc, tenant.as_str())
@@ -244,11 +248,11 @@ impl<S: Alter + Drop, D: Digester + Drop> Storage for HostStorage<S, D> {
             }
             Command::TenantAdd { tenant, quota } => {
                 let added = self.host.tenant_add(alloc, tenant.as_str(), *quota);
-                added.map(|()| Answer::Done)
+                added.map(|()| CommandAnswer::Done)
             }
             Command::Quota { tenant, quota } => {
                 let set = self.host.quota_set(alloc, tenant.as_str(), *quota);
-                set.map(|()| Answer::Done)
+                set.map(|()| CommandAnswer::Done)
             }
             Command::KeyAdd {
                 tenant,
@@ -257,11 +261,11 @@ impl<S: Alter + Drop, D: Digester + Drop> Storage for HostStorage<S, D> {
             } => {
                 let host = &mut self.host;
                 let added = host.key_add(alloc, tenant.as_str(), name.as_str(), secret.as_str());
-                added.map(|()| Answer::Done)
+                added.map(|()| CommandAnswer::Done)
             }
             Command::KeyRemove { tenant, name } => {
                 let removed = self.host.key_remove(alloc, tenant.as_str(), name.as_str());
-                removed.map(|()| Answer::Done)
+                removed.map(|()| CommandAnswer::Done)
             }
         }
     }

@@ -5,6 +5,7 @@ ghost use Rattle.bh_machine.specs.Machine.{finish_upload, upload_operated};
 ghost use Rattle.bh_model.specs.Listings as listings;
 ghost use Rattle.bh_view.specs.View.{latest_of};
 ghost use Rattle.bh_schema.specs.Connections.{IsClean, tables};
+ghost use Rattle.bh_storage.specs.Answers.{answer_view};
 ghost use Rattle.bh_schema.specs.Working.{Works};
 ghost use Rattle.bh_dispatch.specs.Operating.{CarriesOut};
 
@@ -37,7 +38,7 @@ pub fn complete_upload<'a, S: Alter>(
 ) -> Result<Answer, StepError<Rejection>>
     requires working { Works S.Store connection.old }
     requires early { IsClean S.Store connection.old → asked.now.at ≤ latest_of (tables S.Store connection.old) }
-    ensures { CarriesOut S.Store asked.now.tenant.now
+    ensures { CarriesOut S.Store answer_view asked.now.tenant.now
         (λ s. plainly (finish_upload asked.now.limits asked.now.at object.now.bucket object.now.key upload document.now s))
         connection.old connection.new result }
 {
@@ -71,7 +72,7 @@ fn list_parts<S: Alter>(
     page: PartPage,
 ) -> Result<Answer, StepError<Rejection>>
     requires { Works S.Store connection.old }
-    ensures { CarriesOut S.Store tenant.now
+    ensures { CarriesOut S.Store answer_view tenant.now
         (λ s. plainly (listings.list_parts object.now.bucket object.now.key upload page.size page.after s))
         connection.old connection.new result }
 {
@@ -100,7 +101,8 @@ pub fn operate_upload<S: Alter>(
 ) -> Result<Answer, StepError<Rejection>>
     requires working { Works S.Store connection.old }
     requires early { IsClean S.Store connection.old → asked.now.at ≤ latest_of (tables S.Store connection.old) }
-    ensures { CarriesOut S.Store asked.now.tenant.now (upload_operated asked.now.at operation.now) connection.old connection.new result }
+    ensures { CarriesOut S.Store answer_view asked.now.tenant.now (upload_operated asked.now.at operation.now)
+        connection.old connection.new result }
 {
     let tenant = asked.tenant;
     match operation {

@@ -49,8 +49,6 @@ pub fn response_to(alloc: Global, answer: Answer) -> Result<Response, AllocError
         Answer::PartStored(checksum) => Ok(part_stored(alloc, checksum)),
         Answer::Completed(upload) => completed(alloc, &upload),
         Answer::Used(usage) => used(alloc, &usage),
-        // No operation has this answer.
-        Answer::Keys(_) => Ok(Response::empty(alloc, StatusCode::OK)),
     }
 }
 

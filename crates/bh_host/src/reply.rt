@@ -7,7 +7,7 @@ ghost use Rattle.bh_http.specs.Views.{with_body};
 ghost use Rattle.bh_docs.specs.Documents.{usage_view};
 ghost use Rattle.bh_machine.specs.Machine.{RequestRead};
 ghost use Rattle.bh_model.specs.Operations.{Object, Used};
-ghost use Rattle.bh_storage.specs.Answers.{answer_view};
+ghost use Rattle.bh_storage.specs.Answers.{answer_view, command_answer_view};
 ghost use Rattle.bh_types.specs.Rejections.{plain};
 ghost use Rattle.std.specs.String.{string_bytes};
 ghost use Rattle.bh_host.specs.Replies as spec;
@@ -25,7 +25,7 @@ use bh_http::values::{Allow, ContentRange};
 use bh_operation::allow::allow_of;
 use bh_operation::path_of;
 use bh_operation::routes::Routes;
-use bh_storage::answer::{Answer, ObjectHead};
+use bh_storage::answer::{Answer, CommandAnswer, ObjectHead};
 use bh_storage::error::{StepError, Trouble};
 use bh_storage::report::{StoreReport, SweepReport};
 use bh_types::range::RangePlan;
@@ -238,9 +238,9 @@ pub fn unread_text(alloc: Global, routes: &Routes, refusal: Refusal) -> Result<V
 pub fn order_text(
     alloc: Global,
     command: &Command,
-    outcome: Result<Answer, StepError<Refusal>>,
+    outcome: Result<CommandAnswer, StepError<Refusal>>,
 ) -> Result<Vec<u8>, Trouble>
-    ensures { IfOk result (λ bytes. TellsOrder answer_view (order_of command.now) outcome bytes.items) }
+    ensures { IfOk result (λ bytes. TellsOrder command_answer_view (order_of command.now) outcome bytes.items) }
 {
     match outcome {
         Ok(answer) => Ok(accepted_line(alloc, command, &answer)?.into_bytes()),
@@ -250,21 +250,25 @@ pub fn order_text(
 }
 
 /// What a command did, and the values of its answer.
-fn accepted_line(alloc: Global, command: &Command, answer: &Answer) -> Result<String, AllocError>
-    ensures { IfOk result (λ text. string_bytes text ≡ spec.line (order_of command.now) (Ok (answer_view answer.now))) }
+fn accepted_line(
+    alloc: Global,
+    command: &Command,
+    answer: &CommandAnswer,
+) -> Result<String, AllocError>
+    ensures { IfOk result (λ text. string_bytes text ≡ spec.line (order_of command.now) (Ok (command_answer_view answer.now))) }
 {
     let line = line_of(alloc, command)?;
     let end = line_end(alloc, answer)?;
     format!(in alloc; "{line}{end}")
 }
 
-fn line_end(alloc: Global, answer: &Answer) -> Result<String, AllocError>
-    ensures { IfOk result (λ text. string_bytes text ≡ spec.line_end (answer_view answer.now)) }
+fn line_end(alloc: Global, answer: &CommandAnswer) -> Result<String, AllocError>
+    ensures { IfOk result (λ text. string_bytes text ≡ spec.line_end (command_answer_view answer.now)) }
 {
     match answer {
-        Answer::Used(usage) => used_end(alloc, usage),
-        Answer::Keys(names) => names_end(alloc, names),
-        _ => Ok(String::new(alloc)),
+        CommandAnswer::Done => Ok(String::new(alloc)),
+        CommandAnswer::Used(usage) => used_end(alloc, usage),
+        CommandAnswer::Keys(names) => names_end(alloc, names),
     }
 }
 

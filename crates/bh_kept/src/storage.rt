@@ -9,7 +9,7 @@ use bh_http::body::Body;
 use bh_memo::memo::Memo;
 use bh_operation::operation::Operation;
 use bh_schema::host::{Digester, Host};
-use bh_storage::answer::{Answer, Offer};
+use bh_storage::answer::{CommandAnswer, Offer};
 use bh_storage::error::{Outcome, StepError, Trouble};
 use bh_storage::plan::Plan;
 use bh_storage::report::{StoreReport, SweepReport, TenantReport};
@@ -114,7 +114,11 @@ impl<'a, D: Disk + Drop, G: Digester + Drop> Storage for KeptHost<'a, D, G> {
         }
     }
 
-    fn command(&mut self, alloc: Global, command: &Command) -> Result<Answer, StepError<Refusal>> {
+    fn command(
+        &mut self,
+        alloc: Global,
+        command: &Command,
+    ) -> Result<CommandAnswer, StepError<Refusal>> {
         match &mut self.storage {
             Some(storage) => storage.command(alloc, command),
             None => Err(StepError::Failed(Trouble::Store)),

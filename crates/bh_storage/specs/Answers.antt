@@ -10,7 +10,8 @@ use Rattle.bh_storage.specs.Plans.{to_come}
 use Rattle.bh_storage.specs.declared.answer.Answer.{Answer}
 use Rattle.bh_storage.specs.declared.answer.Answer.TheVariants.{Done, Removed, Stored, Copied, Head, Buckets, Versioning, Objects, Versions}
 use Rattle.bh_storage.specs.declared.answer.Answer.TheVariants.{Uploads, Parts, Begun, PartStored, Completed, Lifecycle, Retention, Used}
-use Rattle.bh_storage.specs.declared.answer.Answer.TheVariants.{Keys}
+use Rattle.bh_storage.specs.declared.answer.CommandAnswer.{CommandAnswer}
+use Rattle.bh_storage.specs.declared.answer.CommandAnswer.TheVariants as command
 use Rattle.bh_storage.specs.declared.answer.RemovedEntry.{RemovedEntry}
 use Rattle.bh_storage.specs.declared.answer.StoredVersion.{StoredVersion}
 use Rattle.bh_storage.specs.declared.answer.CopiedVersion.{CopiedVersion}
@@ -46,6 +47,7 @@ completed_answer u = model.Completed (string_bytes u.bucket) (string_bytes u.key
 abbrev pub used_answer : Usage → model.Answer
 used_answer usage = model.Used (usage_view usage)
 
+-- an operation's answer, but for an object's bytes
 abbrev pub answer_view : Answer → model.Answer
 answer_view Done = model.Done
 answer_view (Removed entry) = removed_answer entry
@@ -64,7 +66,12 @@ answer_view (Begun upload) = begun_answer upload
 answer_view (PartStored checksum) = model.PartStored (string_bytes checksum)
 answer_view (Completed upload) = completed_answer upload
 answer_view (Used usage) = used_answer usage
-answer_view (Keys names) = model.Keys (map string_bytes names.items)
+
+-- a command's answer
+abbrev pub command_answer_view : CommandAnswer → model.Answer
+command_answer_view command.Done = model.Done
+command_answer_view (command.Used usage) = used_answer usage
+command_answer_view (command.Keys names) = model.Keys (map string_bytes names.items)
 
 -- an operation's answer, by the tables after it
 abbrev pub offer_view : Tables → Offer → model.Answer

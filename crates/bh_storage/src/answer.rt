@@ -5,7 +5,7 @@ use bh_types::id::{UploadId, VersionId};
 use bh_types::moment::Moment;
 use bh_types::range::RangePlan;
 
-/// The answer to a step that was not refused.
+/// The answer to a tenant's operation that was not refused, but for an object's bytes.
 #[derive(Drop)]
 pub enum Answer {
     /// It was done, and there is no value.
@@ -35,7 +35,16 @@ pub enum Answer {
     Completed(CompletedUpload),
     /// A tenant's usage.
     Used(Usage),
-    /// The names of a tenant's access keys, in byte order.
+}
+
+/// The answer to an operator's command that was not refused.
+#[derive(Drop)]
+pub enum CommandAnswer {
+    /// It was done, and there is no value.
+    Done,
+    /// The tenant's usage.
+    Used(Usage),
+    /// The names of the tenant's access keys, in byte order.
     Keys(Vec<String>),
 }
 

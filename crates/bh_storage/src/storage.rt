@@ -5,13 +5,13 @@ ghost use Rattle.bh_model.specs.Credentials as machine;
 ghost use Rattle.bh_model.specs.Runs.{last_reading};
 ghost use Rattle.bh_tables.specs.Typed.{Tables};
 ghost use Rattle.bh_view.specs.View.{view, latest_of};
-ghost use Rattle.bh_storage.specs.Answers.{answer_view, offer_view};
+ghost use Rattle.bh_storage.specs.Answers.{command_answer_view, offer_view};
 ghost use Rattle.bh_storage.specs.Calls.{Seen, Clean, Within, StaysAtWork, LeavesNothingNew, IsAtRest, IsReadable, IsWorking, Commits};
 ghost use Rattle.bh_storage.specs.Calls.{TakesBack, Unless, UnlessSpoilt, Stamps, Purges, Operates, Carries, Decides, Sweeps, Reports};
 ghost use Rattle.bh_storage.specs.Calls.{Lists};
 ghost use Rattle.bh_storage.specs.Plans.{IfPlanned, IsMeasured, to_come};
 
-use crate::answer::{Answer, Offer};
+use crate::answer::{CommandAnswer, Offer};
 use crate::error::{Outcome, StepError, Trouble};
 use crate::plan::Plan;
 use crate::report::{StoreReport, SweepReport, TenantReport};
@@ -145,11 +145,15 @@ pub trait Storage {
         ensures kept { OnErr result (plan.new ≡ plan.old) };
 
     /// Carries out an operator's command on the tenant that it names.
-    fn command(&mut self, alloc: Global, command: &Command) -> Result<Answer, StepError<Refusal>>
+    fn command(
+        &mut self,
+        alloc: Global,
+        command: &Command,
+    ) -> Result<CommandAnswer, StepError<Refusal>>
         requires { Clean IsIntact IsOpen self.old → IsWorking IsSoundStore (seen self.old) }
         ensures goes_on { StaysAtWork IsIntact IsOpen IsSoundStore seen left (Unless result) self.old self.new }
         ensures carries { Clean IsIntact IsOpen self.new
-            → Carries answer_view (tenant_of (order_of command.now)) (ordered (order_of command.now)) (seen self.old).now
+            → Carries command_answer_view (tenant_of (order_of command.now)) (ordered (order_of command.now)) (seen self.old).now
             (seen self.new).now result };
 
     /// Removes at most `limit` of what is due at a moment: first stale uploads of all tenants, by

@@ -1,7 +1,7 @@
 use Rattle.std.proofs.Common.{ℕ, List, ◌∙◌}
 use Rattle.bh_event.specs.Events.{order_of}
 use Rattle.bh_machine.specs.Machine.{Commanded}
-use Rattle.bh_storage.specs.Answers.{answer_view}
+use Rattle.bh_storage.specs.Answers.{command_answer_view}
 use Rattle.bh_storage.specs.Calls.{Clean, IsWorking}
 use Rattle.bh_host.specs.Turns.{IsActDone}
 use Rattle.bh_host.proofs.Turning.{if_ordered, limits_stay, turned_order}
@@ -16,9 +16,9 @@ returns-clause-turned g c =
     let turned : List ℕ → Type 0 = λ bytes. now → IsActDone (seen c.args.host.now).limits (Commanded order) c.args.at (seen c.args.host.now).now (seen new).now bytes in
     let command = c.command-outcome.ensures.goes_on in
     let purge = c.in_ok-purge.ensures.goes_on in
-    if_ordered c.order_text.result answer_view order c.command-outcome.result (now → IsWorking g.H.Storage.IsSoundStore (seen new)) turned c.order_text.ensures command.working
+    if_ordered c.order_text.result command_answer_view order c.command-outcome.result (now → IsWorking g.H.Storage.IsSoundStore (seen new)) turned c.order_text.ensures command.working
     (λ bytes working told clean.
     let mid : Clean g.H.Storage.IsIntact g.H.Storage.IsOpen c.purge.new.self = (command.within.intact clean.0, command.within.opened clean.0 clean.1) in
     let old : Clean g.H.Storage.IsIntact g.H.Storage.IsOpen c.args.host.now = (purge.within.intact mid.0, purge.within.opened mid.0 mid.1) in
     let limits = limits_stay (seen c.args.host.now) (seen new) (c.requires.working old) (working clean) (command.within.limits ∙ purge.within.limits) in
-    turned_order (seen c.args.host.now).limits answer_view c.args.tenant.now c.args.at order _ _ _ c.command-outcome.result bytes c.requires.named (c.in_ok-purge.ensures.purges mid) (c.command-outcome.ensures.carries clean) limits told)
+    turned_order (seen c.args.host.now).limits command_answer_view c.args.tenant.now c.args.at order _ _ _ c.command-outcome.result bytes c.requires.named (c.in_ok-purge.ensures.purges mid) (c.command-outcome.ensures.carries clean) limits told)

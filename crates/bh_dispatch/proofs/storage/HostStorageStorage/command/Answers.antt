@@ -3,7 +3,7 @@ use Rattle.sqlite.specs.Held.{state}
 use Rattle.bh_event.specs.Events.{ShowUsage, ShowKeys}
 use Rattle.bh_model.specs.Operations.{show_usage, show_keys}
 use Rattle.bh_machine.proofs.Bounded.{ordered_bounded}
-use Rattle.bh_storage.specs.Answers.{answer_view}
+use Rattle.bh_storage.specs.Answers.{command_answer_view}
 use Rattle.bh_schema.specs.Layer.{IsIntact, IsOpen}
 use Rattle.bh_schema.proofs.Storing.{AreBoth, both, parts, keeps, under}
 use Rattle.bh_dispatch.proofs.Storing.{seen_working, still_working, carried, stored, opened, by_any, agrees_seen, kept_carried, works_beside, carries_beside}
@@ -22,12 +22,12 @@ returns-in-Usage-clause-goes_on g c =
     let h = c.show_usage.ensures in
     let t = c.as_str.result.now in
     let began = λ (clean : AreBoth new). c.requires (parts (h.works.within.follows.clean (both clean))) in
-    let works = still_working digest l old new answer_view t (show_usage t) c.show_usage.result (λ s bound. ordered_bounded s bound (ShowUsage t)) (λ clean. under _ _ (began clean)) (by_any digest old new c.show_usage.result h.works.working) h.carries in
+    let works = still_working digest l old new command_answer_view t (show_usage t) c.show_usage.result (λ s bound. ordered_bounded s bound (ShowUsage t)) (λ clean. under _ _ (began clean)) (by_any digest old new c.show_usage.result h.works.working) h.carries in
     record {
       within = stored g.S.Store c.args.self.now _ (keeps g.S.Store c.args.self.now.host _ refl h.works.within);
       opens = opened (IsIntact new) (IsOpen old) (IsOpen new) c.show_usage.result h.works.opens;
       working = works_beside digest k k l old new began c.show_usage.result works
-          (kept_carried k answer_view t (show_usage t) c.show_usage.result old new (λ clean. agrees_seen k l old (c.requires (parts (h.works.within.follows.clean clean)))) h.carries);
+          (kept_carried k command_answer_view t (show_usage t) c.show_usage.result old new (λ clean. agrees_seen k l old (c.requires (parts (h.works.within.follows.clean clean)))) h.carries);
     }
 
 pub returns-in-Usage-clause-carries : goal.returns-in-Usage-clause-carries
@@ -41,10 +41,10 @@ returns-in-Usage-clause-carries g c clean =
     let t = c.as_str.result.now in
     let began = λ (clean : AreBoth new). c.requires (parts (h.works.within.follows.clean (both clean))) in
     let working = by_any digest old new c.show_usage.result h.works.working in
-    let works = still_working digest l old new answer_view t (show_usage t) c.show_usage.result (λ s bound. ordered_bounded s bound (ShowUsage t)) (λ clean. under _ _ (began clean)) working h.carries in
-    rw (c.in-Usage.is, sym c.as_str.ensures.value) (carries_beside digest k k l old new began answer_view t (show_usage t) c.show_usage.result clean works
-    (kept_carried k answer_view t (show_usage t) c.show_usage.result old new (λ clean. agrees_seen k l old (c.requires (parts (h.works.within.follows.clean clean)))) h.carries)
-    (carried digest l old new answer_view t (show_usage t) c.show_usage.result (under _ _ (began clean)) clean working (h.carries (both clean))))
+    let works = still_working digest l old new command_answer_view t (show_usage t) c.show_usage.result (λ s bound. ordered_bounded s bound (ShowUsage t)) (λ clean. under _ _ (began clean)) working h.carries in
+    rw (c.in-Usage.is, sym c.as_str.ensures.value) (carries_beside digest k k l old new began command_answer_view t (show_usage t) c.show_usage.result clean works
+    (kept_carried k command_answer_view t (show_usage t) c.show_usage.result old new (λ clean. agrees_seen k l old (c.requires (parts (h.works.within.follows.clean clean)))) h.carries)
+    (carried digest l old new command_answer_view t (show_usage t) c.show_usage.result (under _ _ (began clean)) clean working (h.carries (both clean))))
 
 pub show_keys-requires : goal.show_keys-requires
 show_keys-requires g c clean = seen_working g.D.Digester.digest_of c.args.self.now.host.limits (state g.S.Store c.args.self.now.host.connection) (under _ _ (c.requires (parts clean)))
@@ -59,12 +59,12 @@ returns-in-Keys-clause-goes_on g c =
     let h = c.show_keys.ensures in
     let t = c.as_str-in-Keys.result.now in
     let began = λ (clean : AreBoth new). c.requires (parts (h.works.within.follows.clean (both clean))) in
-    let works = still_working digest l old new answer_view t (show_keys t) c.show_keys.result (λ s bound. ordered_bounded s bound (ShowKeys t)) (λ clean. under _ _ (began clean)) (by_any digest old new c.show_keys.result h.works.working) h.carries in
+    let works = still_working digest l old new command_answer_view t (show_keys t) c.show_keys.result (λ s bound. ordered_bounded s bound (ShowKeys t)) (λ clean. under _ _ (began clean)) (by_any digest old new c.show_keys.result h.works.working) h.carries in
     record {
       within = stored g.S.Store c.args.self.now _ (keeps g.S.Store c.args.self.now.host _ refl h.works.within);
       opens = opened (IsIntact new) (IsOpen old) (IsOpen new) c.show_keys.result h.works.opens;
       working = works_beside digest k k l old new began c.show_keys.result works
-          (kept_carried k answer_view t (show_keys t) c.show_keys.result old new (λ clean. agrees_seen k l old (c.requires (parts (h.works.within.follows.clean clean)))) h.carries);
+          (kept_carried k command_answer_view t (show_keys t) c.show_keys.result old new (λ clean. agrees_seen k l old (c.requires (parts (h.works.within.follows.clean clean)))) h.carries);
     }
 
 pub returns-in-Keys-clause-carries : goal.returns-in-Keys-clause-carries
@@ -78,7 +78,7 @@ returns-in-Keys-clause-carries g c clean =
     let t = c.as_str-in-Keys.result.now in
     let began = λ (clean : AreBoth new). c.requires (parts (h.works.within.follows.clean (both clean))) in
     let working = by_any digest old new c.show_keys.result h.works.working in
-    let works = still_working digest l old new answer_view t (show_keys t) c.show_keys.result (λ s bound. ordered_bounded s bound (ShowKeys t)) (λ clean. under _ _ (began clean)) working h.carries in
-    rw (c.in-Keys.is, sym c.as_str-in-Keys.ensures.value) (carries_beside digest k k l old new began answer_view t (show_keys t) c.show_keys.result clean works
-    (kept_carried k answer_view t (show_keys t) c.show_keys.result old new (λ clean. agrees_seen k l old (c.requires (parts (h.works.within.follows.clean clean)))) h.carries)
-    (carried digest l old new answer_view t (show_keys t) c.show_keys.result (under _ _ (began clean)) clean working (h.carries (both clean))))
+    let works = still_working digest l old new command_answer_view t (show_keys t) c.show_keys.result (λ s bound. ordered_bounded s bound (ShowKeys t)) (λ clean. under _ _ (began clean)) working h.carries in
+    rw (c.in-Keys.is, sym c.as_str-in-Keys.ensures.value) (carries_beside digest k k l old new began command_answer_view t (show_keys t) c.show_keys.result clean works
+    (kept_carried k command_answer_view t (show_keys t) c.show_keys.result old new (λ clean. agrees_seen k l old (c.requires (parts (h.works.within.follows.clean clean)))) h.carries)
+    (carried digest l old new command_answer_view t (show_keys t) c.show_keys.result (under _ _ (began clean)) clean working (h.carries (both clean))))
