@@ -340,11 +340,17 @@ def test_of_a_server(expect, program, top, file):
     expect("a name that is taken", tell(program, folder, port, backup_told(folder, "copy1")) == ("fault", 1) and read(os.path.join(folder, "copy1")) == kept, names(folder))
     expect("the host's own name", tell(program, folder, port, backup_told(folder, "host")) == ("fault", 1), names(folder))
     expect("a folder that isn't there", tell(program, folder, port, backup_told(folder, "gone/copy")) == ("fault", 1), names(folder))
+    foreign(os.path.join(folder, "mine.partial"))
+    theirs = read(os.path.join(folder, "mine.partial"))
+    expect("another program's database of the copy's first name", tell(program, folder, port, backup_told(folder, "mine")) == ("fault", 1), names(folder))
+    expect("which stays", read(os.path.join(folder, "mine.partial")) == theirs and not os.path.exists(os.path.join(folder, "mine.partial-wal")), names(folder))
+    os.remove(os.path.join(folder, "mine.partial"))
     expect("no name", tell(program, folder, port, '{"op":"backup"}') == ("bad line", 1), names(folder))
     expect("from a client's port", server.exchange(backup_told(folder, "other").encode() + b"\n").startswith(b"HTTP/1.1 400"), names(folder))
     expect("none of these is there", not any("gone" in name or "other" in name or name.endswith(".partial") for name in names(folder)), names(folder))
     expect("and it answers still", server.ask("green", "GET", "/plans/n0").status == 200, server.is_up())
-    expect("it says why on standard error", f"bucketd: unable to create {folder}/copy1: the file exists already" in server.lines(), server.lines())
+    for name, reason in (("copy1", "the file exists already"), ("mine", "its .partial file is another program's database: remove it")):
+        expect(f"it says why on standard error, of {name}", f"bucketd: unable to create {folder}/{name}: {reason}" in server.lines(), server.lines())
     server.end()
 
 

@@ -16,9 +16,11 @@ pub enum BackupFault {
     Beside,
     /// The `.partial` file, in which it is written, can't be opened.
     Unopened(OpenFault),
+    /// The `.partial` file is another program's database. It isn't overwritten.
+    ForeignPartial,
     /// The `.moving` file, in which a tenant's host is made, or that file's log, was not made by an
     /// export. It isn't removed.
-    Foreign,
+    ForeignMoving,
     /// The `.moving` file can't be opened, to see whether an export made it.
     Unmoved(OpenFault),
     /// The log of the host's file can't be copied into the file.
@@ -55,7 +57,10 @@ impl fmt::Display for BackupFault {
             BackupFault::Unopened(reason) => {
                 write!(f, "unable to open its .partial file: {reason}")
             }
-            BackupFault::Foreign => f.write_str(
+            BackupFault::ForeignPartial => f.write_str(
+                "its .partial file is another program's database: remove it",
+            ),
+            BackupFault::ForeignMoving => f.write_str(
                 "its .moving or .moving-wal file was not made by export: remove it",
             ),
             BackupFault::Unmoved(reason) => {

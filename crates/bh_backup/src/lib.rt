@@ -5,11 +5,13 @@ mod connections;
 mod disks;
 mod fault;
 pub mod laws;
+mod leftovers;
 mod names;
 mod saving;
 
 pub use connections::back_up;
 pub use disks::copy_disk;
 pub use fault::BackupFault;
+pub use leftovers::{made_here, refuse_foreign};
 pub use names::refuse_taken;
 pub use saving::{Saved, save, save_files};

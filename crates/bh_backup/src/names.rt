@@ -16,7 +16,7 @@ use std::{fs, io};
 #[derive(Drop)]
 pub(crate) struct Partial {
     pub(crate) file: String,
-    log: String,
+    pub(crate) log: String,
 }
 
 impl Partial {
@@ -29,7 +29,7 @@ impl Partial {
 }
 
 /// Whether a path exists, even as a dangling link.
-fn is_taken(rt: &HostRuntime, path: &str) -> io::Result<bool> {
+pub(crate) fn is_taken(rt: &HostRuntime, path: &str) -> io::Result<bool> {
     match fs::symlink_metadata(rt, path) {
         Ok(_) => Ok(true),
         Err(error) if error.kind() == ErrorKind::NotFound => Ok(false),

@@ -11,6 +11,7 @@ ghost use Rattle.bh_backup.specs.Names.{is_beside};
 use crate::connections::back_up;
 use crate::disks::copy_disk;
 use crate::fault::BackupFault;
+use crate::leftovers::refuse_foreign;
 use crate::names::{Partial, discard, give_name, refuse_taken};
 use bh_file::open_files;
 use sqlite::{Connection, FileFrom, FileStore, Files, Start};
@@ -21,6 +22,27 @@ use sqlite_disk::Disk;
 pub struct Saved<D: Disk + Drop, E: Disk + Drop> {
     pub files: Files<D>,
     pub copy: E,
+}
+
+/// The `.partial` file of a new file, which this process has locked, and its path.
+#[derive(Drop)]
+struct Begun<S: Start> {
+    partial: Partial,
+    made: Files<FileFrom<S>>,
+}
+
+/// Opens or creates the `.partial` file of a new file. Fails if the new file can't have its path, or
+/// another program's database is in the way.
+fn begin<S: Start>(rt: &HostRuntime, path: &str, start: S) -> Result<Begun<S>, BackupFault>
+    ensures { IfOk result (λ begun. IsTrue (file_is_usable S.Start begun.made.db)) }
+{
+    refuse_taken(rt, path)?;
+    refuse_foreign(rt, path)?;
+    let partial = Partial::of(rt, path)?;
+    match open_files(rt, partial.file.as_str(), start) {
+        Ok(made) => Ok(Begun { partial, made }),
+        Err(reason) => Err(BackupFault::Unopened(reason)),
+    }
 }
 
 /// Copies a database file into the `.partial` file, which this process has locked, and renames it.
@@ -57,12 +79,7 @@ pub fn save_files<D: Disk + Drop, S: Start>(
     ensures read { OnlyReads D.Disk files.old.db files.new.db }
     ensures log { files.new.log ≡ files.old.log }
 {
-    refuse_taken(rt, path)?;
-    let partial = Partial::of(rt, path)?;
-    let mut made = match open_files(rt, partial.file.as_str(), start) {
-        Ok(made) => made,
-        Err(reason) => return Err(BackupFault::Unopened(reason)),
-    };
+    let Begun { partial, mut made } = begin(rt, path, start)?;
     match fill_from(rt, files, &mut made.db, &partial, path) {
         Ok(()) => Ok(made.db),
         Err(fault) => {
@@ -98,8 +115,9 @@ fn fill<D: Disk + Drop, E: Disk>(
 ///
 /// The copy is written to a file of that name with `.partial` appended, synced, and then renamed;
 /// then its directory is synced. So whatever stops it, there is a complete copy or none. A
-/// `.partial` file that an earlier stop left is overwritten. If it fails, nothing of the copy
-/// remains, except with `Unsettled`, and the files keep their contents.
+/// `.partial` file that an earlier stop left is overwritten; another program's database of that
+/// name is refused. If it fails, nothing of the copy remains, except with `Unsettled`, and the files
+/// keep their contents.
 pub fn save<D: Disk + Drop, S: Start>(
     rt: &HostRuntime,
     connection: Connection<FileStore<D>>,
@@ -111,12 +129,7 @@ pub fn save<D: Disk + Drop, S: Start>(
         → IsFileOf ⟦<FileFrom<S> as Disk>⟧ (file_state connection).committed saved.copy) }
     ensures named { OnOk result (is_beside path.now ≡ false) }
 {
-    refuse_taken(rt, path)?;
-    let partial = Partial::of(rt, path)?;
-    let mut made = match open_files(rt, partial.file.as_str(), start) {
-        Ok(made) => made,
-        Err(reason) => return Err(BackupFault::Unopened(reason)),
-    };
+    let Begun { partial, mut made } = begin(rt, path, start)?;
     match fill(rt, connection, &mut made.db, &partial, path) {
         Ok(files) => Ok(Saved {
             files,

@@ -11,7 +11,6 @@ use crate::ending::{Done, close, leave};
 use crate::fault::Fault;
 use crate::files::{is_blank, open};
 use crate::hosts::found_host;
-use crate::leftovers::refuse_foreign;
 use crate::printed::Printed;
 use bh_backup::{Saved, save};
 use bh_file::OpenFault;
@@ -52,7 +51,6 @@ fn save_host<D: Disk + Drop, T: Start>(
 ) -> Result<BackedUp<D, FileFrom<T>>, Fault>
     ensures { IfOk result (λ it. HasSaved ⟦<FileFrom<T> as Disk>⟧ connection it.printed it.files it.copy) }
 {
-    refuse_foreign(rt, to)?;
     let printed = Printed::line(rt.alloc(), b"backup")?;
     match save(rt, connection, to, to_start) {
         Ok(Saved { files, copy }) => Ok(BackedUp {

@@ -12,11 +12,11 @@ use crate::ending::{Done, Ended, let_go};
 use crate::fault::Fault;
 use crate::files::{host_in, open};
 use crate::hosts::why_not_found;
-use crate::leftovers::{Making, refuse_foreign};
+use crate::leftovers::Making;
 use crate::moves::move_and_tell;
 use crate::printed::Printed;
 use crate::remarks::tell;
-use bh_backup::{BackupFault, Saved, refuse_taken, save};
+use bh_backup::{BackupFault, Saved, refuse_foreign, refuse_taken, save};
 use bh_blocks::digester::Sha256Digester;
 use bh_create::create;
 use bh_open::Opened;
@@ -239,7 +239,7 @@ pub fn export_file<S: Start, U: Start, W: Start>(
         tenant.now it.printed it.files it.made it.copy) }
 {
     or_unsaved(rt, to, refuse_taken(rt, to))?;
-    refuse_foreign(rt, to)?;
+    or_unsaved(rt, to, refuse_foreign(rt, to))?;
     match host_in(rt, path, start)? {
         Ok(host) => export_from(rt, host, tenant, to, made_start, to_start),
         Err(Ended { printed, files }) => Ok(Exported {

@@ -52,8 +52,6 @@ pub enum Fault {
     Unopened { path: String, reason: OpenFault },
     /// The file of this path can't be created.
     Unsaved { path: String, reason: BackupFault },
-    /// The file of this path can't be created: its `.partial` file is another program's database.
-    Foreign { path: String },
     /// The clock or standard input can't be read, or standard output can't be written.
     System(io::Error),
     /// Standard input is longer than the maximum for a script.
@@ -94,14 +92,6 @@ impl Fault {
         }
     }
 
-    /// The error that another program's database stands where the file of a path is written first.
-    pub fn foreign(alloc: Global, path: &str) -> Fault {
-        match String::from_str(alloc, path) {
-            Ok(path) => Fault::Foreign { path },
-            Err(_) => Fault::Memory,
-        }
-    }
-
     /// The error that the file of a path has no usable secret.
     pub fn secret(alloc: Global, path: &str, reason: SecretFault) -> Fault {
         match String::from_str(alloc, path) {
@@ -129,10 +119,6 @@ impl fmt::Display for Fault {
             Fault::Memory => f.write_str("out of memory"),
             Fault::Unopened { path, reason } => write!(f, "unable to open {path}: {reason}"),
             Fault::Unsaved { path, reason } => write!(f, "unable to create {path}: {reason}"),
-            Fault::Foreign { path } => write!(
-                f,
-                "unable to create {path}: its .partial file is another program's database: remove it"
-            ),
             Fault::System(error) => write!(f, "{error}"),
             Fault::LongInput => f.write_str("standard input is too long"),
             Fault::UnknownDigest => f.write_str(

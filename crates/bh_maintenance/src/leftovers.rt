@@ -1,16 +1,7 @@
-//! Files that a stopped backup or export left beside the new file's name.
+//! Files that a stopped export left beside the new file's name.
 
-ghost use Rattle.std.specs.Prelude.{◌≡◌, ◌⊎◌, ◌↔◌, IsTrue, IfOk};
-ghost use Rattle.bh_tables.specs.Schema.{no_schema};
-ghost use Rattle.bh_open.specs.Versions.{IsHostsSchema};
-
-use crate::fault::Fault;
-use bh_backup::BackupFault;
-use bh_file::{FileConnection, OpenFault, open_file};
-use bh_open::is_hosts;
-use sqlite::{Error, Wary};
-use sqlite_schema::schema::Schema;
-use std::alloc::{AllocError, Global};
+use bh_backup::{BackupFault, made_here};
+use std::alloc::AllocError;
 use std::fs::Metadata;
 use std::io::ErrorKind;
 use std::os::unix::fs::FileExt;
@@ -52,53 +43,6 @@ fn is_free_for_log(rt: &HostRuntime, path: &str) -> io::Result<bool> {
     }
 }
 
-/// Whether a database is empty or has a host's tables: no backup or export makes another one.
-fn is_made_here(alloc: Global, schema: &Schema) -> Result<bool, Error>
-    ensures { IfOk result (λ is. IsTrue is ↔ ((schema.now ≡ no_schema) ⊎ IsHostsSchema schema.now)) }
-{
-    if schema.tables.is_empty() && schema.indexes.is_empty() && schema.views.is_empty() {
-        return Ok(true);
-    }
-    is_hosts(alloc, schema)
-}
-
-/// The database of a file, locked against other processes, if it was made here. Beside another
-/// program's database this leaves no new file.
-fn made_here(
-    rt: &HostRuntime,
-    file: &str,
-    log: &str,
-) -> Result<Option<FileConnection<Wary>>, OpenFault> {
-    let had_log = found(rt, log)?.is_some();
-    let connection = open_file(rt, file, Wary)?;
-    match is_made_here(rt.alloc(), connection.schema()) {
-        Ok(true) => Ok(Some(connection)),
-        Ok(false) => {
-            if !had_log {
-                let _ = fs::remove_file(rt, log);
-            }
-            Ok(None)
-        }
-        Err(error) => Err(OpenFault::Database(error)),
-    }
-}
-
-/// Fails if the file in which a copy is written first, `.partial`, is another program's database.
-/// One that can't be opened is left to the backup: a stop may have cut its own short.
-pub(crate) fn refuse_foreign(rt: &HostRuntime, path: &str) -> Result<(), Fault> {
-    let file = format!(in rt.alloc(); "{path}.partial")?;
-    let log = format!(in rt.alloc(); "{path}.partial-wal")?;
-    match fs::metadata(rt, file.as_str()) {
-        Ok(data) if data.is_file() && data.len() > 0 => {
-            match made_here(rt, file.as_str(), log.as_str()) {
-                Ok(None) => Err(Fault::foreign(rt.alloc(), path)),
-                Ok(Some(_)) | Err(_) => Ok(()),
-            }
-        }
-        Ok(_) | Err(_) => Ok(()),
-    }
-}
-
 impl Making {
     pub(crate) fn of(rt: &HostRuntime, path: &str) -> Result<Making, AllocError> {
         Ok(Making {
@@ -116,11 +60,11 @@ impl Making {
     /// Removes what an earlier stop left. Fails on a file that no export made, and doesn't remove it.
     pub(crate) fn clear(&self, rt: &HostRuntime) -> Result<(), BackupFault> {
         if !is_free_for_log(rt, self.log.as_str())? {
-            return Err(BackupFault::Foreign);
+            return Err(BackupFault::ForeignMoving);
         }
         match found(rt, self.file.as_str())? {
             Some(data) if data.is_file() => self.clear_host(rt),
-            Some(_) => Err(BackupFault::Foreign),
+            Some(_) => Err(BackupFault::ForeignMoving),
             None => {
                 self.discard(rt);
                 Ok(())
@@ -135,7 +79,7 @@ impl Making {
                 self.discard(rt);
                 Ok(())
             }
-            Ok(None) => Err(BackupFault::Foreign),
+            Ok(None) => Err(BackupFault::ForeignMoving),
             Err(reason) => Err(BackupFault::Unmoved(reason)),
         }
     }
