@@ -1,0 +1,3 @@
+pub mod Packs
+pub mod Stands
+pub mod Sums
