@@ -13,7 +13,6 @@ import os
 import re
 import shutil
 import signal
-import socket
 import sqlite3
 import subprocess
 import sys
@@ -21,7 +20,7 @@ import tempfile
 import time
 
 from server import SHARED_MEMORY as FOLDER, proved_program, request
-from s3_requests import Client, Gateway, build_gateway, make_host
+from s3_requests import Client, Gateway, build_gateway, dial, make_host
 
 
 
@@ -31,7 +30,7 @@ def key(n):
 
 def bare(port, method, target):
     """An answer of bucketd itself."""
-    with socket.create_connection(("127.0.0.1", port)) as link:
+    with dial(port) as link:
         link.sendall(request("green", method, target, b"" if method == "PUT" else None))
         answer = b""
         while part := link.recv(1 << 20):
@@ -43,7 +42,7 @@ def bare(port, method, target):
 
 def put(build, program, folder, count):
     gateway = Gateway(build, program, folder)
-    port = gateway.inner_port()
+    port = gateway.inner()
     bare(port, "PUT", "/plans")
     begun = time.monotonic()
     for n in range(count):
@@ -125,7 +124,7 @@ def main():
         write_rows(os.path.join(folder, "host"), puts, count)
         gateway = Gateway(build, program, folder)
         try:
-            client, port = Client(gateway.port), gateway.inner_port()
+            client, port = Client(gateway.port), gateway.inner()
             pages("the gateway", count, lambda query: client.ask("GET", "/plans", query=query)[2].decode(),
                   lambda text: (re.findall("<NextContinuationToken>(.*?)<", text) or [None])[0], lambda text: re.findall("<Key>(.*?)</Key>", text))
             pages("bucketd", count, lambda query: json.loads(bare(port, "GET", "/plans?" + query).split(b"\r\n\r\n", 1)[1]),

@@ -24,7 +24,7 @@ import time
 
 from server import SHARED_MEMORY, TOP, await_listener, free_port, request
 from host import Answer, Program, all_of
-from s3_requests import Client, Gateway, build_gateway, make_host, quoted, write_keys
+from s3_requests import Client, Gateway, build_gateway, dial, make_host, quoted, write_keys
 
 IDLE, DOCUMENTS, SENDERS = 10000, 100, 64
 BODY = b"x" * 1024
@@ -83,7 +83,8 @@ class Good:
 
     def ask_bare(self, request):
         """An answer of bucketd, which has a connection for each request."""
-        with connect(self.inner) as link:
+        with dial(self.inner) as link:
+            link.settimeout(30)
             link.sendall(request)
             answer = Answer(all_of(link), self.method)
         return answer.status, answer.body
@@ -191,12 +192,12 @@ LOADS = {"10,000 silent connections": idle, "10,000 half heads": half, "100 docu
 
 
 def start(folder, program, build):
-    """A gateway, what else was started, and the port of the host behind it."""
+    """A gateway, what else was started, and the port or the socket of the host behind it."""
     options = ["--connections", "10000"]
     if program:
         make_host(program, folder, {"green": 1 << 40})
         gateway = Gateway(build, program, folder, *options)
-        return [gateway], gateway.inner_port()
+        return [gateway], gateway.inner()
     tests, port = os.path.join(folder, "tests"), free_port()
     subprocess.run(["go", "test", "-c", "-o", tests, "./internal/s3"], cwd=os.path.join(TOP, "gateway"), check=True)
     write_keys(folder, ["green"])

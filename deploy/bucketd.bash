@@ -11,12 +11,12 @@ _bucketd() {
     fi
     if [ "$COMP_CWORD" -gt 1 ]; then
         case $before in
-        --file | --to | --from | --operator-secret-file | --secret-file)
+        --file | --to | --from | --socket | --operator-socket | --spool | --operator-secret-file | --secret-file)
             compopt -o filenames 2>/dev/null
             mapfile -t COMPREPLY < <(compgen -f -- "$word")
             return
             ;;
-        --at | --block-size | --cache-blocks | --cache-bytes | --clock-leap | --count | --digest | --limit | --max-body | --min-part | --name | --operator-port | --port | --quota | --secret | --tenant | --timeout)
+        --at | --block-size | --cache-blocks | --cache-bytes | --clock-leap | --clock-step | --connections | --count | --digest | --limit | --max-body | --min-part | --name | --operator-port | --port | --quota | --secret | --socket-group | --tenant | --timeout)
             return
             ;;
         esac
@@ -36,8 +36,8 @@ _bucketd() {
         backup) words=" --file --to --help " ;;
         export) words=" --file --tenant --to --help " ;;
         import) words=" --file --from --clock-leap --force --help " ;;
-        serve) words=" --file --port --count --log --timeout --clock-leap --force --block-size --cache-blocks --cache-bytes --operator-port --operator-secret-file --help " ;;
-        tell) words=" --port --secret-file --help " ;;
+        serve) words=" --file --port --socket --socket-group --count --log --timeout --connections --spool --clock-leap --clock-step --force --block-size --cache-blocks --cache-bytes --operator-port --operator-socket --operator-secret-file --help " ;;
+        tell) words=" --port --socket --secret-file --help " ;;
         help) [ "$COMP_CWORD" -gt 2 ] || words=" script init tenant-add quota key-add key-remove keys usage tenants report check sweep backup export import serve tell " ;;
         esac
         # No option comes twice.

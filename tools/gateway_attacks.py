@@ -50,7 +50,7 @@ class World:
 
     def host(self):
         """The words that name bucketd to another gateway."""
-        return ["--host", f"127.0.0.1:{self.gateway.inner_port()}"]
+        return self.gateway.host_words()
 
     @contextmanager
     def beside(self, *options, host=None):

@@ -51,7 +51,8 @@ def is_quick(program):
     """Whether a bucketd opens a file in milliseconds. One that was made without proof checks itself as it runs, for seconds."""
     name = f"QUICK {program}"
     if name not in os.environ:
-        os.environ[name] = "yes" if inits_within_a_second(program) else ""
+        # (that of tools/bucketd would pass for one on a machine twice as fast)
+        os.environ[name] = "yes" if "/out/tried/" not in program and inits_within_a_second(program) else ""
     return bool(os.environ[name])
 
 

@@ -7,6 +7,7 @@ import os
 import re
 import shutil
 import signal
+import socket
 import subprocess
 import time
 import urllib.parse
@@ -135,12 +136,27 @@ class Client:
 
 
 def build_gateway(folder):
-    """The gateway's program, made in a folder; None where no Go is there."""
+    """The gateway's program, made in a folder with what Debian's packages give it here; None where no Go is there."""
     if not shutil.which("go"):
         return None
     path = os.path.join(folder, "gateway")
-    subprocess.run(["go", "build", "-o", path, "./cmd/gateway"], cwd=os.path.join(TOP, "gateway"), check=True)
+    subprocess.run([os.path.join(TOP, "gateway/build"), path], stdout=subprocess.DEVNULL, stderr=subprocess.DEVNULL, check=True)
     return path
+
+
+def build_words():
+    """The words by which Go takes what Debian's packages give the gateway."""
+    done = subprocess.run([os.path.join(TOP, "gateway/build"), "--words"], capture_output=True, text=True, check=True)
+    return done.stdout.split()
+
+
+def dial(place):
+    """A connection to a bucketd, at a port of this machine or the path of a Unix socket."""
+    if isinstance(place, int):
+        return socket.create_connection(("127.0.0.1", place))
+    link = socket.socket(socket.AF_UNIX)
+    link.connect(place)
+    return link
 
 
 def write_keys(folder, tenants):
@@ -168,9 +184,24 @@ class Gateway(host.Program):
     def text(self):
         return "\n".join(self.lines())
 
-    def inner_port(self):
-        """The port that its bucketd told last."""
-        return self.announced(r"listening on 127\.0\.0\.1:(\d+)", last=True)
+    def inner(self):
+        """Where its bucketd listens, as that told last: a port, or the path of a socket."""
+        begun = time.monotonic()
+        while self.is_up() and time.monotonic() - begun < host.PATIENCE:
+            for line in self.lines()[::-1]:
+                if found := re.fullmatch(r"listening on (?:127\.0\.0\.1:(\d+)|(/.*))", line):
+                    return int(found[1]) if found[1] else found[2]
+            time.sleep(0.01)
+        raise OSError(f"no bucketd listens: {self.lines()[-5:]}")
+
+    def host_words(self):
+        """The words that name its bucketd to another gateway."""
+        place = self.inner()
+        return ["--host", f"127.0.0.1:{place}"] if isinstance(place, int) else ["--host-socket", place]
+
+    def status(self):
+        """The port at which it tells its status."""
+        return self.announced(r".*the status is at http://127\.0\.0\.1:(\d+)")
 
     def child(self):
         """The process of bucketd."""

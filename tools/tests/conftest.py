@@ -9,6 +9,7 @@ import os
 import shutil
 import sys
 import time
+from collections import Counter
 
 import pytest
 from _pytest.reports import TestReport
@@ -51,7 +52,7 @@ class Lines:
     """Prints a line for each case as it ends, and counts them."""
 
     def __init__(self, terminal):
-        self.terminal, self.counts = terminal, dict.fromkeys(KINDS, 0)
+        self.terminal, self.subjects = terminal, {}
 
     def pytest_collectreport(self, report):
         if report.failed:
@@ -66,20 +67,25 @@ class Lines:
         self.tell(report.outcome, name, report.duration, why.removeprefix("Skipped: "), getattr(report, "notes", []))
 
     def tell(self, outcome, name, seconds, why, notes=()):
-        self.counts[outcome] += 1
+        self.subjects.setdefault(name.partition(":")[0], Counter()).update({outcome: 1, "seconds": seconds})
         self.terminal.write_line(f"{KINDS[outcome]:7} {seconds:7.1f} s  {name}" + (f": {why}" if outcome == "skipped" else ""))
         for it in [*notes, *([why] if outcome == "failed" else [])]:
             self.terminal.write_line("    " + it[:4000].replace("\n", "\n    "))
 
     def pytest_unconfigure(self):
         shutil.rmtree(os.environ.pop("BASES_OF_HOSTS"), ignore_errors=True)
-        passed, failed, skipped = self.counts.values()
-        self.terminal.write_line(f"{passed} passed, {failed} failed, {skipped} skipped")
+        for subject, it in sorted(self.subjects.items()):
+            self.terminal.write_line(f"{subject}: {numbers_of(it)}, {it['seconds']:.0f} s")
+        self.terminal.write_line(numbers_of(sum(self.subjects.values(), Counter())))
 
 
 def pytest_report_teststatus(report):
     """No letter for a test: its lines are printed here."""
     return (report.outcome if getattr(report, "case", None) or not getattr(report, "cases", 0) else ""), "", ""
+
+
+def numbers_of(counts):
+    return f"{counts['passed']} passed, {counts['failed']} failed, {counts['skipped']} skipped"
 
 
 def name_of(nodeid):

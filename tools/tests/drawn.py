@@ -1,8 +1,9 @@
-"""Scripts that are drawn, and what they answer. A body is a value of Python here, never blocks, so the answers are those of every
-block size. The same is drawn each time."""
+"""What a host answers, in plain Python: models that note events and their answers. A body is a value of Python here, never blocks, so
+the answers are those of every block size."""
 import base64
 import hashlib
 import json
+import subprocess
 import time
 from urllib.parse import quote
 
@@ -14,6 +15,8 @@ STATUSES = {"5 AccessDenied": "403 Forbidden", "6 InvalidAccessKeyId": "403 Forb
             "14 NoSuchVersion": "404 Not Found", "15 NoSuchUpload": "404 Not Found", "16 MethodNotAllowed": "405 Method Not Allowed",
             "19 InvalidBucketState": "409 Conflict", "25 InvalidRange": "416 Range Not Satisfiable", "2 NotImplemented": "501 Not Implemented"}
 MARKER = "x-amz-delete-marker: true"
+MODE, UNTIL = "x-amz-object-lock-mode: ", "x-amz-object-lock-retain-until-date: "
+MOMENT = "1970-01-01T00:00:00Z"
 
 
 def checksum(body):
@@ -190,21 +193,6 @@ class Script:
         fields += ["accept-ranges: bytes", f"x-amz-checksum-sha256: {it.sum}", *self.told(tenant, name, it)]
         self.ask(tenant, "GET", path, "200 OK" if first is None else "206 Partial Content", fields, body, more=more)
 
-    def suspend_now_and_then(self, chance, count):
-        """Each 50th time, a state of the bucket held of both tenants."""
-        for tenant in ("green", "blue") if count % 50 == 0 else ():
-            self.version(tenant, "held", chance.choice(["Enabled", "Suspended"]))
-
-    def read_on(self):
-        """One tenant deletes all that it has, and the other reads what it has."""
-        for name in KINDS:
-            for key in "xyz":
-                for entry in list(self.entries("blue", name, key)):
-                    self.delete("blue", name, key, entry if self.states["blue", name] else None)
-                self.get("blue", name, key)
-                for entry in self.entries("green", name, key):
-                    self.get("green", name, key, entry if self.states["green", name] else None)
-
 
 def path_of(name, key, entry=None):
     return f"/{name}/{quote(key)}" + (f"?versionId={entry.id()}" if entry else "")
@@ -247,3 +235,210 @@ def listing(current, prefix, delimiter, after, size):
 
 def rolled(entries):
     return [{"Prefix": name} for name, at in entries if at is None]
+
+
+# ---- uploads, upload by upload a map from numbers to bytes
+
+
+def joined_checksum(parts):
+    """That of the parts' digests, joined, and the parts' number."""
+    digests = b"".join(hashlib.sha256(part).digest() for part in parts)
+    return f"{base64.b64encode(hashlib.sha256(digests).digest()).decode()}-{len(parts)}"
+
+
+class Uploads(Script):
+    def __init__(self, least):
+        super().__init__()
+        self.least, self.uploads, self.begun = least, {}, {}
+        self.options = ("--min-part", str(least))
+
+    def begin(self, tenant, name, key):
+        number = self.begun[tenant] = self.begun.get(tenant, 0) + 1
+        self.uploads[tenant, number] = (name, key, {})
+        self.answer(tenant, "POST", f"{path_of(name, key)}?uploads", {"Bucket": name, "Key": key, "UploadId": f"{number:016x}"}, given=b"")
+        return number
+
+    def found(self, tenant, name, key, number):
+        """The parts of an upload of this bucket and key, if there is one, and its path."""
+        upload = self.uploads.get((tenant, number))
+        return upload[2] if upload and upload[:2] == (name, key) else None, f"{path_of(name, key)}?uploadId={number:016x}"
+
+    def part(self, tenant, name, key, number, part, body, sum=None):
+        parts, path = self.found(tenant, name, key, number)
+        path, more = f"{path}&partNumber={part}", [f"x-amz-checksum-sha256: {sum}"] if sum else []
+        flaw = "15 NoSuchUpload" if parts is None else "26 BadDigest" if sum not in (None, checksum(body)) else None
+        if flaw:
+            return self.refused(tenant, "PUT", path, flaw, given=body, more=more)
+        parts[part] = body
+        self.done(tenant, "PUT", path, f"x-amz-checksum-sha256: {checksum(body)}", given=body, more=more)
+
+    def no_completion(self, parts, named):
+        """Why parts aren't joined."""
+        numbers = [part for part, _ in named]
+        if parts is None:
+            return "15 NoSuchUpload"
+        if any(second <= first for first, second in zip(numbers, numbers[1:])):
+            return "22 InvalidPartOrder"
+        if any(part not in parts or sum not in (None, checksum(parts[part])) for part, sum in named):
+            return "21 InvalidPart"
+        return "23 EntityTooSmall" if any(len(parts[part]) < self.least for part in numbers[:-1]) else None
+
+    def complete(self, tenant, name, key, number, named):
+        """`named`: the number of each part and the checksum that it is said to have, or None."""
+        parts, path = self.found(tenant, name, key, number)
+        members = [{"PartNumber": part} if sum is None else {"ChecksumSHA256": sum, "PartNumber": part} for part, sum in named]
+        given = json.dumps({"Parts": members}, separators=(",", ":")).encode()
+        if flaw := self.no_completion(parts, named):
+            return self.refused(tenant, "POST", path, flaw, given=given)
+        del self.uploads[tenant, number]
+        chosen = [parts[part] for part, _ in named]
+        entry = self.push(tenant, name, key, b"".join(chosen), joined_checksum(chosen))
+        self.answer(tenant, "POST", path, {"Bucket": name, "ChecksumSHA256": entry.sum, "Key": key}, *self.told(tenant, name, entry), given=given)
+
+    def abort(self, tenant, name, key, number):
+        parts, path = self.found(tenant, name, key, number)
+        if parts is None:
+            return self.refused(tenant, "DELETE", path, "15 NoSuchUpload")
+        del self.uploads[tenant, number]
+        self.ask(tenant, "DELETE", path, "204 No Content", [])
+
+
+# ---- versions with dates
+
+
+class Dates(Script):
+    def dated(self, tenant, name, key, entry):
+        """The version whose date is asked about, or why it isn't told of: of a marker only what may be done with one that was named."""
+        newest = self.newest(tenant, name, key)
+        if entry and entry.body is None:
+            return None, ("16 MethodNotAllowed", "allow: DELETE")
+        if entry is None and (newest is None or newest.body is None):
+            return None, ("13 NoSuchKey",)
+        return entry or newest, None
+
+    def retention(self, tenant, name, key, entry, given=None, date=None):
+        """Asks for a version's date, or gives it one by a document; `date` is None where that is no date, or none in this mode."""
+        path, method = f"/{name}/{key}?retention" + (f"&versionId={entry.id()}" if entry else ""), "GET" if given is None else "PUT"
+        if given is not None and date is None:
+            return self.refused(tenant, method, path, "10 InvalidArgument" if given.startswith(b"{") else "11 MalformedJSON", given=given)
+        version, why = self.dated(tenant, name, key, entry)
+        if version and given is None:
+            return self.answer(tenant, method, path, {"Mode": "COMPLIANCE", "RetainUntilDate": text_of(version.until)} if version.until else {})
+        flaw = version and self.flaw(tenant, name, date, version.until)
+        if why or flaw:
+            return self.refused(tenant, method, path, *(why or [flaw]), given=given)
+        version.until = date
+        self.done(tenant, method, path, given=given)
+
+    def remove(self, tenant, name, key, entry):
+        """A delete by an id; of one that another key has nothing comes, whatever date there is."""
+        if entry not in self.entries(tenant, name, key):
+            return self.ask(tenant, "DELETE", path_of(name, key, entry), "204 No Content", [])
+        if self.now < entry.until:
+            return self.refused(tenant, "DELETE", path_of(name, key, entry), "5 AccessDenied")
+        self.delete(tenant, name, key, entry)
+
+
+# ---- listings: a plain fold over all keys in the order of their bytes
+
+
+def version_of(key, at, entry):
+    told = {"DeleteMarker": entry.body is None, "IsLatest": at == 0, "Key": key, "LastModified": MOMENT, "VersionId": entry.id()}
+    return told if entry.body is None else told | {"ChecksumSHA256": entry.sum, "Size": len(entry.body)}
+
+
+def part_document(upload, parts, most, after):
+    """The document of a page of an upload's parts, and its last number where some are left over."""
+    numbers = sorted(number for number in parts if number > after)
+    found = numbers[:most]
+    following = found[-1] if found and len(numbers) > most else None
+    listed = [{"ChecksumSHA256": checksum(parts[it]), "LastModified": MOMENT, "PartNumber": it, "Size": len(parts[it])} for it in found]
+    return packed({"Bucket": "plans", "IsTruncated": following is not None, "Key": upload[0], "MaxParts": most, "NextPartNumberMarker": following,
+                   "Parts": listed, "UploadId": f"{upload[1]:016x}"}), following
+
+
+class Listings(Uploads):
+    """One tenant's bucket, its listings page by page."""
+
+    def __init__(self):
+        super().__init__(0)
+        self.options = ()
+        self.add("green", ["plans"])
+
+    def tell_page(self, path, first, document, end="", **values):
+        """A page by a query's first parameter, those that have a value, and the query's end."""
+        words = [f"{name.replace('_', '-')}={quote(str(value), safe='')}" for name, value in values.items() if value is not None and value != ""]
+        self.raw("green", "GET", f"{path}?{'&'.join([first, *words])}{end}", shown(document))
+
+    def put_key(self, key, body):
+        self.put("green", "plans", key, body.encode())
+
+    def begun_keys(self):
+        """The parts of each upload that is there, by its key and number."""
+        return {(key, number): parts for (_, number), (_, key, parts) in self.uploads.items()}
+
+    def list(self, prefix, delimiter, after, size):
+        """The key after which the next page begins."""
+        current = {key: (len(it[0].body), it[0].sum) for key, it in self.tenants["green"]["plans"].items() if it and it[0].body is not None}
+        text, following = listing(current, prefix, delimiter, after, size)
+        end, token = "&continuation-token=" if after == "" else "", after and after.encode().hex()
+        self.tell_page("/plans", "list-type=2", text, end, prefix=prefix, delimiter=delimiter, continuation_token=token, max_keys=size)
+        return following
+
+    def list_versions(self, prefix, delimiter, marker, size):
+        kept, (key, id) = self.tenants["green"]["plans"], marker or (None, None)
+        ids = [it.id() for it in kept.get(key, [])]
+        at = key, ids.index(id) if id in ids else None
+        most, found, following = page([(key, at) for key, it in kept.items() for at in range(len(it))], prefix, delimiter, at if key else None, size)
+        next_id = following and following[1] is not None and kept[following[0]][following[1]].id() or None
+        text = packed({"CommonPrefixes": rolled(found), "IsTruncated": following is not None, "MaxKeys": most, "Name": "plans", "NextKeyMarker": following and following[0],
+                       "NextVersionIdMarker": next_id, "Prefix": prefix, "Versions": [version_of(*it, kept[it[0]][it[1]]) for it in found if it[1] is not None]})
+        self.tell_page("/plans", "versions", text, prefix=prefix, delimiter=delimiter, key_marker=key, version_id_marker=id, max_keys=size)
+        return following and (following[0], next_id)
+
+    def list_uploads(self, prefix, delimiter, marker, size):
+        most, found, following = page(self.begun_keys(), prefix, delimiter, marker, size)
+        next_key, number = following or (None, None)
+        told = [{"Initiated": MOMENT, "Key": key, "UploadId": f"{at:016x}"} for key, at in found if at is not None]
+        text = packed({"Bucket": "plans", "CommonPrefixes": rolled(found), "IsTruncated": following is not None, "MaxUploads": most, "NextKeyMarker": next_key,
+                       "NextUploadIdMarker": number and f"{number:016x}", "Prefix": prefix, "Uploads": told})
+        key, number = marker or (None, None)
+        words = {"key_marker": key, "upload_id_marker": number and f"{number:016x}", "max_uploads": size}
+        self.tell_page("/plans", "uploads", text, prefix=prefix, delimiter=delimiter, **words)
+        return following
+
+    def list_parts(self, upload, after, size):
+        text, following = part_document(upload, self.begun_keys()[upload], 1000 if size is None else min(size, 1000), after or 0)
+        self.tell_page(path_of("plans", upload[0]), f"uploadId={upload[1]:016x}", text, part_number_marker=after, max_parts=size)
+        return following
+
+
+# ---- whether a program answers so
+
+
+def answered(program, script, *options):
+    """What is answered otherwise than a model says, at the first event where it is, or None."""
+    done = subprocess.run([program, "script", *options, *script.options], input="".join(script.events).encode(), capture_output=True)
+    place = 0
+    for event, wanted in zip(script.events, script.answers):
+        if (found := done.stdout[place : place + len(wanted)]) != wanted:
+            return f"{text_of_event(event)}\n  is answered {found!r}\n  and not {wanted!r}"
+        place += len(wanted)
+    return None if (done.returncode, len(done.stdout)) == (0, place) else f"status {done.returncode}, {len(done.stdout)} bytes of {place}: {done.stderr[-500:]!r}"
+
+
+def text_of_event(event):
+    """A script's line, its request as text."""
+    told = json.loads(event)
+    return f"at {told['at']}: {bytes.fromhex(told['hex']) if 'hex' in told else told}"
+
+
+def ways(sizes):
+    """Options, mostly in turn for each size of blocks."""
+    return [["--block-size", str(size), *more] for size in sizes for more in (["--cache-blocks", "0"], ["--cache-blocks", "8"], ["--digest", "fast"])]
+
+
+def spans(size):
+    """Every range of so many bytes, and those that end or begin one byte and two past them."""
+    both = [(first, "-", last) for first in range(size + 3) for last in range(size + 3)]
+    return both + [(first, "-") for first in range(size + 3)] + [("-", count) for count in range(size + 3)]

@@ -84,11 +84,11 @@ class Tenant:
 
 
 class Refused(RuntimeError):
-    """Memory or the store was wanting."""
+    """Memory or the store was wanting, or the server has ended."""
 
 
 def unexpected(answer, what):
-    return (Refused if answer.status == 503 else RuntimeError)(f"{what}: {answer.data[:300]!r}")
+    return (Refused if answer.status == 503 or not answer.data else RuntimeError)(f"{what}: {answer.data[:300]!r}")
 
 
 def document(server, tenant, target):

@@ -1,6 +1,7 @@
 """The rows of words.txt: words of the command line, and what the program does."""
 import os
 import re
+import socket
 import sqlite3
 import subprocess
 
@@ -36,13 +37,32 @@ def limits_of(folder, file):
     return f" min-part {min_part} max-body {max_body}"
 
 
+def value_of(words, option):
+    """What was given for an option, after a space or after =."""
+    for n, word in enumerate(words):
+        if word == option:
+            return words[n + 1]
+        if word.startswith(option + "="):
+            return word.removeprefix(option + "=")
+    return None
+
+
+def takes(path):
+    """Whether a server listens on a Unix socket."""
+    with socket.socket(socket.AF_UNIX) as it:
+        return it.connect_ex(path) == 0
+
+
 def served(program, folder, words):
     """Whether a server says where it listens, or ends as one whose port is taken or not allowed."""
     server = subprocess.Popen([program, *words], stdout=subprocess.PIPE, stderr=subprocess.PIPE, text=True, cwd=folder)
-    said = re.fullmatch(r"listening on 127\.0\.0\.1:(\d+)\n", server.stderr.readline())
-    if said:
-        port = words[words.index("--port") + 1]
-        is_well = listens(int(said[1])) and port in ("0", said[1])
+    line = server.stderr.readline()
+    said = re.fullmatch(r"listening on 127\.0\.0\.1:(\d+)\n", line)
+    path = value_of(words, "--socket")
+    if path:
+        is_well = line == f"listening on {path}\n" and takes(os.path.join(folder, path))
+    elif said:
+        is_well = listens(int(said[1])) and value_of(words, "--port") in ("0", said[1])
     else:
         is_well = server.wait(PATIENCE) == 1 and server.stdout.read() == "fault\n"
     server.kill()

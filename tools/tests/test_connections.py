@@ -3,7 +3,7 @@
   a request cut and closed    is answered what `bucketd script` answers its first bytes, and changes nothing
   a request cut and reset     changes nothing, and the next request is answered
   an answer read in part      begins with the bytes of the whole answer; what the request did stands, and the next is answered
-  a great answer              the same of 8 MiB, to clients that reset the connection, or stop reading until the server gives up
+  a great answer              the same of 8 MiB, to clients that reset the connection, or stop reading until the server gives up; the next doesn't wait for that
 
 Of a program without a proof every 7th byte is taken, or with less time every 49th.
 """
@@ -132,21 +132,28 @@ def test_great_answer(expect, server):
         stalled(expect, server, data, whole, at)
 
 
+def files(server):
+    """How many files the server has open."""
+    return len(os.listdir(f"/proc/{server.process.pid}/fd"))
+
+
 def stalled(expect, server, data, whole, most):
-    """A client that stops reading: after the timeout, which begins with the answer, and no sooner, the server gives it up and answers
-    the next."""
-    begun, got = time.monotonic(), b""
+    """A client that stops reading: the next is answered at once, and after the timeout, which begins with the answer, and no sooner,
+    the server gives it up."""
+    begun, got, before = time.monotonic(), b"", files(server)
     with server.socket(room=4096) as it:
         it.sendall(data)
         it.recv(1, socket.MSG_PEEK)
         answered = time.monotonic()
         while len(got) < most and (piece := it.recv(most - len(got))):
             got += piece
-        status = server.ask("green", "HEAD", "/plans").status
-        took, waited = time.monotonic() - begun, time.monotonic() - answered
+        status, soon = server.ask("green", "HEAD", "/plans").status, time.monotonic() - answered
+        while files(server) > before and time.monotonic() - begun < 30 * server.timeout:
+            time.sleep(0.01)
+        took = time.monotonic() - begun
         got += all_of(it)
     is_given_up = whole.startswith(got) and most <= len(got) < len(whole)
     # On a busy machine the first byte may come late.
-    is_in_time = 0.9 * server.timeout <= took < 30 * server.timeout and waited >= 0.5 * server.timeout
+    is_in_time = 0.9 * server.timeout <= took < 30 * server.timeout and soon < 0.7 * server.timeout
     expect(f"a client that stops reading after {most} bytes", status == 200 and is_given_up and is_in_time,
-           f"{status} after {took:.1f} s, of which {waited:.1f} s from the first byte on, {len(got)} bytes of {len(whole)}")
+           f"{status} {soon:.1f} s after the first byte, given up after {took:.1f} s, {len(got)} bytes of {len(whole)}")

@@ -8,7 +8,8 @@ not answered whole or not at all; `report` and a complete `sweep` say what the m
   calls       over a fixed list of requests, each call that writes, syncs or cuts a file in turn (tools/preload/refuse_call.c): it
               fails once, or it and all after it, for a fault (EIO) or for lack of room (ENOSPC), or writes half; or the program
               is killed before it, and the disk has lost what wasn't synced, or some of it. What can't be done is answered 503,
-              and the server lives; where it can't open its file it ends with status 1. Where all calls fail from one on, the
+              and the server lives, unless a failure has shut its store: then it ends with status 1 after the first answer that
+              finds it shut, and says why. Where it can't open its file it ends so, too. Where all calls fail from one on, the
               log has the store's code for each 503
   commands    the same of `sweep` and `tenant-add` after a kill, and of `init`
   openings    the same of the first opening of a file that an earlier program made, which brings it over: afterwards all of it is
@@ -47,6 +48,8 @@ SHORT = {"kills": 15, "calls": 3, "commands": 1.5, "openings": 1}
 SWEEP = ["--limit", "1000000"]
 # How a server ends that can't open its file.
 ENDS = [(1, b"fault\n"), (1, b"48 Unavailable\n")]
+# What a server says that ends since its store is shut.
+SHUT = b"the host is shut until it is opened again"
 # The bytes of the objects that fill a disk.
 FILLING = (12_000_000, 100_000, 20_000, 4_000, 1_000, 10)
 
@@ -243,38 +246,6 @@ def made(program, file):
 # ---- each call refused, or the last one
 
 
-def first(tenant):
-    return model.put(tenant, "plans", "a", b"first" * 10)
-
-
-def great(tenant):
-    return model.put(tenant, "plans", "b", b"x" * model.BLOCK + bytes(range(256)) * 140)
-
-
-def versioned(tenant):
-    return model.put(tenant, "kept", "a", b"x" * model.BLOCK + b"version")
-
-
-def one_copy(tenant):
-    return model.duplicate(tenant, "kept", "b", ("plans", "a", tenant.buckets["plans"]["a"][0]))
-
-
-def over(tenant):
-    return model.put(tenant, "plans", "b", b"another" * 1000)
-
-
-def begun(tenant):
-    return model.begin(tenant, "plans", "c/d")
-
-
-def one_part(tenant):
-    return model.part(tenant, min(tenant.uploads), 1, b"part one" * 3000)
-
-
-def other_part(tenant):
-    return model.part(tenant, min(tenant.uploads), 2, b"part two")
-
-
 def completed(tenant):
     number = min(tenant.uploads)
     if not tenant.uploads[number][2]:
@@ -282,17 +253,25 @@ def completed(tenant):
     return model.complete(tenant, number)
 
 
-def marked(tenant):
-    return model.delete(tenant, "kept", "a")
-
-
-def deleted(tenant):
-    return model.delete(tenant, "plans", "a")
+def first(tenant):
+    return model.put(tenant, "plans", "a", b"first" * 10)
 
 
 # The requests, and whose each is.
-REQUESTS = [("green", first), ("blue", great), ("green", versioned), ("green", begun), ("green", one_part), ("blue", first), ("green", one_copy),
-            ("green", other_part), ("blue", over), ("green", completed), ("green", marked), ("green", deleted)]
+REQUESTS = [
+    ("green", first),
+    ("blue", lambda it: model.put(it, "plans", "b", b"x" * model.BLOCK + bytes(range(256)) * 140)),
+    ("green", lambda it: model.put(it, "kept", "a", b"x" * model.BLOCK + b"version")),
+    ("green", lambda it: model.begin(it, "plans", "c/d")),
+    ("green", lambda it: model.part(it, min(it.uploads), 1, b"part one" * 3000)),
+    ("blue", first),
+    ("green", lambda it: model.duplicate(it, "kept", "b", ("plans", "a", it.buckets["plans"]["a"][0]))),
+    ("green", lambda it: model.part(it, min(it.uploads), 2, b"part two")),
+    ("blue", lambda it: model.put(it, "plans", "b", b"another" * 1000)),
+    ("green", completed),
+    ("green", lambda it: model.delete(it, "kept", "a")),
+    ("green", lambda it: model.delete(it, "plans", "a")),
+]
 
 
 class Asked:
@@ -357,12 +336,13 @@ def one_run(program, folder, library, base, fault, number):
     lived = server.is_up()
     status, out, said = server.end()
     end, told = (status, out), f"status {status}: {out} {said[-300:]}"
+    is_shut = fault.lives and is_opened and end == (1, b"fault\n") and SHUT in said
     found = asked.wrong
-    if not found and fault.lives and is_opened and not lived:
+    if not found and fault.lives and is_opened and not lived and not is_shut:
         found = f"the server ended, {told}"
     if not found and not is_opened and end not in (ENDS if fault.lives else [(-signal.SIGKILL, b"")]):
         found = f"the server that couldn't open its file ended, {told}"
-    if not found and status != -signal.SIGKILL and is_opened:
+    if not found and status != -signal.SIGKILL and is_opened and not is_shut:
         found = f"the server ended, {told}"
     found = found or checked(program, file, folder, host, asked.waiting)
     removed(file)
@@ -391,10 +371,16 @@ def failing(expect, program, folder, library, base, number):
     """What the log tells of puts on a disk that fails from some call on."""
     file, broken = copied(base, folder, "failing"), next(it for it in FAULTS if (it.does, it.error) == ("refuse-on", EIO))
     server = Server(program, file, "--log", **broken.env(library, number))
-    statuses = [server.ask("green", "PUT", f"/plans/{at}", b"failing" * 1000).status for at in range(40)]
-    _, _, said = server.end()
+    asked = [server.ask("green", "PUT", f"/plans/{at}", b"failing" * 1000).status for at in range(40)]
+    ended = server.process.wait(PATIENCE)
+    _, out, said = server.end()
     removed(file)
-    told = lacking(said.decode().splitlines()[1:])
+    statuses = [status for status in asked if status]
+    expect("a disk that fails: the server ends, and answers nothing more", (ended, out) == (1, b"fault\n") and SHUT in said
+           and asked[len(statuses):] == [None] * (40 - len(statuses)), f"{asked} {ended} {out} {said[-300:]}")
+    told = lacking([line for line in said.decode().splitlines()[1:] if SHUT.decode() not in line])
+    expect("a disk that fails: one answer finds the store shut, the last", [code for _, code in told].count("store=Closed") == 1
+           and told[-1] == ("503", "store=Closed"), f"{told}")
     codes = {code for status, code in told if status == "503"}
     is_told = [status for status, _ in told] == [str(status) for status in statuses] and all(code is None for status, code in told if status != "503")
     expect("a disk that fails: the log says why at each 503, and at no other answer", is_told and codes and codes <= {"store=SystemIoFailure", "store=Closed"}, f"{statuses} {told}")

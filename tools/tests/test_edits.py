@@ -10,12 +10,14 @@ import random
 import re
 import time
 from collections import Counter
+from itertools import islice
 
 import pytest
 
 from faults import Budget
 from host import event, is_fast, request, script, without_moments
 from strangers import Host, fault_of
+from two_tenants import BUCKETS, Drawn
 
 SECRETS = {"green": "greensecret", "blue": "bluesecret"}
 SEEN = ["/plans?versions", "/", "/?usage", "/plans?list-type=2", "/plans?uploads", "/plans?versioning", "/plans?lifecycle", "/plans/x", "/plans/y",
@@ -24,17 +26,14 @@ SEEN = ["/plans?versions", "/", "/?usage", "/plans?list-type=2", "/plans?uploads
 SHARP = b"\0\t\n\r \"#$%&'()*+,-./0123456789:;<=>?@[\\]^_`{|}~\x7f\x80\xbf\xc0\xe2\xf0\xfe\xff"
 
 
-RULE = '{"Rules":[{"AbortIncompleteMultipartUpload":{"DaysAfterInitiation":%d},"Status":"Enabled"}]}'
-
-
 def asked(tenant, method, target, *fields, body=None):
     return request(tenant, method, target, body, fields)
 
 
 def beginning(tenant):
     """Buckets, objects and an upload with a part."""
-    yield asked(tenant, "PUT", "/plans", body=b"")
-    yield asked(tenant, "PUT", "/kept", body=b"")
+    for bucket in BUCKETS:
+        yield asked(tenant, "PUT", f"/{bucket}", *(["x-amz-bucket-object-lock-enabled: true"] if bucket == "vault" else []), body=b"")
     yield asked(tenant, "PUT", "/kept?versioning", body=b'{"Status":"Enabled"}')
     for target in ("/plans/x", "/plans/y", "/kept/x"):
         yield asked(tenant, "PUT", target, body=f"{tenant} {target}".encode())
@@ -42,30 +41,13 @@ def beginning(tenant):
     yield asked(tenant, "PUT", "/plans/v?uploadId=0000000000000001&partNumber=1", body=b"part")
 
 
-def drawn_request(chance):
-    """A request of any operation, as it should be, on buckets, keys and ids that may be there."""
-    pick = chance.choice
-    bucket, key, body = pick(["/plans", "/kept", "/spare", "/green:plans"]), pick(["x", "y", "z", "a/b", "a/c", "%C3%A9"]), pick([b"", b"a", b"abc", b"aaaabbbb" * 9])
-    upload, number = f"uploadId={chance.randrange(1, 9):016x}", chance.randrange(1, 4)
-    named = f"?versionId={pick(['null', f'{chance.randrange(1, 9):016x}'])}" if chance.randrange(4) == 0 else ""
-    target, rule = f"{bucket}/{key}{named}", (RULE % chance.randrange(1, 9)).encode()
-    parts = json.dumps({"Parts": [{"PartNumber": at} for at in range(1, number + 1)]}).encode()
-    query = f"max-keys={chance.randrange(4)}&prefix={pick(['', 'a', 'x'])}&delimiter={pick(['', '/', '%2F'])}"
-    source = pick(["/plans/x", "plans/y", "/kept/x?versionId=0000000000000001", "/blue:plans/x", "/green:kept/a%2Fb"])
-    kinds = [
-        lambda: asked("green", "PUT", bucket, body=b""), lambda: asked("green", "DELETE", pick([bucket, "/spare"])), lambda: asked("green", "HEAD", bucket),
-        lambda: asked("green", "GET", pick(["/", "/?usage"])), lambda: asked("green", "GET", f"{bucket}?list-type=2&{query}&continuation-token={pick(['', '61', 'ff'])}"),
-        lambda: asked("green", "GET", f"{bucket}?versions&{query}&key-marker=x&version-id-marker=null"), lambda: asked("green", "GET", f"{bucket}?uploads&key-marker=v&upload-id-marker=0000000000000001"),
-        lambda: asked("green", pick(["GET", "DELETE"]), f"{bucket}?lifecycle"), lambda: asked("green", "PUT", f"{bucket}?lifecycle", body=rule),
-        lambda: asked("green", "GET", f"{bucket}?versioning"), lambda: asked("green", "PUT", f"{bucket}?versioning", body=b'{"Status":"%s"}' % pick([b"Enabled", b"Suspended"])),
-        *[lambda: asked("green", "PUT", f"{bucket}/{key}", body=body)] * 4, *[lambda: asked("green", pick(["GET", "GET", "HEAD", "DELETE"]), target)] * 4,
-        lambda: asked("green", "GET", target, f"range: bytes={pick(['0-2', '3-', '-5', '7-9'])}"), lambda: asked("green", "PUT", f"{bucket}/{key}", f"x-amz-copy-source: {source}", body=b""),
-        lambda: asked("green", "PUT", f"{bucket}/{key}", "x-amz-checksum-sha256: ungWv48Bz+pBQUDeXa4iI7ADYaOWF3qctBD/YfIAFa0=", body=b"abc"),
-        lambda: asked("green", "POST", f"{bucket}/v?uploads", body=b""), *[lambda: asked("green", "PUT", f"{bucket}/v?{upload}&partNumber={number}", body=body)] * 3,
-        lambda: asked("green", pick(["GET", "DELETE"]), f"{bucket}/v?{upload}"), *[lambda: asked("green", "POST", f"{bucket}/v?{upload}", body=parts)] * 2,
-        lambda: asked("green", "GET", "/blue:plans?list-type=2"), lambda: asked("green", "PUT", "/blue:plans/x", body=body),
-    ]
-    return pick(kinds)()
+def requests_of(chance):
+    """Requests of any operation without an end, as they should be, on buckets, keys and ids that may be there."""
+    source = Drawn(chance)
+    while True:
+        source.step("green")
+        if source.lines[-1:] and source.lines[-1].method:
+            yield source.lines.pop().shown()
 
 
 # ---- edits
@@ -125,9 +107,8 @@ def other_length(chance, text):
 EDITS = [with_byte, with_byte, with_flipped_bit, without_bytes, repeated, cut_off, lines_edited, lines_edited, other_length]
 
 
-def drawn(chance):
+def drawn(chance, text):
     """A request, mostly with an edit or more."""
-    text = drawn_request(chance)
     for _ in range(chance.choice([0, 0, 1, 1, 1, 1, 2, 3])):
         if text:
             text = chance.choice(EDITS)(chance, text)
@@ -141,7 +122,7 @@ def lot(chance, size):
     """The requests of a host, of which the other tenant's first and last are as they should be."""
     seen = [asked("blue", "GET", target) for target in SEEN]
     first = [*beginning("green"), *beginning("blue"), *seen]
-    return first, [drawn(chance) for _ in range(size)], [*seen, asked("green", "GET", "/?usage")]
+    return first, [drawn(chance, it) for it in islice(requests_of(chance), size)], [*seen, asked("green", "GET", "/?usage")]
 
 
 COMMANDS = [{"at": 0, "op": "tenant-add", "tenant": tenant, "quota": 400} for tenant in SECRETS]

@@ -2,7 +2,6 @@
 one host and the second on the other, are answered byte for byte as all of them are on one host; the other tenants, who have
 equal bytes, are answered as before; what is refused changes nothing; and whatever stops an export, or leaves it no room, there
 is a whole file or none."""
-import json
 import os
 import random
 import re
@@ -17,66 +16,44 @@ import pytest
 from conftest import need
 from faults import FAULTS, calls_of, is_begun_alone, series
 from host import Answer, Clock, Server, command, copied, is_quick, make_host, names, read, request, run
+from two_tenants import BUCKETS, DATED, KEYS, Drawn
 
 START = 1_800_000_000
-BUCKETS = ["plans", "kept", "held", "vault"]
-KEYS = ["a", "b", "c/d", "c/e", "é"]
-RULE = b'{"Rules":[{"AbortIncompleteMultipartUpload":{"DaysAfterInitiation":3},"Status":"Enabled"}]}'
-DATE = "2091-08-01T00:00:00Z"
 # The second at which 2096 begins.
 LATE = 3_976_214_400
 # What other tenants have, too: none, one block, some blocks.
 SHARED = [b"", b"abc", bytes(range(256)) * 300, b"x" * 70_000, b"x" * 140_000]
 
 
-def first_requests():
-    """Buckets in each state, one with a rule and one that is locked."""
-    yield "PUT", "/plans", b"", ()
-    yield "PUT", "/plans?lifecycle", RULE, ()
-    yield "PUT", "/kept", b"", ()
-    yield "PUT", "/kept?versioning", b'{"Status":"Enabled"}', ()
-    yield "PUT", "/held", b"", ()
-    yield "PUT", "/held?versioning", b'{"Status":"Enabled"}', ()
-    yield "PUT", "/vault", b"", ("x-amz-bucket-object-lock-enabled: true",)
+class Requests(Drawn):
+    """What a tenant asks; some of it is refused. `found`: each as method, target, body and fields."""
 
+    def __init__(self, seed):
+        super().__init__(random.Random(seed))
+        self.found = []
+        self.beginning("green")
+        self.first = [*self.found]
 
-def drawn_request(draw):
-    """One request; some are refused."""
-    bucket, key = draw.choice(BUCKETS), draw.choice(KEYS)
-    path = f"/{bucket}/{key.replace('é', '%C3%A9')}"
-    body = draw.choice(SHARED + [draw.randbytes(draw.choice([1, 100, 66_000]))])
-    upload, part = f"{draw.randint(1, 12):016x}", draw.randint(1, 3)
-    version = draw.choice(["null", f"{draw.randint(1, 40):016x}"])
-    kinds = {
-        "put": (12, ("PUT", path, body, ())),
-        "date": (3, ("PUT", f"/vault/{draw.choice('ab')}", body, ("x-amz-object-lock-mode: COMPLIANCE", f"x-amz-object-lock-retain-until-date: {DATE}"))),
-        "retention": (2, ("PUT", f"/vault/{draw.choice('ab')}?retention", json.dumps({"Mode": "COMPLIANCE", "RetainUntilDate": "2092-08-01T00:00:00Z"}).encode(), ())),
-        "get": (8, ("GET", path, b"", ())),
-        "range": (2, ("GET", path, b"", (f"range: bytes={draw.randint(0, 99)}-{draw.randint(100, 70_000)}",))),
-        "get-version": (4, ("GET", f"{path}?versionId={version}", b"", ())),
-        "get-date": (2, ("GET", f"/vault/{draw.choice('ab')}?retention", b"", ())),
-        "copy": (3, ("PUT", path, b"", (f"x-amz-copy-source: /{draw.choice(BUCKETS)}/{draw.choice(KEYS[:4])}",))),
-        "delete": (3, ("DELETE", path, b"", ())),
-        "delete-version": (3, ("DELETE", f"{path}?versionId={version}", b"", ())),
-        "begin": (5, ("POST", f"{path}?uploads", b"", ())),
-        "part": (8, ("PUT", f"{path}?uploadId={upload}&partNumber={part}", body, ())),
-        "parts": (2, ("GET", f"{path}?uploadId={upload}", b"", ())),
-        "complete": (4, ("POST", f"{path}?uploadId={upload}", json.dumps({"Parts": [{"PartNumber": n} for n in range(1, part + 1)]}).encode(), ())),
-        "abort": (1, ("DELETE", f"{path}?uploadId={upload}", b"", ())),
-        "list": (3, ("GET", f"/{bucket}?list-type=2", b"", ())),
-        "versions": (3, ("GET", f"/{bucket}?versions", b"", ())),
-        "uploads": (2, ("GET", f"/{bucket}?uploads", b"", ())),
-        "suspend": (1, ("PUT", "/held?versioning", draw.choice([b'{"Status":"Suspended"}', b'{"Status":"Enabled"}']), ())),
-        "usage": (1, ("GET", "/?usage", b"", ())),
-        "buckets": (1, ("GET", "/", b"", ())),
-    }
-    names = list(kinds)
-    return kinds[draw.choices(names, [kinds[it][0] for it in names])[0]][1]
+    def body(self):
+        return self.pick(*SHARED, self.chance.randbytes(self.pick(1, 100, 66_000)))
+
+    def ask(self, tenant, method, target, body=b"", *fields, length=None, secret=None):
+        if length is None and secret is None:
+            self.found.append((method, target, body, fields))
+
+    def order(self, *_, **members):
+        """An operator's events are none of a tenant's."""
 
 
 def drawn_requests(seed, count):
-    draw = random.Random(seed)
-    return [*first_requests()] + [drawn_request(draw) for _ in range(count)]
+    it = Requests(seed)
+    while len(it.found) < len(it.first) + count:
+        it.step("green")
+    return it.found
+
+
+# Of another tenant, whose bodies are the same.
+OTHERS = [*Requests(0).first, *(("PUT", f"/kept/{n}", body, ()) for n, body in enumerate(SHARED))]
 
 
 def all_told(numbers):
@@ -85,7 +62,7 @@ def all_told(numbers):
         for query in ("?versions", "?list-type=2", "?uploads", "?versioning", "?lifecycle"):
             yield "GET", f"/{bucket}{query}", b"", ()
         for key in KEYS:
-            path = f"/{bucket}/{key.replace('é', '%C3%A9')}"
+            path = f"/{bucket}/{key}"
             yield "GET", path, b"", ()
             yield "GET", path + "?retention", b"", ()
             for number in range(1, numbers):
@@ -93,7 +70,7 @@ def all_told(numbers):
     for number in range(1, min(numbers, 12)):
         for bucket in BUCKETS:
             for key in KEYS:
-                yield "GET", f"/{bucket}/{key.replace('é', '%C3%A9')}?uploadId={number:016x}", b"", ()
+                yield "GET", f"/{bucket}/{key}?uploadId={number:016x}", b"", ()
     yield "GET", "/?usage", b"", ()
     yield "GET", "/", b"", ()
 
@@ -144,14 +121,13 @@ def clock(folder):
 def test_moved(expect, program, clock, folder, seed, options_a, options_b):
     """One host all along, and one from which the tenant is moved in the midst."""
     count = 400 if is_quick(program) else 40
-    requests, half = drawn_requests(seed, count), 7 + count // 2
+    requests, half = drawn_requests(seed, count), 12 + count // 2
     everything = [*all_told(40 if is_quick(program) else 5)]
     whole = make(program, clock, folder, "whole", ["blue", "green"])
     a = make(program, clock, folder, "a", ["green", "red"], *options_a)
     b = make(program, clock, folder, "b", ["blue", "grey"], *options_b)
-    shared = [*first_requests()] + [("PUT", f"/kept/{n}", body, ()) for n, body in enumerate(SHARED)]
     for file, tenant in ((whole, "blue"), (a, "red"), (b, "blue")):
-        answers(program, clock, file, tenant, shared, START)
+        answers(program, clock, file, tenant, OTHERS, START)
     blue = answers(program, clock, b, "blue", everything, START + 100)
     red = answers(program, clock, a, "red", everything, START + 100)
     at = START + 10_000
@@ -195,9 +171,8 @@ def moved(program, clock, folder):
     """A host with two tenants, one of them exported to `t`, and another host to which it was imported."""
     make(program, clock, folder, "a", ["green", "red"])
     make(program, clock, folder, "b", ["blue", "grey"])
-    shared = [*first_requests()] + [("PUT", f"/kept/{n}", body, ()) for n, body in enumerate(SHARED)]
     drawn = drawn_requests(1, 200 if is_quick(program) else 20)
-    for tenant, requests in (("green", drawn), ("red", shared)):
+    for tenant, requests in (("green", drawn), ("red", OTHERS)):
         answers(program, clock, os.path.join(folder, "a"), tenant, requests, START)
     assert export(program, folder)[:2] == ("export", 0)
     return folder
@@ -268,8 +243,7 @@ def statuses(program, clock, file, tenant, requests, at):
 
 
 # A locked bucket, a version in it that is locked, and what would end that lock.
-LOCK = [("PUT", "/vault", b"", ("x-amz-bucket-object-lock-enabled: true",)),
-        ("PUT", "/vault/a", b"abc", ("x-amz-object-lock-mode: COMPLIANCE", f"x-amz-object-lock-retain-until-date: {DATE}"))]
+LOCK = [("PUT", "/vault", b"", ("x-amz-bucket-object-lock-enabled: true",)), ("PUT", "/vault/a", b"abc", DATED)]
 END_IT = [("DELETE", "/vault/a?versionId=0000000000000001", b"", ())]
 
 

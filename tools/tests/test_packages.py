@@ -29,7 +29,7 @@ FILES = {
                 *(f"usr/share/doc/bucketd/{it}" for it in ("API.md", "OPERATING.md", "README.md", "SECURITY.md", "changelog.gz", "copyright", "nginx.conf", "shards.conf"))],
     "bucketd-gateway": ["etc/bucketd/bucketd.nft", "etc/bucketd/gateway.conf", "usr/bin/bucketd-gateway", "usr/share/man/man1/bucketd-gateway.1.gz",
                         *(f"{SYSTEM}/{it}" for it in (*UNITS[3:], *(f"{it}.d/10-package.conf" for it in UNITS[3:]))), "usr/lib/sysusers.d/bucketd-gateway.conf",
-                        *(f"usr/share/doc/bucketd-gateway/{it}" for it in ("CLIENTS.md", "GATEWAY.md", "changelog.gz", "copyright", "fail2ban-gateway.conf"))],
+                        *(f"usr/share/doc/bucketd-gateway/{it}" for it in ("CLIENTS.md", "GATEWAY.md", "changelog.gz", "copyright", "fail2ban-gateway.conf", "gateway-alerts.yml", "gateway-board.json"))],
 }
 PROGRAMS = ("choose-build", "/bucketd", "bin/bucketd-gateway")
 # What /proc/cpuinfo tells of a processor of x86-64-v2, and what x86-64-v3 asks for beside that.

@@ -58,7 +58,7 @@ class Both:
 
     def serve(self, batch):
         """What each request is answered, and whether the server then ended by itself as it should."""
-        server, told = Server(self.program, self.file, *OPTIONS[:2], count=len(batch), **self.clock.env), []
+        server, told = Server(self.program, self.file, *OPTIONS[:2], "--clock-step", "4294967295", count=len(batch), **self.clock.env), []
         for line in batch:
             self.clock.set(line.reading)
             told.append(server.exchange(line.shown()))

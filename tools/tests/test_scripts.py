@@ -1,15 +1,10 @@
-"""`bucketd script` on stored scripts and on drawn ones: what a host in memory answers, with blocks of several sizes, with and
-without blocks that stay in memory, and by both functions that name blocks. No answer tells which of these there are."""
+"""`bucketd script` on stored scripts: what a host in memory answers, with blocks of several sizes, with and without blocks that stay in
+memory, and by both functions that name blocks. No answer tells which of these there are."""
 import os
-import random
 import subprocess
 
 import pytest
 
-import draw_bodies
-import draw_dates
-import draw_listings
-import draw_uploads
 from host import CRATES, SCRIPTS, is_quick, read
 
 NAMES = sorted(name[:-3] for name in os.listdir(SCRIPTS) if name.endswith(".in"))
@@ -26,8 +21,6 @@ ELSEWHERE = ["cut-off", "counter-exhausted", "counter-exhausted-first"]
 SMALL_BLOCKS = """blocks shared-blocks last-reference blocks-and-ranges body-lengths half-equal-bodies copy copy-onto-itself
 copy-of-markers ranges versions suspended put-again delete-twice head-object list-objects list-versions first-path
 marker-of-nothing empty-object-is-no-block short-body-stores-nothing sweep-limit-0""".split()
-# Modules that draw scripts, the sizes of blocks with which these are answered, and the number of scripts of each.
-DRAWN = [(draw_listings, [65536], 3), (draw_bodies, [1, 3, 4, 16, 65536], 4), (draw_uploads, [1, 4, 65536], 3), (draw_dates, [4], 1)]
 LEAST_STORED = 100
 
 
@@ -69,17 +62,3 @@ def test_stored(expect, program, every, name):
         # A program without a proof is asked once for each set, in another of these ways each time.
         for more in kinds if is_quick(program) or every else [kinds[at % len(kinds)]]:
             answered(expect, " ".join(options + more), program, ["script", *options, *more], given, wanted)
-
-
-@pytest.mark.cost(20)
-@pytest.mark.parametrize("module", [module for module, _, _ in DRAWN], ids=lambda it: it.__name__)
-def test_drawn(expect, program, every, module):
-    """Each script that a module draws is answered as the module says."""
-    sizes, least = next((sizes, least) for it, sizes, least in DRAWN if it is module)
-    scripts = {name: draw(random.Random(20261123)) for name, draw in module.SCRIPTS.items()}
-    expect("its scripts are drawn", len(scripts) == least and all(len(it.events) > 80 for it in scripts.values()), {name: len(it.events) for name, it in scripts.items()})
-    ways = [(size, kept) for size in sizes for kept in CACHES[::2]]
-    for at, (name, it) in enumerate(scripts.items()):
-        for size, kept in ways if is_quick(program) or every else [ways[at * 3 % len(ways)]]:
-            words = ["script", "--block-size", str(size), "--cache-blocks", str(kept), *it.options]
-            answered(expect, f"{name} in blocks of {size}, {kept} of them in memory", program, words, "".join(it.events).encode(), b"".join(it.answers))

@@ -182,14 +182,19 @@ def test_answers_half_read(expect, on):
     expect("a get after a client that resets within a response", on.get("GET", "/plans/half-read")[2] == data)
 
 
-def timed(expect, on, name, act, **room):
-    """What comes to a client, whose connection is broken off after the timeout and no sooner: then the next is answered."""
+def timed(expect, on, name, act, rests=0, **room):
+    """What comes to a client, whose connection is broken off after the timeout and no sooner; meanwhile the next is answered."""
     begun, it = time.monotonic(), on.socket(**room)
     act(it)
+    asked = time.monotonic()
     status = on.get("HEAD", "/plans")[0]
+    waited = time.monotonic() - asked
+    time.sleep(rests)
+    came = all_of(it)
     took, least = time.monotonic() - begun, 0.9 * on.timeout
-    expect(name, status == 200 and least <= took < least + BUSY, f"{status} after {took:.1f} s, not after {least:.1f} or somewhat more")
-    return all_of(it)
+    is_well = status == 200 and waited < 0.7 * on.timeout and least <= took < least + BUSY
+    expect(name, is_well, f"{status} after {waited:.1f} s, and broken off after {took:.1f} s, not after {least:.1f} or somewhat more")
+    return came
 
 
 def drip(it):
@@ -211,7 +216,7 @@ def test_slow_clients(expect, program, on):
         return expect.skip("a client that doesn't read", "its object is too large for a slow program")
     data = os.urandom(on.large)
     on.get("PUT", "/plans/large", data)
-    came = timed(expect, on, "a client that doesn't read", lambda it: it.sendall(head("GET", "/plans/large", 0)), room=4096)
+    came = timed(expect, on, "a client that doesn't read", lambda it: it.sendall(head("GET", "/plans/large", 0)), 1.5 * on.timeout, room=4096)
     body = came.partition(b"\r\n\r\n")[2]
     expect("has a part of its answer", came.startswith(b"HTTP/1.1 200 OK\r\n") and data.startswith(body) and len(body) < len(data), f"{len(body)} of {len(data)} bytes")
 

@@ -28,6 +28,8 @@ use Rattle.bh_host.specs.Turns.{Applied, WouldApply}
 use Rattle.bh_kept.specs.Over.{StandsOver, KeptStandsOver}
 use Rattle.bh_connection.specs.Connections.{IsApplied, HasAnswered}
 use Rattle.bh_connection.specs.declared.served.End.{End}
+use Rattle.bh_schema.specs.declared.host.Digester as digester
+use Rattle.bh_kept.specs.declared.host.BlockSize as size
 use Rattle.bh_kept.specs.declared.host.KeptHost.{KeptHost}
 use Rattle.bh_again.specs.Found as storages
 use Rattle.bh_again.specs.Stops.{seen_again, IsCleanAgain, CameBack, ComesBack, AllLeft, AllShown, kept_of, IsLeft, IsOlder, IsReopened, IsReady, AfterStop, AfterReply, AfterKeptStop, AfterKeptReply, OpensSound, StaysSound}
@@ -186,13 +188,13 @@ after_reply digest event told ended old new opened did ready again clean =
 
 -- ---- after one on a host that is served
 
-pub after_kept_stop : {D G : Type 0} {g : Ghosts D} (digest : Octets → Octets) (s : storage.Ghosts (KeptHost D G g)) → s.IsSoundStore ≡ IsSoundHost digest → KeptStandsOver s → AfterKeptStop digest s
+pub after_kept_stop : {D G K : Type 0} {g : Ghosts D} {d : digester.Ghosts G} {k : size.Ghosts K} (digest : Octets → Octets) (s : storage.Ghosts (KeptHost D G K g d k)) → s.IsSoundStore ≡ IsSoundHost digest → KeptStandsOver s → AfterKeptStop digest s
 after_kept_stop digest s sound stands event told old new it opened applied stays is again clean =
     survives s.IsIntact s.IsOpen s.seen s.left digest event old new it.storage.host opened
     (subst (λ (P : Tables → Type 0). StandsOver s.IsIntact s.IsOpen P s.seen s.left new it.storage.host) sound (stands new it is))
     (subst (λ (P : Tables → Type 0). s.IsIntact new × s.IsOpen new → IsAtRest P (s.seen new)) sound stays.ready) again clean told applied
 
-pub after_kept_reply : {D G : Type 0} {g : Ghosts D} (digest : Octets → Octets) (s : storage.Ghosts (KeptHost D G g)) → s.IsSoundStore ≡ IsSoundHost digest → KeptStandsOver s → AfterKeptReply digest s
+pub after_kept_reply : {D G K : Type 0} {g : Ghosts D} {d : digester.Ghosts G} {k : size.Ghosts K} (digest : Octets → Octets) (s : storage.Ghosts (KeptHost D G K g d k)) → s.IsSoundStore ≡ IsSoundHost digest → KeptStandsOver s → AfterKeptReply digest s
 after_kept_reply digest s sound stands event told ended old new it opened did stays is again clean =
     survives_since s.IsIntact s.IsOpen s.seen s.left digest event old new it.storage.host opened
     (subst (λ (P : Tables → Type 0). StandsOver s.IsIntact s.IsOpen P s.seen s.left new it.storage.host) sound (stands new it is))

@@ -16,9 +16,11 @@ use Rattle.bh_storage.specs.Calls.{Seen, IsAtRest}
 use Rattle.bh_storage.specs.declared.storage.Storage as storage
 use Rattle.bh_schema.specs.Connections as connection
 use Rattle.bh_schema.specs.Layer.{standing, Leaves}
+use Rattle.bh_schema.specs.declared.host.Digester as digester
 use Rattle.bh_schema.specs.declared.host.Host.{Host}
 use Rattle.bh_schema.specs.Storage.{seen_in, IsIntact, IsOpen, seen, left}
 use Rattle.bh_dispatch.specs.declared.recalling.RecallingStorage.{RecallingStorage}
+use Rattle.bh_kept.specs.declared.host.BlockSize as size
 use Rattle.bh_kept.specs.declared.host.KeptHost.{KeptHost}
 use Rattle.bh_again.specs.Found as found
 use Rattle.bh_open.specs.Opening.{digest_in}
@@ -148,9 +150,11 @@ StaysSound {D} g G digest = (old new : Host (FileStore D g) G)
 
 -- after an event and a stop, the host beneath comes back with the tables that the kept host had
 -- before the event or after it
-abbrev pub AfterKeptStop : {D G : Type 0} {g : Ghosts D} → (Octets → Octets) → storage.Ghosts (KeptHost D G g) → Type 0
-AfterKeptStop {D} {G} {g} digest s =
-    (event : Arrival) (told : Told) (old new : KeptHost D G g) (it : RecallingStorage (FileStore D g) G) (opened : Opened (FileStore D g))
+abbrev pub AfterKeptStop : {D G K : Type 0} {g : Ghosts D} {d : digester.Ghosts G} {k : size.Ghosts K} → (Octets → Octets)
+    → storage.Ghosts (KeptHost D G K g d k) → Type 0
+AfterKeptStop {D} {G} {K} {g} {d} {k} digest s =
+    (event : Arrival) (told : Told) (old new : KeptHost D G K g d k) (it : RecallingStorage (FileStore D g) G)
+    (opened : Opened (FileStore D g))
     → IsApplied s.IsIntact s.IsOpen s.seen s.left event told old new
     → StaysAtRest s.IsIntact s.IsOpen s.IsSoundStore s.seen s.left old new
     → new.storage ≡ Some it → IsReopened it.storage.host opened → IsCleanAgain opened
@@ -158,9 +162,10 @@ AfterKeptStop {D} {G} {g} digest s =
     (found.IsLeftBy s.IsIntact s.IsOpen s.seen s.left (IsOlder it.storage.host) event told old new) old new (seen_again opened)
 
 -- and so it does after a reply was sent and a stop
-abbrev pub AfterKeptReply : {D G : Type 0} {g : Ghosts D} → (Octets → Octets) → storage.Ghosts (KeptHost D G g) → Type 0
-AfterKeptReply {D} {G} {g} digest s =
-    (event : Arrival) (told : Told) (ended : End) (old new : KeptHost D G g) (it : RecallingStorage (FileStore D g) G)
+abbrev pub AfterKeptReply : {D G K : Type 0} {g : Ghosts D} {d : digester.Ghosts G} {k : size.Ghosts K} → (Octets → Octets)
+    → storage.Ghosts (KeptHost D G K g d k) → Type 0
+AfterKeptReply {D} {G} {K} {g} {d} {k} digest s =
+    (event : Arrival) (told : Told) (ended : End) (old new : KeptHost D G K g d k) (it : RecallingStorage (FileStore D g) G)
     (opened : Opened (FileStore D g))
     → HasAnswered s.IsIntact s.IsOpen s.seen s.left event told ended old new
     → StaysAtRest s.IsIntact s.IsOpen s.IsSoundStore s.seen s.left old new

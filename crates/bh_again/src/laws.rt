@@ -3,7 +3,7 @@
 
 ghost use Rattle.bh_again.specs.Stops.{AfterKeptReply, AfterKeptStop, AfterReply, AfterStop, OpensSound, StaysSound};
 
-use bh_kept::KeptHost;
+use bh_kept::{BlockSize, KeptHost};
 use bh_schema::host::Digester;
 use bh_storage::storage::Storage;
 use sqlite_disk::Crash;
@@ -35,11 +35,11 @@ pub fn opens_sound<D: Crash, G: Digester>()
 
 /// The same of `after_stop`, for the host that is served: it is found with the tables that it showed
 /// before an event or after it, unless it was lost over a backup.
-pub fn after_kept_stop<'a, D: Crash + Drop, G: Digester + Drop>()
-    ensures { AfterKeptStop G.digest_of ⟦<KeptHost<'a, D, G> as Storage>⟧ }
+pub fn after_kept_stop<'a, D: Crash + Drop, G: Digester + Drop, K: BlockSize>()
+    ensures { AfterKeptStop G.digest_of ⟦<KeptHost<'a, D, G, K> as Storage>⟧ }
 {}
 
 /// The same of `after_reply`, for the host that is served.
-pub fn after_kept_reply<'a, D: Crash + Drop, G: Digester + Drop>()
-    ensures { AfterKeptReply G.digest_of ⟦<KeptHost<'a, D, G> as Storage>⟧ }
+pub fn after_kept_reply<'a, D: Crash + Drop, G: Digester + Drop, K: BlockSize>()
+    ensures { AfterKeptReply G.digest_of ⟦<KeptHost<'a, D, G, K> as Storage>⟧ }
 {}

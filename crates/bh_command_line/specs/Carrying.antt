@@ -1,5 +1,5 @@
 -- What is done for a command line's task.
-use Rattle.std.specs.Prelude.{◌≡◌, List, ℕ, Option, MatchOption, is_some, option_map}
+use Rattle.std.specs.Prelude.{◌≡◌, ◌++◌, List, ℕ, codes, Option, Some, None, Result, Ok, Err, MatchOption, IsSomeAnd, is_some}
 use Rattle.std.specs.String.{string_bytes}
 use Rattle.std.specs.declared.alloc.Global.{Global}
 use Rattle.std.specs.declared.string.String.{String}
@@ -12,12 +12,12 @@ use Rattle.bh_types.specs.Limits.{HostLimits, HostTuning}
 use Rattle.bh_types.specs.declared.block_digest.BlockDigest.{BlockDigest}
 use Rattle.bh_words.specs.declared.lines.ClockGiven.{ClockGiven}
 use Rattle.bh_words.specs.declared.lines.Leap.{Leap}
+use Rattle.bh_words.specs.declared.lines.SecretGiven.{SecretGiven}
 use Rattle.bh_maintenance.specs.Backups.{IsBackedUp}
 use Rattle.bh_maintenance.specs.Checks.{IsChecked}
 use Rattle.bh_maintenance.specs.Moves.{IsExported, IsImported}
 use Rattle.bh_maintenance.specs.declared.clocks.ClockRead.{ClockRead}
 use Rattle.bh_maintenance.specs.declared.printed.Printed.{Printed}
-use Rattle.bh_commands.specs.Commands.{secret_in}
 use Rattle.bh_commands.specs.Files.{IsAnswered}
 use Rattle.bh_command_line.specs.Input.{IsSecretGiven}
 use Rattle.bh_commands.specs.declared.asked.FileTask.TheVariants as file
@@ -31,26 +31,46 @@ use Rattle.bh_task.specs.declared.line_task.LineTask.{LineTask}
 use Rattle.bh_task.specs.declared.line_task.LineTask.TheVariants as task
 use Rattle.bh_task.specs.declared.line_task.Maintenance.{Maintenance}
 use Rattle.bh_task.specs.declared.line_task.Maintenance.TheVariants as maintenance
+use Rattle.bh_task.specs.declared.line_task.OperatorGiven.{OperatorGiven}
 use Rattle.bh_task.specs.declared.line_task.Starts.{Starts}
 use Rattle.bh_task.specs.declared.line_task.ServeTask.{ServeTask}
+use Rattle.bh_task.specs.declared.misfit.Misfit.{Misfit}
 use Rattle.bh_task.specs.declared.task.Task.TheVariants as order
 
 -- ---- work, once its secrets were read
 
--- the host is served as it was asked; the operators have a secret if its file was named
-pub record IsServing (asked : ServeTask) (serving : Serving) : Type 0 where
-  pub port : serving.port ≡ asked.port
+-- how the names of files begin that are made while the host of a file is served
+abbrev pub spool_name : List ℕ → Option (String Global) → List ℕ
+spool_name path (Some directory) = string_bytes directory ++ codes "/spool"
+spool_name path None = path ++ codes ".spool"
+
+-- operators are served where it was asked; they have a secret if its file was named
+abbrev pub AreServed : Option OperatorGiven → Option OperatorServing → Type 0
+AreServed None serving = serving ≡ None
+AreServed (Some given) serving =
+    IsSomeAnd serving (λ (o : OperatorServing). (o.door ≡ given.door) × (is_some o.secret ≡ is_some given.secret_file))
+
+-- the host of the file of a path is served as it was asked
+pub record IsServing (path : List ℕ) (asked : ServeTask) (serving : Serving) : Type 0 where
+  pub door : serving.door ≡ asked.door
+  pub group : serving.socket_group ≡ asked.socket_group
+  pub operator : AreServed asked.operator serving.operator
   pub count : serving.count ≡ asked.count
   pub timeout : serving.manner.timeout ≡ asked.timeout
   pub logged : serving.manner.is_logged ≡ asked.is_logged
-  pub operator : option_map (λ (o : OperatorServing). o.port) serving.operator ≡ asked.operator.port
-  pub secret : is_some (secret_in serving) ≡ is_some asked.operator.secret_file
+  pub connections : serving.connections ≡ asked.connections
+  pub spool : string_bytes serving.spool ≡ spool_name path asked.spool
+  pub clock_step : serving.clock_step ≡ asked.clock_step
 
-abbrev pub IsWorkFor : HostTask → Work → Type 0
-IsWorkFor (asked.Order task) work = work ≡ the_work.Command task
-IsWorkFor (asked.KeyAdd tenant name given) work =
+abbrev pub IsKeyFor : String Global → String Global → SecretGiven → Work → Type 0
+IsKeyFor tenant name given work =
     (secret : String Global) × IsSecretGiven given secret × (work ≡ the_work.Command (order.Command (command.KeyAdd tenant name secret)))
-IsWorkFor (asked.Serve it) work = (serving : Serving) × IsServing it serving × (work ≡ the_work.Serve serving)
+
+-- the work that is asked of the host of the file of a path
+abbrev pub IsWorkFor : List ℕ → HostTask → Work → Type 0
+IsWorkFor path (asked.Order task) work = work ≡ the_work.Command task
+IsWorkFor path (asked.KeyAdd tenant name given) work = IsKeyFor tenant name given work
+IsWorkFor path (asked.Serve it) work = (serving : Serving) × IsServing path it serving × (work ≡ the_work.Serve serving)
 
 -- ---- on files with these first contents
 
@@ -59,9 +79,10 @@ module _ {D : Type 0} (g : disk.Ghosts D) (image : Image) where
   IsMadeIn limits digest printed =
       MatchOption digest ⊥ (λ d. (files : Option (Files D)) × IsAnswered g image (file.Init limits d) printed files)
 
-  abbrev pub IsWorkedIn : HostTuning → ClockGiven → HostTask → Printed → Type 0
-  IsWorkedIn tuning clock asked printed =
-      (work : Work) × IsWorkFor asked work × (files : Option (Files D)) × IsAnswered g image (file.Host tuning clock work) printed files
+  abbrev pub IsWorkedIn : List ℕ → HostTuning → ClockGiven → HostTask → Printed → Type 0
+  IsWorkedIn path tuning clock asked printed =
+      (work : Work) × IsWorkFor path asked work × (files : Option (Files D))
+      × IsAnswered g image (file.Host tuning clock work) printed files
 
   abbrev pub IsCheckedIn : Printed → Type 0
   IsCheckedIn printed = (files : Option (Files D)) × IsChecked g image printed files
@@ -98,6 +119,11 @@ module _ {D E M : Type 0} (g : disk.Ghosts D) (e : disk.Ghosts E) (m : disk.Ghos
   abbrev pub IsCarriedOut : {S T U : Type 0} → LineTask S T U → Printed → Type 0
   IsCarriedOut (task.Script limits tuning digest) printed = Unit {0}
   IsCarriedOut (task.Init file limits digest) printed = IsMadeIn g image limits digest printed
-  IsCarriedOut (task.OnHost file tuning clock asked) printed = IsWorkedIn g image tuning clock asked printed
+  IsCarriedOut (task.OnHost file tuning clock asked) printed = IsWorkedIn g image (string_bytes file.path) tuning clock asked printed
   IsCarriedOut (task.Maintain asked) printed = IsMaintained asked printed
-  IsCarriedOut (task.Tell port secret_file order) printed = Unit {0}
+  IsCarriedOut (task.Tell door secret_file order) printed = Unit {0}
+
+  -- nothing is done where options don't fit together
+  abbrev pub IsLineDone : {S T U : Type 0} → Result (LineTask S T U) Misfit → Printed → Type 0
+  IsLineDone (Ok task) printed = IsCarriedOut task printed
+  IsLineDone (Err misfit) printed = ⊥

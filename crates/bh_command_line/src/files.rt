@@ -133,9 +133,9 @@ pub(crate) fn work_in<S: Start>(
     asked: HostTask,
 ) -> Result<Printed, Fault>
     requires { HoldsSoundHost (image_at S.Start) }
-    ensures { IfOk result (IsWorkedIn ⟦<FileFrom<S> as Disk>⟧ (image_at S.Start) tuning clock asked) }
+    ensures { IfOk result (IsWorkedIn ⟦<FileFrom<S> as Disk>⟧ (image_at S.Start) (string_bytes file.path) tuning clock asked) }
 {
     let FileAt { path, start } = file;
-    let work = work_of(rt, asked)?;
+    let work = work_of(rt, path.as_str(), asked)?;
     Ok(work_in_file(rt, path.as_str(), start, tuning, clock, work)?.into_printed())
 }

@@ -1,6 +1,7 @@
 //! Carries out the command lines of `bucketd`.
 #![tactic(auto)]
 
+mod failure;
 mod files;
 mod input;
 mod lines;
@@ -8,4 +9,5 @@ mod secrets;
 mod telling;
 mod works;
 
+pub use failure::Failure;
 pub use lines::{carry_out, carry_task};

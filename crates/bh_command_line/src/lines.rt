@@ -4,8 +4,9 @@ ghost use Rattle.std.specs.Prelude.{IfOk};
 ghost use Rattle.sqlite_wal.specs.Files.{image_at};
 ghost use Rattle.bh_maintenance.specs.Files.{HoldsSoundHost};
 ghost use Rattle.bh_task.specs.Tasks as tasks;
-ghost use Rattle.bh_command_line.specs.Carrying.{IsMaintained, IsCarriedOut, wary};
+ghost use Rattle.bh_command_line.specs.Carrying.{IsMaintained, IsCarriedOut, IsLineDone, wary};
 
+use crate::failure::Failure;
 use crate::files::{back_up_in, check_in, export_in, import_in, known, make_in, work_in};
 use crate::input::answer_input;
 use crate::telling::tell;
@@ -68,20 +69,20 @@ pub fn carry_task<S: Start, T: Start, U: Start>(
         } => work_in(rt, file, tuning, clock, asked),
         LineTask::Maintain(asked) => maintain(rt, asked),
         LineTask::Tell {
-            port,
+            door,
             secret_file,
             order,
-        } => tell(rt, port, secret_file, order),
+        } => tell(rt, &door, secret_file, order),
     }
 }
 
 /// Carries out a command line, and returns the printed text.
 ///
-/// A subcommand on a file reports the first of these problems. The file can't be opened. It has no
-/// host (`47 NotAHostFile`), or for `init` isn't empty. The clock can't be read, or is too far
-/// ahead. The event is refused.
-pub fn carry_out(rt: &HostRuntime, line: Line) -> Result<Printed, Fault>
-    ensures { IfOk result (IsCarriedOut ⟦<FileFrom<Wary> as Disk>⟧ ⟦<FileFrom<Wary> as Disk>⟧ ⟦<FileFrom<Wary> as Disk>⟧
+/// A subcommand on a file reports the first of these problems. Options don't fit together. The file
+/// can't be opened. It has no host (`47 NotAHostFile`), or for `init` isn't empty. The clock can't
+/// be read, or is too far ahead. The event is refused.
+pub fn carry_out(rt: &HostRuntime, line: Line) -> Result<Printed, Failure>
+    ensures { IfOk result (IsLineDone ⟦<FileFrom<Wary> as Disk>⟧ ⟦<FileFrom<Wary> as Disk>⟧ ⟦<FileFrom<Wary> as Disk>⟧
         (image_at ⟦<Wary as Start>⟧) (image_at ⟦<Wary as Start>⟧) (tasks.task_of wary line)) }
 {
     let starts = Starts {
@@ -89,6 +90,7 @@ pub fn carry_out(rt: &HostRuntime, line: Line) -> Result<Printed, Fault>
         other: Wary,
         made: Wary,
     };
-    let printed = carry_task(rt, task_of(line, starts))?;
+    let task = task_of(line, starts)?;
+    let printed = carry_task(rt, task)?;
     Ok(printed)
 }

@@ -4,18 +4,20 @@ use crate::input::secret_of;
 use crate::secrets::operator_secret;
 use bh_maintenance::fault::Fault;
 use bh_maintenance::printed::Printed;
+use bh_task::Door;
 use bh_words::SecretGiven;
 use std::alloc::{AllocError, Global};
 use std::io;
 use std::io::{Read, Write};
 use std::net::{Ipv4Addr, TcpStream};
+use std::os::unix::net::UnixStream;
 
-/// Sends a line to an operators' port on 127.0.0.1, after a file's secret if one is named, and
-/// prints the reply. It waits for the reply without a time limit. The line `-` means the first line
-/// of standard input.
+/// Sends a line to an operators' door, after a file's secret if one is named, and prints the reply.
+/// It waits for the reply without a time limit. The line `-` means the first line of standard
+/// input.
 pub fn tell(
     rt: &HostRuntime,
-    port: u16,
+    door: &Door,
     secret_file: Option<String>,
     order: String,
 ) -> Result<Printed, Fault> {
@@ -27,7 +29,7 @@ pub fn tell(
         }
         None => line_of(rt.alloc(), None, order.as_str())?,
     };
-    let reply = exchange(rt, port, line.as_slice())?;
+    let reply = exchange(rt, door, line.as_slice())?;
     match reply.as_slice().strip_suffix(b"\n") {
         Some(reply) => Ok(Printed::told(rt.alloc(), reply)?),
         None => Err(Fault::NoReply),
@@ -56,11 +58,28 @@ fn line_of(alloc: Global, secret: Option<&str>, order: &str) -> Result<Vec<u8>, 
     Ok(line)
 }
 
+/// Sends a line to the server at a door, and reads the reply.
+fn exchange(rt: &HostRuntime, door: &Door, line: &[u8]) -> io::Result<Vec<u8>> {
+    match door {
+        Door::Port(port) => {
+            let stream = TcpStream::connect(rt, (Ipv4Addr::LOCALHOST, *port))?;
+            exchange_over(rt.alloc(), stream, line)
+        }
+        Door::Socket(path) => {
+            let stream = UnixStream::connect(rt, path.as_str())?;
+            exchange_over(rt.alloc(), stream, line)
+        }
+    }
+}
+
 /// Sends a line, and reads the reply. No size bounds it: a list of tenants has all of them.
-fn exchange(rt: &HostRuntime, port: u16, line: &[u8]) -> io::Result<Vec<u8>> {
-    let mut stream = TcpStream::connect(rt, (Ipv4Addr::LOCALHOST, port))?;
+fn exchange_over<S: Read + Write + Drop>(
+    alloc: Global,
+    mut stream: S,
+    line: &[u8],
+) -> io::Result<Vec<u8>> {
     stream.write_all(line)?;
-    let mut reply = Vec::new(rt.alloc());
+    let mut reply = Vec::new(alloc);
     stream.read_to_end(&mut reply)?;
     Ok(reply)
 }

@@ -1,10 +1,9 @@
 //! Work on a host, once its secrets were read: before a file is opened, so that no other process
 //! waits for them.
 
-ghost use Rattle.std.specs.Prelude.{◌≡◌, IfOk, is_some, option_map, option_and_then};
-ghost use Rattle.bh_task.specs.declared.line_task.HostTask.TheVariants as the_task;
-ghost use Rattle.bh_commands.specs.declared.asked.OperatorServing.{OperatorServing};
-ghost use Rattle.bh_command_line.specs.Carrying.{IsServing, IsWorkFor};
+ghost use Rattle.std.specs.Prelude.{◌≡◌, IfOk, is_some};
+ghost use Rattle.std.specs.String.{string_bytes};
+ghost use Rattle.bh_command_line.specs.Carrying.{AreServed, IsServing, IsKeyFor, IsWorkFor, spool_name};
 
 use crate::input::secret_of;
 use crate::secrets::operator_secret;
@@ -15,8 +14,28 @@ use bh_maintenance::fault::Fault;
 use bh_task::{HostTask, OperatorGiven, ServeTask, Task};
 use bh_types::names::Secret;
 use bh_words::SecretGiven;
+use std::alloc::{AllocError, Global};
 
-/// The secret of an operators' port, if its file is named.
+/// How the names of files begin that are made while a host serves: in a directory if one is named,
+/// or else beside the host's file.
+fn spool_of(alloc: Global, path: &str, directory: Option<String>) -> Result<String, AllocError>
+    ensures { IfOk result (λ name. string_bytes name ≡ spool_name path.now directory) }
+{
+    match directory {
+        Some(directory) => {
+            let mut name = directory;
+            name.push_str("/spool")?;
+            Ok(name)
+        }
+        None => {
+            let mut name = String::from_str(alloc, path)?;
+            name.push_str(".spool")?;
+            Ok(name)
+        }
+    }
+}
+
+/// The operators' secret, if its file is named.
 fn secret_at(rt: &HostRuntime, path: Option<String>) -> Result<Option<Secret>, Fault>
     ensures { IfOk result (λ secret. is_some secret ≡ is_some path) }
 {
@@ -26,40 +45,47 @@ fn secret_at(rt: &HostRuntime, path: Option<String>) -> Result<Option<Secret>, F
     }
 }
 
-/// The operators' port and secret.
-fn operator_of(rt: &HostRuntime, given: OperatorGiven) -> Result<Option<OperatorServing>, Fault>
-    ensures port { IfOk result (λ serving. option_map (λ (o : OperatorServing). o.port) serving ≡ given.port) }
-    ensures secret { IfOk result (λ serving.
-        is_some (option_and_then (λ (o : OperatorServing). o.secret) serving) ≡ is_some given.secret_file) }
+/// The operators' door and secret.
+fn operator_of(
+    rt: &HostRuntime,
+    given: Option<OperatorGiven>,
+) -> Result<Option<OperatorServing>, Fault>
+    ensures { IfOk result (AreServed given) }
 {
-    let OperatorGiven { port, secret_file } = given;
-    match (port, secret_file) {
-        (None, None) => Ok(None),
-        (None, Some(_)) => Err(Fault::NoOperatorPort),
-        (Some(port), secret_file) => {
+    match given {
+        Some(OperatorGiven { door, secret_file }) => {
             let secret = secret_at(rt, secret_file)?;
-            Ok(Some(OperatorServing { port, secret }))
+            Ok(Some(OperatorServing { door, secret }))
         }
+        None => Ok(None),
     }
 }
 
-/// How a host is served, once the operators' secret was read.
-fn serving_of(rt: &HostRuntime, asked: ServeTask) -> Result<Serving, Fault>
-    ensures { IfOk result (IsServing asked) }
+/// How the host of a file is served, once the operators' secret was read.
+fn serving_of(rt: &HostRuntime, path: &str, asked: ServeTask) -> Result<Serving, Fault>
+    ensures { IfOk result (IsServing path.now asked) }
 {
     let ServeTask {
-        port,
+        door,
+        socket_group,
+        operator,
         count,
         timeout,
         is_logged,
-        operator,
+        connections,
+        spool,
+        clock_step,
     } = asked;
     let operator = operator_of(rt, operator)?;
     Ok(Serving {
-        port,
+        door,
+        socket_group,
         operator,
         count,
         manner: Manner { timeout, is_logged },
+        connections,
+        spool: spool_of(rt.alloc(), path, spool)?,
+        clock_step,
     })
 }
 
@@ -70,7 +96,7 @@ fn key_add(
     name: String,
     secret: SecretGiven,
 ) -> Result<Work, Fault>
-    ensures { IfOk result (IsWorkFor (the_task.KeyAdd tenant name secret)) }
+    ensures { IfOk result (IsKeyFor tenant name secret) }
 {
     let secret = secret_of(rt, secret)?;
     Ok(Work::Command(Task::Command(Command::KeyAdd {
@@ -80,9 +106,9 @@ fn key_add(
     })))
 }
 
-/// The work on a host, once its secrets were read.
-pub(crate) fn work_of(rt: &HostRuntime, asked: HostTask) -> Result<Work, Fault>
-    ensures { IfOk result (IsWorkFor asked) }
+/// The work on the host of a file, once its secrets were read.
+pub(crate) fn work_of(rt: &HostRuntime, path: &str, asked: HostTask) -> Result<Work, Fault>
+    ensures { IfOk result (IsWorkFor path.now asked) }
 {
     match asked {
         HostTask::Order(task) => Ok(Work::Command(task)),
@@ -91,6 +117,6 @@ pub(crate) fn work_of(rt: &HostRuntime, asked: HostTask) -> Result<Work, Fault>
             name,
             secret,
         } => key_add(rt, tenant, name, secret),
-        HostTask::Serve(asked) => Ok(Work::Serve(serving_of(rt, asked)?)),
+        HostTask::Serve(asked) => Ok(Work::Serve(serving_of(rt, path, asked)?)),
     }
 }

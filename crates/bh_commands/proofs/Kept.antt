@@ -12,9 +12,11 @@ use Rattle.bh_memo.proofs.Recalling.{nothing_recalled}
 use Rattle.bh_dispatch.specs.declared.recalling.RecallingStorage.{RecallingStorage}
 use Rattle.bh_dispatch.specs.declared.storage.HostStorage.{HostStorage}
 use Rattle.bh_kept.specs.Kept as kept
+use Rattle.bh_schema.specs.declared.host.Digester as digester
+use Rattle.bh_kept.specs.declared.host.BlockSize as size
 use Rattle.bh_kept.specs.declared.host.KeptHost.{KeptHost}
 
-pub rests_kept : {D G : Type 0} {g : Ghosts D} (digest : Octets → Octets) (first : KeptHost D G g) (host : HostStorage (FileStore D g) G) → first.storage ≡ Some (record { storage = host; memo = nothing })
+pub rests_kept : {D G K : Type 0} {g : Ghosts D} {d : digester.Ghosts G} {k : size.Ghosts K} (digest : Octets → Octets) (first : KeptHost D G K g d k) (host : HostStorage (FileStore D g) G) → first.storage ≡ Some (record { storage = host; memo = nothing })
     → (storage.IsClean over_files host.host → IsAtRest (IsSoundHost digest) (storage.seen over_files host.host))
     → Clean (λ h. kept.IsIntact h.storage) (λ h. kept.IsOpen h.storage) first → IsAtRest (IsSoundHost digest) (kept.seen first.limits first.storage)
 rests_kept {D} {G} {g} digest first host is rest clean =

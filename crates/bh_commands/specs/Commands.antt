@@ -9,14 +9,19 @@ use Rattle.bh_connection.specs.Listening.{WasVisited}
 use Rattle.bh_connection.specs.Visits.{RanFor}
 use Rattle.bh_maintenance.specs.Printing.{IsLine, IsNothing}
 use Rattle.bh_maintenance.specs.declared.printed.Printed.{Printed}
+use Rattle.bh_task.specs.Doors.{socket_in}
 use Rattle.bh_task.specs.Messages.{message_of, ordered_at}
 use Rattle.bh_commands.specs.declared.asked.Serving.{Serving}
 use Rattle.bh_commands.specs.declared.asked.Work.{Work}
 use Rattle.bh_commands.specs.declared.asked.Work.TheVariants as work
 
--- the operators' secret, if there is a port for them and they have one
+-- the operators' secret, if there is a door for them and they have one
 abbrev pub secret_in : Serving → Option (List ℕ)
 secret_in serving = option_and_then (λ o. o.secret) serving.operator
+
+-- the path of the operators' socket, if they have one
+abbrev pub operator_socket_in : Serving → Option (List ℕ)
+operator_socket_in serving = option_and_then (λ o. socket_in o.door) serving.operator
 
 -- ---- work on a storage
 

@@ -1,5 +1,6 @@
 -- A subcommand's effect on the connection of a file, and its printed text.
 use Rattle.std.specs.Prelude.{◌≡◌, ◌⊎◌, ℕ, Bool, true, false, Some, IfSome, codes}
+use Rattle.std.specs.declared.marker.Brand.{Brand}
 use Rattle.sqlite_disk.specs.declared.Disk as disk
 use Rattle.sqlite_store.specs.declared.store.FileStore.{FileStore}
 use Rattle.sqlite.specs.Files.{file_state, over_files}
@@ -26,6 +27,7 @@ use Rattle.bh_memo.specs.Facts.{nothing}
 use Rattle.bh_dispatch.specs.declared.recalling.RecallingStorage.{RecallingStorage}
 use Rattle.bh_dispatch.specs.declared.storage.HostStorage.{HostStorage}
 use Rattle.bh_kept.specs.Kept as kept
+use Rattle.bh_kept.specs.declared.host.BlockSize as size
 use Rattle.bh_kept.specs.declared.host.KeptHost.{KeptHost}
 use Rattle.bh_words.specs.declared.lines.ClockGiven.{ClockGiven}
 use Rattle.bh_maintenance.specs.Endings.{IsLeft}
@@ -84,12 +86,13 @@ module _ {D : Type 0} {g : disk.Ghosts D} where
         ≡ tables_opened (standing (file_state old)).now
     pub rest : storage.IsClean over_files host.host → IsAtRest (IsSoundHost digest) (storage.seen over_files host.host)
 
-  -- the work was done at a reading, all of it, and its connection is left; backups may have closed
-  -- and reopened it, and it wasn't lost over them
-  pub record IsWorkedOn {G : Type 0} (digest : Octets → Octets) (work : Work) (reading : ℕ) (host : HostStorage (FileStore D g) G)
-      (new : Held (FileStore D g)) (printed : Printed) : Type 0 where
-    pub first : KeptHost D G g
-    pub last : KeptHost D G g
+  -- the work was done at a reading, all of it, on a host that cuts bodies into blocks of this size,
+  -- and its connection is left; backups may have closed and reopened it, and it wasn't lost over
+  -- them
+  pub record IsWorkedOn {G K : Type 0} (block : size.Ghosts K) (digest : Octets → Octets) (work : Work) (reading : ℕ)
+      (host : HostStorage (FileStore D g) G) (new : Held (FileStore D g)) (printed : Printed) : Type 0 where
+    pub first : KeptHost D G K g (record { digest_of = digest }) block
+    pub last : KeptHost D G K g (record { digest_of = digest }) block
     pub left_host : RecallingStorage (FileStore D g) G
     pub begun : first.storage ≡ Some (record { storage = host; memo = nothing })
     pub stays : StaysReady (λ h. kept.IsIntact h.storage) (λ h. kept.IsOpen h.storage) (IsSoundHost digest)
@@ -113,12 +116,12 @@ module _ {D : Type 0} {g : disk.Ghosts D} where
     pub left : new ≡ host.host.connection
     pub line : IsFault printed
 
-  -- it is not, and the work was done at that reading
+  -- it is not, and the work was done at that reading; blocks have the size of the host's settings
   pub record IsDone {G : Type 0} (digest : Octets → Octets) (clock : ClockGiven) (work : Work) (host : HostStorage (FileStore D g) G)
       (new : Held (FileStore D g)) (printed : Printed) : Type 0 where
     pub reading : ℕ
     pub reads : Reads clock host reading false
-    pub worked : IsWorkedOn digest work reading host new printed
+    pub worked : IsWorkedOn {K = Brand} (record { size = host.host.cache.tuning.block_size }) digest work reading host new printed
 
   abbrev pub IsWorkedInTime : {G : Type 0} → (Octets → Octets) → ClockGiven → Work → HostStorage (FileStore D g) G → Held (FileStore D g)
       → Printed → Type 0

@@ -8,13 +8,14 @@ ghost use Rattle.bh_task.specs.Messages.{message_of, ordered_at};
 ghost use Rattle.bh_commands.specs.Commands.{IsTold, HasDone, HasServed, StaysReady};
 
 use crate::asked::{Serving, Work};
-use bh_connection::{BackUp, MachineClock, serve_port};
+use bh_connection::{BackUp, MachineClock};
 use bh_host::{Reply, apply};
 use bh_maintenance::fault::Fault;
 use bh_maintenance::printed::Printed;
 use bh_operation::routes::Routes;
 use bh_storage::storage::Storage;
 use bh_task::Task;
+use bh_wires::serve_many;
 use std::alloc::{AllocError, Global};
 
 /// A reply to an operator.
@@ -55,13 +56,14 @@ fn serve<H: BackUp>(
     ensures stays { StaysReady H.IsIntact H.IsOpen H.IsSoundStore H.seen host.old host.new }
     ensures done { IfOk result (HasServed H.IsIntact H.IsOpen H.seen H.left serving host.old host.new) }
 {
-    serve_port(
+    serve_many(
         rt,
         routes,
         host,
         &MachineClock(rt),
         serving.ports(),
         serving.manner,
+        serving.places(),
         serving.count.unwrap_or(u64::MAX),
     )?;
     Ok(Printed::nothing(rt.alloc()))

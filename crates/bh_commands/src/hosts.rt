@@ -19,7 +19,7 @@ use crate::clocks::{leaps, reading_of};
 use crate::commands::do_work;
 use bh_blocks::digester::{FastDigester, Sha256Digester};
 use bh_create::create;
-use bh_kept::KeptHost;
+use bh_kept::{BlockSize, KeptHost};
 use bh_maintenance::ending::{Done, Left, leave};
 use bh_maintenance::fault::Fault;
 use bh_maintenance::hosts::{refused, why_not_found};
@@ -33,6 +33,7 @@ use bh_words::ClockGiven;
 use sqlite::{Alter, Connection, Error, FileStore};
 use sqlite_disk::Disk;
 use std::alloc::{AllocError, Global};
+use std::marker::Brand;
 
 /// Why no host was created in a database.
 fn why_not_made<S: Alter>(
@@ -85,17 +86,19 @@ fn make<S: Alter + Drop>(
     }
 }
 
-/// Does the work on a host at a reading of the clock.
-fn work_on<D: Disk + Drop, G: Digester + Drop>(
+/// Does the work on a host at a reading of the clock. Its blocks have the size of `K`.
+fn work_on<D: Disk + Drop, G: Digester + Drop, K: BlockSize>(
     rt: &HostRuntime,
     host: Host<FileStore<D>, G>,
     reading: u64,
     asked: Work,
 ) -> Result<Done<FileStore<D>>, Fault>
-    requires { IsClean over_files host → IsAtRest (IsSoundHost G.digest_of) (seen over_files host) }
-    ensures { IfOk result (λ done. IsWorkedOn G.digest_of asked reading (record { host = host }) done.connection done.printed) }
+    requires rest { IsClean over_files host → IsAtRest (IsSoundHost G.digest_of) (seen over_files host) }
+    requires size { host.cache.tuning.block_size ≡ K.size }
+    ensures { IfOk result (λ done. IsWorkedOn K.BlockSize G.digest_of asked reading (record { host = host })
+        done.connection done.printed) }
 {
-    let mut kept = KeptHost::new(rt, host);
+    let mut kept = KeptHost::<'_, D, G, K>::new(rt, host);
     let printed = do_work(rt, &mut kept, reading, asked)?;
     match kept.into_connection() {
         Some(connection) => Ok(Done {
@@ -149,7 +152,7 @@ fn work_in_time<D: Disk + Drop, G: Digester + Drop>(
         return Ok(held_back(rt, path, host.into_connection(), ahead)?);
     }
     tell_stamp(rt, path, &asked, latest);
-    Ok(work_on(rt, host, reading, asked)?)
+    Ok(work_on::<D, G, Brand>(rt, host, reading, asked)?)
 }
 
 /// Does the work on an opened database, with the digester of the function that names its blocks.

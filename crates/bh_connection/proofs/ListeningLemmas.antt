@@ -20,7 +20,8 @@ use Rattle.bh_connection.specs.declared.served.End.TheVariants.{ReadFailed}
 use Rattle.bh_connection.specs.declared.served.Served.{Served}
 use Rattle.bh_connection.specs.Operators.{Heard, CutOff, NotHeard, NoOrder, Obeyed, Copied, Obeys}
 use Rattle.bh_connection.specs.Visits.{Visit, OfClient, OfOperator, CameBy, AllCame, IsAdmitted, AllAdmitted, DidBy, DidFor, RanFor, event_of, told_of, event_heard, told_heard}
-use Rattle.bh_connection.specs.Listening.{Call, calls_for, calls_of, HasListened, HasServedAll, IsServed, VisitedAs, WereCounted}
+use Rattle.bh_storage.specs.declared.error.Trouble.{Trouble}
+use Rattle.bh_connection.specs.Listening.{Call, calls_for, calls_of, AllOpen, HasListened, HasServedAll, IsServed, VisitedAs, WereCounted, is_shut, trouble_of}
 use Rattle.bh_connection.proofs.EachLemmas.{ran_stays, ran_applied, ran_back, ran_with, run_alone, ran_no_request, ran_request}
 
 -- one connection more
@@ -39,6 +40,10 @@ all_came-append secret limits (v ∷ visits) visit (first, rest) came = (first, 
 pub admitted_more : (operated : Bool) (visits : List Visit) (visit : Visit) → AllAdmitted operated visits → IsAdmitted operated visit → AllAdmitted operated (visits ++ visit ∷ [])
 admitted_more operated [] visit all one = (one, tt)
 admitted_more operated (v ∷ visits) visit (first, rest) one = (first, admitted_more operated visits visit rest one)
+
+pub open_more : (visits : List Visit) (visit : Visit) → AllOpen visits → is_shut (trouble_of visit) ≡ false → AllOpen (visits ++ visit ∷ [])
+open_more [] visit all one = (one, tt)
+open_more (v ∷ visits) visit (first, rest) one = (first, open_more visits visit rest one)
 
 -- ---- runs
 
@@ -89,11 +94,11 @@ module _ {H C : Type 0} (IsIntact IsOpen : H → Type 0) (seen : H → Seen) (le
 
   pub visited_as : (secret : Option (List ℕ)) (operated : Bool) (a b : Option (List Call)) (caller : Caller) (before after : Ends) (served : Served) (old new : H)
       → (caller ≡ Operator → operated ≡ true) → Logs a b (calls_for caller before after served) → VisitedAs IsIntact IsOpen seen left shows secret caller before after served old new
-      → (visit : Visit) × IsServed IsIntact IsOpen seen left shows secret operated a b old new visit
+      → (visit : Visit) × IsServed IsIntact IsOpen seen left shows secret operated a b old new visit × (trouble_of visit ≡ served.trouble)
   visited_as secret operated a b Request before after served old new admitted calls came =
-      (OfClient (record { before = before; after = after; served = served; outcome = came.outcome }), record { admitted = tt; calls = calls; came = came.came; did = came.did })
+      (OfClient (record { before = before; after = after; served = served; outcome = came.outcome }), record { admitted = tt; calls = calls; came = came.came; did = came.did }, refl)
   visited_as secret operated a b Operator before after served old new admitted calls came =
-      (OfOperator (record { before = before; after = after; served = served; heard = came.heard }), record { admitted = admitted refl; calls = calls; came = came.hears; did = came.obeys })
+      (OfOperator (record { before = before; after = after; served = served; heard = came.heard }), record { admitted = admitted refl; calls = calls; came = came.hears; did = came.obeys }, refl)
 
   -- ---- and what each tenant is told in them
 
@@ -120,7 +125,7 @@ module _ {H C : Type 0} (IsIntact IsOpen : H → Type 0) (seen : H → Seen) (le
         (subst (P (filter_map event_of visits ++ filter_map event_of (visit ∷ []))) (sym (filter_map-append told_of visits (visit ∷ [])))
         (ran_visit (filter_map event_of visits) (filter_map told_of visits) visit old mid new intact (so_far.ran (still intact)) did)))
 
-pub at_err : {X E : Type 0} (result : Result X E) (Q : Type 0) {P : Type 0} → IsErr result → P → MatchResult result (λ _. Q) (λ _. P)
+pub at_err : {X E : Type 0} (result : Result X E) (Q : X → Type 0) {P : Type 0} → IsErr result → P → MatchResult result Q (λ _. P)
 at_err (Ok x) Q failed p = absurd (false≢true failed)
 at_err (Err e) Q failed p = p
 

@@ -1,9 +1,12 @@
 -- The visits of an acceptor, and its calls for them.
-use Rattle.std.specs.Prelude.{◌≡◌, ◌⊎◌, ◌<◌, ◌≤◌, ℕ, Bool, true, false, List, [], ◌∷◌, ◌++◌, length, filter_map, Option, Result}
+use Rattle.std.specs.Prelude.{◌≡◌, ◌⊎◌, ◌<◌, ◌≤◌, ℕ, Bool, true, false, List, [], ◌∷◌, ◌++◌, length, filter_map, Option, Some, Result}
 use Rattle.std.specs.Prelude.{MatchResult, option_map, option_and_then}
 use Rattle.std.specs.List.{flat_map}
 use Rattle.bh_tables.specs.Typed.{Tables}
 use Rattle.bh_storage.specs.Calls.{Seen}
+use Rattle.bh_storage.specs.declared.error.Trouble.{Trouble}
+use Rattle.bh_storage.specs.declared.error.Trouble.TheVariants.{StoreRefused}
+use Rattle.sqlite.specs.declared.error.ErrorCode.TheVariants.{Closed as StoreClosed}
 use Rattle.bh_host.specs.Runs.{RanOn, HasRunOn}
 use Rattle.bh_host.specs.declared.reply.Caller.{Caller}
 use Rattle.bh_host.specs.declared.reply.Caller.TheVariants.{Request, Operator}
@@ -38,6 +41,32 @@ calls_of (OfOperator row) = calls_for Operator row.before row.after row.served
 abbrev pub IsFault : List Call → Type 0
 IsFault calls = (calls ≡ NotAccepted ∷ []) ⊎ ((caller : Caller) × (calls ≡ Accepted caller ∷ ToldNone ∷ []))
 
+-- ---- a store that is shut
+
+-- the failure behind the reply of a visit, if memory or the store failed
+abbrev pub trouble_of : Visit → Option Trouble
+trouble_of (OfClient row) = row.served.trouble
+trouble_of (OfOperator row) = row.served.trouble
+
+-- an earlier failure of the disk has shut the store: each call fails until it is opened again
+abbrev pub is_shut : Option Trouble → Bool
+is_shut (Some (StoreRefused StoreClosed)) = true
+is_shut _ = false
+
+-- none of these met a store that is shut
+abbrev pub AllOpen : List Visit → Type 0
+AllOpen [] = Unit {0}
+AllOpen (visit ∷ visits) = (is_shut (trouble_of visit) ≡ false) × AllOpen visits
+
+-- serving ended with the last of these: the host was lost over a backup, or the store was found
+-- shut. None before it found it so
+pub record HasEnded {H : Type 0} (lost : H → Bool) (new : H) (visits : List Visit) : Type 0 where
+  pub before : List Visit
+  pub last : Visit
+  pub all : visits ≡ before ++ last ∷ []
+  pub going : AllOpen before
+  pub why : (lost new ≡ true) ⊎ (is_shut (trouble_of last) ≡ true)
+
 -- ---- one connection
 
 module _ {H C : Type 0} (IsIntact IsOpen : H → Type 0) (seen : H → Seen) (left : H → Tables → Type 0) (shows : C → Tables → Type 0)
@@ -60,9 +89,10 @@ module _ {H C : Type 0} (IsIntact IsOpen : H → Type 0) (seen : H → Seen) (le
     pub calls : Logs before after fault
     pub same : new ≡ old
 
-  abbrev pub ComesOne : {X E : Type 0} → Bool → Option (List Call) → Option (List Call) → Result X E → H → H → Type 0
+  -- one came and was served, with that failure behind its reply, if any; or there was a fault
+  abbrev pub ComesOne : {E : Type 0} → Bool → Option (List Call) → Option (List Call) → Result (Option Trouble) E → H → H → Type 0
   ComesOne operated before after result old new =
-      MatchResult result (λ _. (visit : Visit) × IsServed operated before after old new visit)
+      MatchResult result (λ trouble. (visit : Visit) × IsServed operated before after old new visit × (trouble_of visit ≡ trouble))
       (λ _. (fault : List Call) × HasFailed before after old new fault)
 
 -- ---- connections in turn
@@ -85,13 +115,14 @@ module _ {H : Type 0} (IsIntact IsOpen : H → Type 0) (seen : H → Seen) (left
       × MatchResult result (λ _. length visits ≡ count) (λ _. length visits ≤ count)
 
   -- `count` connections were served, each that was accepted; or fewer, and then a fault ended it,
-  -- or a backup over which the host was lost. No other call was made
+  -- or a backup over which the host was lost, or the first reply for which the store was found
+  -- shut. No other call was made
   abbrev pub HasListened : {X E : Type 0} → Bool → (H → Bool) → Option (List Call) → Option (List Call) → ℕ → Result X E → H → H → Type 0
   HasListened operated lost before after count result old new =
       (visits : List Visit) × HasServedAll visits old new × AllAdmitted operated visits × MatchResult result
-      (λ _. (length visits ≡ count) × Logs before after (flat_map calls_of visits))
-      (λ _. ((length visits < count) × ((fault : List Call) × IsFault fault × Logs before after (flat_map calls_of visits ++ fault)))
-      ⊎ ((lost new ≡ true) × (length visits ≤ count) × Logs before after (flat_map calls_of visits)))
+      (λ _. (length visits ≡ count) × AllOpen visits × Logs before after (flat_map calls_of visits))
+      (λ _. ((length visits < count) × AllOpen visits × ((fault : List Call) × IsFault fault × Logs before after (flat_map calls_of visits ++ fault)))
+      ⊎ (HasEnded lost new visits × (length visits ≤ count) × Logs before after (flat_map calls_of visits)))
 
   -- a host that was lost was served up to some visit
   abbrev pub WasLost : {C : Type 0} → (C → Tables → Type 0) → (H → Bool) → H → H → Type 0

@@ -2,6 +2,7 @@ ghost use Rattle.std.specs.Prelude.{◌≡◌, is_some, option_map};
 ghost use Rattle.bh_storage.specs.Calls.{Clean, IsAtRest};
 ghost use Rattle.bh_host.specs.Resting.{StaysAtRest};
 ghost use Rattle.bh_connection.specs.Each.{IsGoing, ends};
+ghost use Rattle.bh_connection.specs.Listening as spec;
 ghost use Rattle.bh_connection.specs.Listening.{ComesOne, HasListened, VisitedAs, WasLost, WasVisited, WereCounted, secret_of};
 ghost use Rattle.bh_connection.specs.Visits.{DidFor, RanFor, secret_at};
 
@@ -17,6 +18,8 @@ use crate::sockets::{Manner, Sockets};
 use bh_host::Caller;
 use bh_link::ends::{Sink, Source};
 use bh_operation::routes::Routes;
+use bh_storage::error::Trouble;
+use sqlite::ErrorCode;
 use std::alloc::Global;
 use std::cell::RefCell;
 use std::io;
@@ -25,6 +28,9 @@ use std::net::{Ipv4Addr, Net, TcpListener, TcpStream};
 
 /// Why serving ends after a backup over which the host was lost.
 const LOST: &str = "the host is no longer open";
+
+/// Why serving ends once an earlier failure of the disk has shut the store.
+const SHUT: &str = "the disk failed, and the host is shut until it is opened again";
 
 /// The port on 127.0.0.1 for operators.
 #[derive(Clone, Copy)]
@@ -163,7 +169,8 @@ pub fn serve_listener<E: Eprint + AllocGlobal, H: BackUp, C: Clock>(
 /// an operator's as a line, which begins with the secret if there is one. The clock is read after
 /// each accept, and each connection is closed before the next accept. A fault of an accept or of
 /// the clock ends it, and nothing is done after it. So does a backup over which the host is lost,
-/// once it was answered.
+/// once it was answered, and the first reply for which the store is found shut: whoever opens the
+/// host again has all that was acknowledged.
 pub fn serve_from<H: BackUp, A: Acceptor>(
     alloc: Global,
     routes: &Routes,
@@ -180,22 +187,33 @@ pub fn serve_from<H: BackUp, A: Acceptor>(
         (A.operated acceptor.old) H.lost (A.calls acceptor.old) (A.calls acceptor.new) count result host.old host.new }
 {
     for served in 0..count {
-        serve_next(alloc, routes, host, acceptor, secret)?;
+        let trouble = serve_next(alloc, routes, host, acceptor, secret)?;
         if host.is_lost() {
             return Err(io::Error::new(ErrorKind::Other, LOST));
+        }
+        if is_shut(trouble) {
+            return Err(io::Error::new(ErrorKind::Other, SHUT));
         }
     }
     Ok(())
 }
 
-/// Serves the next connection of an acceptor.
+/// Whether an earlier failure of the disk has shut the store, by the failure behind a reply.
+fn is_shut(trouble: Option<Trouble>) -> bool
+    ensures { result ≡ spec.is_shut trouble }
+{
+    matches!(trouble, Some(Trouble::StoreRefused(ErrorCode::Closed)))
+}
+
+/// Serves the next connection of an acceptor. Returns the failure behind its reply, if memory or
+/// the store failed.
 fn serve_next<H: BackUp, A: Acceptor>(
     alloc: Global,
     routes: &Routes,
     host: &mut H,
     acceptor: &mut A,
     secret: Option<&[u8]>,
-) -> io::Result<()>
+) -> io::Result<Option<Trouble>>
     requires { Clean H.IsIntact H.IsOpen host.old → IsAtRest H.IsSoundStore (H.seen host.old) }
     ensures stays { StaysAtRest H.IsIntact H.IsOpen H.IsSoundStore H.seen H.left host.old host.new }
     ensures operated { A.operated acceptor.new ≡ A.operated acceptor.old }
@@ -207,8 +225,9 @@ fn serve_next<H: BackUp, A: Acceptor>(
     let reading = acceptor.seconds()?;
     let mut arrival = acceptor.open(reading);
     let served = serve_visit(alloc, routes, host, secret, caller, &mut arrival);
+    let trouble = served.trouble;
     acceptor.close(arrival, served);
-    Ok(())
+    Ok(trouble)
 }
 
 /// Serves one connection, as a client's or an operator's.

@@ -1,35 +1,59 @@
 -- A call on a host that is kept is one on it.
-use Rattle.std.proofs.Common.{◌≡◌, Some, Result, OnOk, sym, subst}
+use Rattle.std.proofs.Common.{◌≡◌, ℕ, Option, Some, IfSome, Result, OnOk, sym, subst}
 use Rattle.sqlite_disk.specs.declared.Disk.{Ghosts}
 use Rattle.sqlite_store.specs.declared.store.FileStore.{FileStore}
 use Rattle.sqlite.specs.Files.{over_files}
+use Rattle.bh_http.specs.Bodies.{Coming}
+use Rattle.bh_types.specs.Limits.{HostTuning}
+use Rattle.bh_model.specs.State.{Octets}
+use Rattle.bh_operation.specs.declared.operation.Operation.{Operation}
 use Rattle.bh_tables.specs.Typed.{Tables}
-use Rattle.bh_storage.specs.Calls.{Within, StaysAtWork}
+use Rattle.bh_storage.specs.Calls.{Within, StaysAtWork, IsWorking}
+use Rattle.bh_storage.specs.declared.error.Outcome.{Outcome}
+use Rattle.bh_storage.specs.declared.error.StepError.{StepError}
 use Rattle.bh_schema.specs.Storage as storage
+use Rattle.bh_schema.specs.declared.host.Digester as digester
 use Rattle.bh_dispatch.specs.Seeing as recalling
 use Rattle.bh_dispatch.specs.declared.recalling.RecallingStorage.{RecallingStorage}
+use Rattle.bh_dispatch.specs.Stored.{CutsBody}
+use Rattle.bh_kept.specs.Cutting.{Cuts}
 use Rattle.bh_kept.specs.Kept as kept
+use Rattle.bh_kept.specs.declared.host.BlockSize as size
 use Rattle.bh_kept.specs.declared.host.KeptHost.{KeptHost}
 
-module _ {D G : Type 0} {g : Ghosts D} (old : KeptHost D G g) (a b : RecallingStorage (FileStore D g) G) (was : old.storage ≡ Some a) where
-  -- what holds where it is this host holds
-  by_kept : (P : KeptHost D G g → Type 0) → P (record old { storage = Some a }) → P old
-  by_kept P h = subst (λ o. P (record old { storage = o })) (sym was) h
+-- the host before a call and after it, and what it holds
+module _ {D G K : Type 0} {g : Ghosts D} {d : digester.Ghosts G} {k : size.Ghosts K} (old new : KeptHost D G K g d k) (a b : RecallingStorage (FileStore D g) G) (was : old.storage ≡ Some a) (is : new.storage ≡ Some b) where
+  both_kept : (P : Option (RecallingStorage (FileStore D g) G) → Option (RecallingStorage (FileStore D g) G) → Type 0) → P (Some a) (Some b) → P old.storage new.storage
+  both_kept P h = subst (λ o. P o new.storage) (sym was) (subst (λ n. P (Some a) n) (sym is) h)
 
   pub within_kept : Within (λ (h : RecallingStorage (FileStore D g) G). storage.IsIntact over_files h.storage.host) (λ h. storage.IsOpen over_files h.storage.host) (λ h. recalling.seen over_files h) (λ h. storage.left over_files h.storage.host) a b
-      → Within (λ (h : KeptHost D G g). kept.IsIntact h.storage) (λ h. kept.IsOpen h.storage) (λ h. kept.seen h.limits h.storage) (λ h. kept.left h.storage) old (record old { storage = Some b })
-  within_kept w =
-      by_kept (λ h. Within (λ (h : KeptHost D G g). kept.IsIntact h.storage) (λ h. kept.IsOpen h.storage) (λ h. kept.seen h.limits h.storage) (λ h. kept.left h.storage) h (record old { storage = Some b }))
-      (record { intact = w.intact; opened = w.opened; survives = w.survives; kept = w.kept; limits = w.limits })
+      → Within (λ (h : KeptHost D G K g d k). kept.IsIntact h.storage) (λ h. kept.IsOpen h.storage) (λ h. kept.seen h.limits h.storage) (λ h. kept.left h.storage) old new
+  within_kept w = record {
+    intact = both_kept (λ o n. kept.IsIntact n → kept.IsIntact o) w.intact;
+    opened = both_kept (λ o n. kept.IsIntact n → kept.IsOpen n → kept.IsOpen o) w.opened;
+    survives = both_kept (λ o n. kept.IsOpen o → kept.IsIntact n → (x : Tables) → kept.left n x → kept.left o x) w.survives;
+    kept = both_kept (λ o n. kept.IsIntact n × kept.IsOpen n → (kept.seen new.limits n).kept ≡ (kept.seen old.limits o).kept) w.kept;
+    limits = both_kept (λ o n. (kept.seen new.limits n).limits ≡ (kept.seen old.limits o).limits) w.limits;
+  }
 
   pub at_work_kept : (IsSound : Tables → Type 0) (Done : Type 0 → Type 0)
       → StaysAtWork (λ (h : RecallingStorage (FileStore D g) G). storage.IsIntact over_files h.storage.host) (λ h. storage.IsOpen over_files h.storage.host) IsSound (λ h. recalling.seen over_files h) (λ h. storage.left over_files h.storage.host) Done a b
-      → StaysAtWork (λ (h : KeptHost D G g). kept.IsIntact h.storage) (λ h. kept.IsOpen h.storage) IsSound (λ h. kept.seen h.limits h.storage) (λ h. kept.left h.storage) Done old (record old { storage = Some b })
+      → StaysAtWork (λ (h : KeptHost D G K g d k). kept.IsIntact h.storage) (λ h. kept.IsOpen h.storage) IsSound (λ h. kept.seen h.limits h.storage) (λ h. kept.left h.storage) Done old new
   at_work_kept IsSound Done s = record {
     within = within_kept s.within;
-    opens = subst (λ o. Done (kept.IsOpen o → storage.IsIntact over_files b.storage.host → storage.IsOpen over_files b.storage.host)) (sym was) s.opens;
-    working = s.working;
+    opens = both_kept (λ o n. Done (kept.IsOpen o → kept.IsIntact n → kept.IsOpen n)) s.opens;
+    working = both_kept (λ o n. Done (kept.IsIntact n × kept.IsOpen n → IsWorking IsSound (kept.seen new.limits n))) s.working;
   }
 
+module _ {D G K : Type 0} {g : Ghosts D} {d : digester.Ghosts G} {k : size.Ghosts K} (old : KeptHost D G K g d k) (a b : RecallingStorage (FileStore D g) G) (was : old.storage ≡ Some a) where
   pub opens_kept : {X E : Type 0} (result : Result X E) (B : Type 0) → OnOk result (storage.IsOpen over_files a.storage.host → B) → OnOk result (kept.IsOpen old.storage → B)
   opens_kept result B h = subst (λ o. OnOk result (kept.IsOpen o → B)) (sym was) h
+
+  pub cuts_kept : {X E : Type 0} (digest : Octets → Octets) (size : ℕ) (operation : Operation) (before after : Coming) (result : Result (Outcome X E) (StepError E))
+      → CutsBody over_files digest size operation before after a.storage.host.connection b.storage.host.connection result → Cuts digest size operation before after old.storage (Some b) result
+  cuts_kept digest size operation before after result h =
+      subst (λ o. IfSome o (λ (a : RecallingStorage (FileStore D g) G). CutsBody over_files digest size operation before after a.storage.host.connection b.storage.host.connection result)) (sym was) h
+
+-- a host that was closed and opened again with its settings has them
+pub tuned_kept : {D G : Type 0} {g : Ghosts D} (was : Option (RecallingStorage (FileStore D g) G)) (a : RecallingStorage (FileStore D g) G) (tuning : HostTuning) → was ≡ Some a → tuning ≡ a.storage.host.cache.tuning → IfSome was (λ it. tuning ≡ it.storage.host.cache.tuning)
+tuned_kept {D} {G} {g} was a tuning is same = subst (λ o. IfSome o (λ (it : RecallingStorage (FileStore D g) G). tuning ≡ it.storage.host.cache.tuning)) (sym is) same

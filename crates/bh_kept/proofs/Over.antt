@@ -11,10 +11,12 @@ use Rattle.bh_view.specs.Bodies.{IsSoundHost}
 use Rattle.bh_storage.specs.Calls.{IsAtRest}
 use Rattle.bh_memo.proofs.Recalling.{rests_alone}
 use Rattle.bh_schema.specs.Storage as host
+use Rattle.bh_schema.specs.declared.host.Digester as digester
 use Rattle.bh_dispatch.specs.Seeing as recalling
 use Rattle.bh_dispatch.specs.declared.recalling.RecallingStorage.{RecallingStorage}
 use Rattle.bh_kept.specs.Kept as kept
 use Rattle.bh_kept.specs.Over.{StandsOver}
+use Rattle.bh_kept.specs.declared.host.BlockSize as size
 use Rattle.bh_kept.specs.declared.host.KeptHost.{KeptHost}
 
 module _ {D G : Type 0} {g : Ghosts D} (digest : Octets → Octets) (it : RecallingStorage (FileStore D g) G) where
@@ -25,8 +27,8 @@ module _ {D G : Type 0} {g : Ghosts D} (digest : Octets → Octets) (it : Recall
       (λ r. host.left over_files r.storage.host) it it.storage.host
   recalling_over = record { intact = (λ i. i, λ i. i); opened = (λ o. o, λ o. o); leaves = λ x. (λ l. l, λ l. l); same = same_recalled }
 
-  pub kept_over : (h : KeptHost D G g) → h.storage ≡ Some it
-      → StandsOver (λ (k : KeptHost D G g). kept.IsIntact k.storage) (λ k. kept.IsOpen k.storage) (IsSoundHost digest) (λ k. kept.seen k.limits k.storage) (λ k. kept.left k.storage) h it.storage.host
+  pub kept_over : {K : Type 0} {d : digester.Ghosts G} {k : size.Ghosts K} (h : KeptHost D G K g d k) → h.storage ≡ Some it
+      → StandsOver (λ (o : KeptHost D G K g d k). kept.IsIntact o.storage) (λ o. kept.IsOpen o.storage) (IsSoundHost digest) (λ o. kept.seen o.limits o.storage) (λ o. kept.left o.storage) h it.storage.host
   kept_over h is = record {
     intact = subst (λ o. kept.IsIntact o ↔ host.IsIntact over_files it.storage.host) (sym is) (λ i. i, λ i. i);
     opened = subst (λ o. kept.IsOpen o ↔ host.IsOpen over_files it.storage.host) (sym is) (λ o. o, λ o. o);

@@ -1,3 +1,4 @@
 pub mod Closings
+pub mod Cutting
 pub mod Kept
 pub mod Over

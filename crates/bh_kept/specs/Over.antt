@@ -7,8 +7,10 @@ use Rattle.bh_tables.specs.Typed.{Tables}
 use Rattle.bh_storage.specs.Calls.{Seen, IsAtRest}
 use Rattle.bh_storage.specs.declared.storage.Storage.{Ghosts}
 use Rattle.bh_schema.specs.Storage as host
+use Rattle.bh_schema.specs.declared.host.Digester as digester
 use Rattle.bh_schema.specs.declared.host.Host.{Host}
 use Rattle.bh_dispatch.specs.declared.recalling.RecallingStorage.{RecallingStorage}
+use Rattle.bh_kept.specs.declared.host.BlockSize as size
 use Rattle.bh_kept.specs.declared.host.KeptHost.{KeptHost}
 
 module _ {D G H : Type 0} {g : disk.Ghosts D} (IsIntact IsOpen : H → Type 0) (IsSound : Tables → Type 0) (seen : H → Seen)
@@ -28,6 +30,6 @@ module _ {D G : Type 0} {g : disk.Ghosts D} where
       → StandsOver s.IsIntact s.IsOpen s.IsSoundStore s.seen s.left it it.storage.host
 
   -- a host that is served, unless it was lost
-  abbrev pub KeptStandsOver : Ghosts (KeptHost D G g) → Type 0
-  KeptStandsOver s = (kept : KeptHost D G g) (it : RecallingStorage (FileStore D g) G)
+  abbrev pub KeptStandsOver : {K : Type 0} {d : digester.Ghosts G} {k : size.Ghosts K} → Ghosts (KeptHost D G K g d k) → Type 0
+  KeptStandsOver {K} {d} {k} s = (kept : KeptHost D G K g d k) (it : RecallingStorage (FileStore D g) G)
       → kept.storage ≡ Some it → StandsOver s.IsIntact s.IsOpen s.IsSoundStore s.seen s.left kept it.storage.host

@@ -1,6 +1,6 @@
 //! A host in files, for as long as it can be opened.
 
-ghost use Rattle.std.specs.Prelude.{◌≡◌, Some, option_map};
+ghost use Rattle.std.specs.Prelude.{◌≡◌, ◌≤◌, ℕ, Some, option_map};
 ghost use Rattle.bh_memo.specs.Facts.{nothing};
 
 use bh_dispatch::recalling::RecallingStorage;
@@ -8,25 +8,46 @@ use bh_schema::host::{Digester, Host};
 use bh_types::limits::Limits;
 use sqlite::{Connection, FileStore};
 use sqlite_disk::Disk;
+use std::marker::{Brand, PhantomData};
 
-/// A host in files. A backup closes them; if the host can't be reopened then, it is lost.
+/// The size of blocks in bytes, as a type: a host of this type can't change it.
+pub trait BlockSize {
+    ghost size: { ℕ };
+}
+
+/// A call with this type chooses the size.
+impl BlockSize for Brand {
+    ghost size = { 1 };
+}
+
+/// A host in files. A backup closes them; if the host can't be reopened then, it is lost. All bodies
+/// are cut into blocks of the size of `K`.
 #[derive(Drop)]
-pub struct KeptHost<'a, D: Disk + Drop, G: Digester + Drop> {
+pub struct KeptHost<'a, D: Disk + Drop, G: Digester + Drop, K: BlockSize> {
     pub(crate) rt: &'a HostRuntime,
     /// The host, until it is lost.
     pub storage: Option<RecallingStorage<FileStore<D>, G>>,
     /// The limits that it was created with.
     pub limits: Limits,
+    pub(crate) block_size: u64,
+    pub(crate) size: PhantomData<K>,
+    ghost size_is: { block_size ≡ K.size },
+    ghost size_positive: { 1 ≤ block_size },
 }
 
-impl<'a, D: Disk + Drop, G: Digester + Drop> KeptHost<'a, D, G> {
-    pub fn new(rt: &'a HostRuntime, host: Host<FileStore<D>, G>) -> KeptHost<'a, D, G>
+impl<'a, D: Disk + Drop, G: Digester + Drop, K: BlockSize> KeptHost<'a, D, G, K> {
+    /// A host that is in its files, with the block size of its settings.
+    pub fn new(rt: &'a HostRuntime, host: Host<FileStore<D>, G>) -> KeptHost<'a, D, G, K>
+        requires { host.cache.tuning.block_size ≡ K.size }
         ensures { result.storage ≡ Some (record { storage = record { host = host }; memo = nothing }) }
     {
+        let tuning = host.cache.tuning();
         KeptHost {
             rt,
             limits: host.limits,
             storage: Some(RecallingStorage::new(rt.alloc(), host)),
+            block_size: tuning.block_size,
+            size: PhantomData,
         }
     }
 
@@ -38,6 +59,8 @@ impl<'a, D: Disk + Drop, G: Digester + Drop> KeptHost<'a, D, G> {
             rt: _,
             storage,
             limits: _,
+            block_size: _,
+            size: _,
         } = self;
         match storage {
             Some(kept) => Some(kept.storage.host.into_connection()),

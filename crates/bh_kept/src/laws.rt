@@ -3,7 +3,7 @@
 
 ghost use Rattle.bh_kept.specs.Over.{RecallingStandsOver, KeptStandsOver};
 
-use crate::host::KeptHost;
+use crate::host::{BlockSize, KeptHost};
 use bh_dispatch::recalling::RecallingStorage;
 use bh_schema::host::Digester;
 use bh_storage::storage::Storage;
@@ -12,7 +12,7 @@ use sqlite_disk::Disk;
 
 /// A storage that remembers facts and one that is served stand over their host: a crash leaves of
 /// them what it may leave of the host, and at rest they show what the host shows.
-pub fn stands_over<'a, D: Disk + Drop, G: Digester + Drop>()
+pub fn stands_over<'a, D: Disk + Drop, G: Digester + Drop, K: BlockSize>()
     ensures recalling { RecallingStandsOver ⟦<RecallingStorage<FileStore<D>, G> as Storage>⟧ }
-    ensures kept { KeptStandsOver ⟦<KeptHost<'a, D, G> as Storage>⟧ }
+    ensures kept { KeptStandsOver ⟦<KeptHost<'a, D, G, K> as Storage>⟧ }
 {}

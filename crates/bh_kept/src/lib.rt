@@ -10,4 +10,4 @@ mod storage;
 
 pub use closing::{Unclosed, close};
 pub use copying::{CopiedHost, copy_and_open};
-pub use host::KeptHost;
+pub use host::{BlockSize, KeptHost};

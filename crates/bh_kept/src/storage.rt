@@ -1,5 +1,16 @@
+ghost use Rattle.std.specs.Prelude.{◌≡◌, ◌≤◌, None, IfSome};
+ghost use Rattle.bh_machine.specs.Machine.{operated};
+ghost use Rattle.bh_view.specs.Bodies.{IsSoundHost};
+ghost use Rattle.bh_view.specs.View.{latest_of};
+ghost use Rattle.bh_storage.specs.Answers.{offer_view};
+ghost use Rattle.bh_storage.specs.Calls.{Clean, IsWorking, IsAtRest, StaysAtWork, UnlessSpoilt, Operates};
+ghost use Rattle.bh_storage.specs.Plans.{IfPlanned, IsMeasured};
+ghost use Rattle.bh_connection.specs.Connections.{IsTakenBack};
+ghost use Rattle.bh_kept.specs.Kept as kept;
+ghost use Rattle.bh_kept.specs.Cutting.{Cuts, KeepsTuning};
+
 use crate::copying::{CopiedHost, CopyFile, copy_and_open};
-use crate::host::KeptHost;
+use crate::host::{BlockSize, KeptHost};
 use bh_cache::blocks::BlockCache;
 use bh_connection::BackUp;
 use bh_dispatch::recalling::RecallingStorage;
@@ -25,10 +36,7 @@ use sqlite_disk::Disk;
 use std::alloc::Global;
 
 /// Each call is the host's. After the host was lost, each call fails as if the store had failed.
-impl<'a, D: Disk + Drop, G: Digester + Drop> Storage for KeptHost<'a, D, G> {
-    ghost use Rattle.bh_kept.specs.Kept as kept;
-    ghost use Rattle.bh_view.specs.Bodies.{IsSoundHost};
-
+impl<'a, D: Disk + Drop, G: Digester + Drop, K: BlockSize> Storage for KeptHost<'a, D, G, K> {
     ghost seen = { λ h. kept.seen h.limits h.storage };
 
     ghost IsIntact = { λ h. kept.IsIntact h.storage };
@@ -100,9 +108,26 @@ impl<'a, D: Disk + Drop, G: Digester + Drop> Storage for KeptHost<'a, D, G> {
         at: Moment,
         operation: &Operation,
         body: &mut B,
-    ) -> Result<Outcome<Offer, Rejection>, StepError<Rejection>> {
+    ) -> Result<Outcome<Offer, Rejection>, StepError<Rejection>>
+        requires going { (B.coming body.old).broken ≡ None }
+        requires working { Clean (λ h. kept.IsIntact h.storage) (λ h. kept.IsOpen h.storage) self.old
+            → IsWorking (IsSoundHost G.digest_of) (kept.seen self.old.limits self.old.storage) }
+        requires early { Clean (λ h. kept.IsIntact h.storage) (λ h. kept.IsOpen h.storage) self.old
+            → at ≤ latest_of (kept.seen self.old.limits self.old.storage).now }
+        ensures goes_on { StaysAtWork (λ h. kept.IsIntact h.storage) (λ h. kept.IsOpen h.storage) (IsSoundHost G.digest_of)
+            (λ h. kept.seen h.limits h.storage) (λ h. kept.left h.storage) (UnlessSpoilt result) self.old self.new }
+        ensures operates { Operates (offer_view (kept.seen self.new.limits self.new.storage).now) tenant.now
+            (λ given. operated (kept.seen self.old.limits self.old.storage).limits at given operation.now)
+            (Clean (λ h. kept.IsIntact h.storage) (λ h. kept.IsOpen h.storage) self.new) (B.coming body.old) (B.coming body.new)
+            (kept.seen self.old.limits self.old.storage).now (kept.seen self.new.limits self.new.storage).now result }
+        ensures measured { IfPlanned result (λ found. Clean (λ h. kept.IsIntact h.storage) (λ h. kept.IsOpen h.storage) self.new
+            → IsMeasured (kept.seen self.new.limits self.new.storage).now found) }
+        ensures cuts { Cuts G.digest_of K.size operation.now (B.coming body.old) (B.coming body.new)
+            self.old.storage self.new.storage result }
+    {
+        let size = self.block_size;
         match &mut self.storage {
-            Some(storage) => storage.operate(alloc, tenant, at, operation, body),
+            Some(storage) => storage.operate_in_blocks(size, alloc, tenant, at, operation, body),
             None => Err(StepError::Failed(Trouble::Store)),
         }
     }
@@ -147,9 +172,7 @@ impl<'a, D: Disk + Drop, G: Digester + Drop> Storage for KeptHost<'a, D, G> {
     }
 }
 
-impl<'a, D: Disk + Drop, G: Digester + Drop> BackUp for KeptHost<'a, D, G> {
-    ghost use Rattle.bh_kept.specs.Kept as kept;
-
+impl<'a, D: Disk + Drop, G: Digester + Drop, K: BlockSize> BackUp for KeptHost<'a, D, G, K> {
     type Copy = CopyFile;
 
     ghost shows = { kept.Shows ⟦<FileFrom<Wary> as Disk>⟧ };
@@ -160,7 +183,19 @@ impl<'a, D: Disk + Drop, G: Digester + Drop> BackUp for KeptHost<'a, D, G> {
         self.storage.is_none()
     }
 
-    fn back_up(&mut self, to: &str) -> Option<CopyFile> {
+    fn back_up(&mut self, to: &str) -> Option<CopyFile>
+        requires { Clean (λ h. kept.IsIntact h.storage) (λ h. kept.IsOpen h.storage) self.old
+            → IsAtRest (IsSoundHost G.digest_of) (kept.seen self.old.limits self.old.storage) }
+        ensures intact { kept.IsIntact self.new.storage → kept.IsIntact self.old.storage }
+        ensures stays { IsTakenBack (λ h. kept.IsIntact h.storage) (λ h. kept.IsOpen h.storage) (λ h. kept.seen h.limits h.storage)
+            (λ h. kept.left h.storage) self.old self.new }
+        ensures ready { Clean (λ h. kept.IsIntact h.storage) (λ h. kept.IsOpen h.storage) self.new
+            → IsAtRest (IsSoundHost G.digest_of) (kept.seen self.new.limits self.new.storage) }
+        ensures limits { (kept.seen self.new.limits self.new.storage).limits ≡ (kept.seen self.old.limits self.old.storage).limits }
+        ensures copied { IfSome result (λ copy. kept.IsIntact self.new.storage
+            → kept.Shows ⟦<FileFrom<Wary> as Disk>⟧ copy (kept.seen self.old.limits self.old.storage).now) }
+        ensures tuned { KeepsTuning self.old.storage self.new.storage }
+    {
         let RecallingStorage { storage, memo: _ } = self.storage.take()?;
         let HostStorage { host } = storage;
         let Host {

@@ -62,8 +62,6 @@ pub enum Fault {
     Output,
     /// The file of this path has no usable operator's secret.
     Secret { path: String, reason: SecretFault },
-    /// A file of an operator's secret was given without a port for operators.
-    NoOperatorPort,
     /// A host that was closed for a backup could not be reopened.
     LostHost,
     /// A server closed the connection before it replied to a line.
@@ -73,7 +71,7 @@ pub enum Fault {
 impl Fault {
     /// Whether the command line is invalid, as if its parser had refused it.
     pub fn is_in_words(&self) -> bool {
-        matches!(self, Fault::UnknownDigest | Fault::NoOperatorPort)
+        matches!(self, Fault::UnknownDigest)
     }
 
     /// The error that the file of a path can't be opened.
@@ -128,9 +126,6 @@ impl fmt::Display for Fault {
             Fault::Secret { path, reason } => write!(
                 f,
                 "unable to read a secret from {path}: {reason}"
-            ),
-            Fault::NoOperatorPort => f.write_str(
-                "error: '--operator-secret-file <operator-secret-file>' needs '--operator-port <operator-port>'\n\nFor more information, try '--help'.\n",
             ),
             Fault::LostHost => f.write_str("the host is no longer open"),
             Fault::NoReply => f.write_str("the server closed the connection without a reply"),

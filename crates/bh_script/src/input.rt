@@ -1,14 +1,10 @@
-ghost use Rattle.std.specs.Prelude.{◌≡◌, ◌++◌, ℕ, List, length, map, vec_items, IfOk};
+ghost use Rattle.std.specs.Prelude.{◌≡◌, ◌++◌, ℕ, List, length, vec_items, IfOk};
 ghost use Rattle.std.specs.Option.{option_map};
 ghost use Rattle.std.specs.Io.KnownBytes.{Consumes, IsAtEnd};
-ghost use Rattle.bh_event.specs.Events.{arrival};
 ghost use Rattle.bh_script.specs.Input.{ReadsAll};
-ghost use Rattle.bh_script.specs.Lines.{events_of, bad_line_of};
 
-use bh_event::event::Event;
-use bh_event::flaw::{Flaw, flaw_of};
-use bh_event::line::read_line;
-use std::alloc::{AllocError, Global};
+use bh_event::flaw::Flaw;
+use std::alloc::Global;
 use std::io;
 use std::io::Read;
 
@@ -20,13 +16,6 @@ const GREATEST_SCRIPT: usize = 1 << 26;
 pub struct BadLine {
     pub number: usize,
     pub flaw: Flaw,
-}
-
-/// A script: the events before the first invalid line, and that line.
-#[derive(Drop)]
-pub struct Script {
-    pub events: Vec<Event>,
-    pub bad_line: Option<BadLine>,
 }
 
 /// All bytes of a reader, or `None` if they are more than a script may have.
@@ -55,30 +44,4 @@ fn read_piece<R: Read>(reader: &mut R, bytes: &mut Vec<u8>) -> io::Result<usize>
     let count = reader.read(&mut room)?;
     bytes.extend_from_slice(&room[..count])?;
     Ok(count)
-}
-
-/// The script in these bytes, a line each; empty lines are skipped.
-pub fn read_script(alloc: Global, bytes: &[u8]) -> Result<Script, AllocError>
-    ensures events { IfOk result (λ script. map arrival script.events.items ≡ events_of bytes.now) }
-    ensures bad_line { IfOk result (λ script. script.bad_line ≡ bad_line_of bytes.now) }
-{
-    let mut events = Vec::new(alloc);
-    for (index, line) in bytes.split(|b| *b == b'\n').enumerate() {
-        if line.is_empty() {
-            continue;
-        }
-        match read_line(alloc, line)? {
-            Some(event) => events.push(event)?,
-            None => {
-                let number = index.saturating_add(1);
-                let flaw = flaw_of(alloc, line)?;
-                let bad_line = Some(BadLine { number, flaw });
-                return Ok(Script { events, bad_line });
-            }
-        }
-    }
-    Ok(Script {
-        events,
-        bad_line: None,
-    })
 }

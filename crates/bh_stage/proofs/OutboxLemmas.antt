@@ -1,5 +1,5 @@
 -- What an answer was told is what went out and what waits.
-use Rattle.std.proofs.Common.{◌≡◌, ℕ, ◌+◌, ◌≤◌, List, [], ◌++◌, length, take, drop, take-append-drop, append_assoc, sym, ap, ◌∙◌, arith}
+use Rattle.std.proofs.Common.{◌≡◌, ℕ, ◌+◌, ◌≤◌, List, [], ◌++◌, length, take, drop, take-append-drop, append_assoc, append-nil, sym, ap, ◌∙◌, arith}
 use Rattle.std.proofs.lemmas.List.{drop-drop, take-take, drop-append-le, drop_all}
 
 -- the first n of these bytes, of which k were copied, went out
@@ -34,3 +34,14 @@ pub told_after : (told after taken held longer more : List ℕ) (s : ℕ) → to
     → after ≡ taken ++ drop s longer
 told_after told after taken held longer more s all le is more_held =
     is ∙ told_more told taken held more s all le ∙ ap (λ x. taken ++ drop s x) (sym more_held)
+
+-- the first n bytes, of which k were copied
+pub front_of : (piece bytes : List ℕ) (n k : ℕ) → take k piece ≡ take k bytes → n ≤ k → take n piece ≡ take n bytes
+front_of piece bytes n k same le = sym (take-take n k piece le) ∙ ap (take n) same ∙ take-take n k bytes le
+
+-- more is told and went out, where nothing waits
+pub passed : (told taken after now held more : List ℕ) (s : ℕ) → told ≡ taken ++ drop s held → length held ≤ s → now ≡ taken ++ more → after ≡ told ++ more
+    → after ≡ now ++ drop s held
+passed told taken after now held more s all le went is =
+    let none = drop_all s held le in
+    is ∙ ap (λ x. x ++ more) (all ∙ ap (λ x. taken ++ x) none ∙ append-nil taken) ∙ sym went ∙ sym (ap (λ x. now ++ x) none ∙ append-nil now)

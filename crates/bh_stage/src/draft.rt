@@ -1,17 +1,19 @@
-//! A request while it comes: all the bytes that its connection gave are kept.
+//! A request while it comes: all the bytes that its connection gave are kept, in memory or, of a long
+//! one, in a file.
 
 ghost use Rattle.std.specs.Prelude.{◌≡◌, ◌≢◌, ◌<◌, ◌≤◌, true, false};
 ghost use Rattle.bh_stage.specs.Records.{bytes_of, is_ended};
 ghost use Rattle.bh_stage.specs.Wholes.{IsWhole, IsReached};
 
 use crate::record::{Inlet, ROOM};
+use crate::spool::{Spool, Spools, put, written_in};
 use crate::whole::{Door, Extent, extent_of};
 use bh_link::ends::Source;
 use bh_types::limits::Limits;
 use std::alloc::Global;
 use std::io;
 
-/// How many bytes of a request are kept at most.
+/// How many bytes of a request are kept in memory at most.
 pub const MOST_KEPT: usize = 1_048_576;
 
 /// What came of a request.
@@ -23,8 +25,10 @@ pub enum Look {
     Whole,
     /// Its bytes ended before.
     Ended,
-    /// Its head came, and announces more than is kept.
+    /// Its head came, and announces more than is kept in memory: it wants a file.
     TooLong,
+    /// As many bytes as it announces came, or its client sends no more; some are in a file.
+    Spilled,
     /// Memory ran out, and bytes of it are lost.
     Lost,
 }
@@ -39,11 +43,17 @@ pub struct Draft<R> {
     pub(crate) door: Door,
     /// How many bytes it has, once its head came; 0 before.
     size: usize,
+    /// How many bytes it has, if they have no room in memory; else 0.
+    wanted: usize,
+    /// The file of the bytes that have no room in memory.
+    pub(crate) spool: Option<Spool>,
+    /// Whether bytes of it may be in that file.
+    pub(crate) spilled: bool,
     /// Whether the last call gave no byte.
     ended: bool,
     /// Whether memory ran out.
     pub(crate) lost: bool,
-    ghost all: { lost ≡ false → bytes_of inlet.given.items ≡ kept.items },
+    ghost all: { lost ≡ false → spilled ≡ false → bytes_of inlet.given.items ≡ kept.items },
     ghost end: { is_ended inlet.given.items ≡ ended },
 }
 
@@ -59,6 +69,9 @@ impl<R: Source> Draft<R> {
             kept: Vec::new(alloc),
             door,
             size: 0,
+            wanted: 0,
+            spool: None,
+            spilled: false,
             ended: false,
             lost: false,
         }
@@ -71,13 +84,52 @@ impl<R: Source> Draft<R> {
     {
         let mut room = [0u8; ROOM];
         let was_lost = self.lost;
-        let most = due(self.size, self.kept.len());
+        let most = due(self.size, self.came());
         let count = self.inlet.give(&mut room, most)?;
         self.ended = count == 0;
         self.lost = true;
-        self.kept.extend_from_slice(&room[..count])?;
+        if self.spilled {
+            put(&mut self.spool, &room[..count])?;
+        } else {
+            self.kept.extend_from_slice(&room[..count])?;
+        }
         self.lost = was_lost;
         Ok(count)
+    }
+
+    /// How many bytes of it came.
+    pub fn came(&self) -> usize {
+        let spilled = usize::try_from(written_in(&self.spool)).unwrap_or(usize::MAX);
+        self.kept.len().saturating_add(spilled)
+    }
+
+    /// The first bytes of it, at least its head once that came.
+    pub(crate) fn first(&self) -> &[u8] {
+        self.kept.as_slice()
+    }
+
+    /// How many bytes of it are in memory, or are to come there.
+    pub(crate) fn weight(&self) -> usize {
+        if self.spilled {
+            self.kept.len()
+        } else {
+            self.kept.len().max(self.size)
+        }
+    }
+
+    /// How many bytes it may have in a file.
+    pub(crate) fn spread(&self) -> usize {
+        if self.spilled { self.size } else { 0 }
+    }
+
+    /// How many bytes it has, if it wants a file for them; else 0.
+    pub(crate) fn wants(&self) -> usize {
+        if self.spilled { 0 } else { self.wanted }
+    }
+
+    /// Whether its head is still to come.
+    pub(crate) fn is_new(&self) -> bool {
+        self.size == 0 && self.wanted == 0
     }
 
     /// Its connection's number.
@@ -94,10 +146,11 @@ impl<R: Source> Draft<R> {
         self.door
     }
 
-    /// What came of it.
-    pub fn look(&mut self, limits: &Limits) -> Look
+    /// What came of it, where at most so many bytes of it are kept in memory.
+    pub fn look(&mut self, limits: &Limits, most: usize) -> Look
         ensures whole { result ≡ Look.Whole → IsWhole limits.now self.new.door (bytes_of self.new.inlet.given.items) }
         ensures ended { result ≡ Look.Ended → is_ended self.new.inlet.given.items ≡ true }
+        ensures spilled { result ≡ Look.Spilled → self.new.spilled ≡ true }
         ensures lost { self.new.lost ≡ true → result ≡ Look.Lost }
         ensures inlet { self.new.inlet ≡ self.old.inlet }
         ensures kept { self.new.kept ≡ self.old.kept }
@@ -107,16 +160,43 @@ impl<R: Source> Draft<R> {
         if self.lost {
             return Look::Lost;
         }
-        let came = self.kept.len();
+        let came = self.came();
         if came < self.size && !self.ended {
             return Look::Coming;
         }
+        if self.spilled {
+            return Look::Spilled;
+        }
         let extent = extent_of(limits, self.door, self.kept.as_slice());
-        let look = look_of(extent, came, self.ended);
-        if let (Extent::Bytes(size), Look::Coming) = (extent, look) {
-            self.size = size;
+        let look = look_of(extent, self.kept.len(), self.ended, most);
+        match (extent, look) {
+            (Extent::Bytes(size), Look::Coming) => self.size = size,
+            (_, Look::TooLong) => self.wanted = size_of(extent),
+            _ => {}
         }
         look
+    }
+}
+
+impl<R: Spools> Draft<R> {
+    /// What comes of it from here on is kept in a file.
+    pub(crate) fn spill(&mut self) -> io::Result<()>
+        ensures door { self.new.door ≡ self.old.door }
+        ensures number { self.new.number ≡ self.old.number }
+    {
+        let spool = self.inlet.spool()?;
+        self.spool = Some(spool);
+        self.size = self.wanted;
+        self.spilled = true;
+        Ok(())
+    }
+}
+
+/// How many bytes a request of this extent has.
+fn size_of(extent: Extent) -> usize {
+    match extent {
+        Extent::Bytes(size) => size,
+        Extent::TooLong | Extent::NotYet | Extent::Never => usize::MAX,
     }
 }
 
@@ -130,16 +210,17 @@ fn due(size: usize, came: usize) -> usize
 }
 
 /// What an extent means for a request of which so many bytes came.
-fn look_of(extent: Extent, came: usize, ended: bool) -> Look
+fn look_of(extent: Extent, came: usize, ended: bool, most: usize) -> Look
     ensures whole { result ≡ Look.Whole → IsReached extent came }
     ensures ended { result ≡ Look.Ended → ended ≡ true }
     ensures lost { result ≢ Look.Lost }
+    ensures spilled { result ≢ Look.Spilled }
 {
     match extent {
         Extent::Never => Look::Whole,
         Extent::Bytes(size) if size <= came => Look::Whole,
         Extent::Bytes(_) | Extent::NotYet | Extent::TooLong if ended => Look::Ended,
-        Extent::Bytes(size) if size <= MOST_KEPT => Look::Coming,
+        Extent::Bytes(size) if size <= most => Look::Coming,
         Extent::Bytes(_) | Extent::TooLong => Look::TooLong,
         Extent::NotYet => Look::Coming,
     }

@@ -1,18 +1,17 @@
 //! The reader of a request that was kept.
 
-ghost use Rattle.std.specs.Prelude.{◌≡◌, ◌<◌, ◌≤◌, false, length, take, drop, min, vec_len, IfSome};
-ghost use Rattle.std.specs.Io.{ReadsAtMost};
+ghost use Rattle.std.specs.Prelude.{◌≡◌, ◌≤◌, false, drop, vec_len, IfSome};
 ghost use Rattle.bh_stage.specs.Records.{bytes_of, told_unless};
 
 use crate::copying::copy_rest;
 use crate::draft::Draft;
-use crate::record::{Inlet, ROOM};
-use crate::waiting::{Patient, too_late};
+use crate::record::Inlet;
+use crate::spool::{Spool, get, written_in};
 use bh_link::ends::Source;
 use std::io;
 
-/// The bytes that came of a request, from its first one. If it was too long to be kept, its reader
-/// is asked for the others, and waits for them.
+/// The bytes that came of a request, from its first one. Those that had no room in memory come from a
+/// file.
 #[derive(Drop)]
 pub struct Kept<R> {
     /// Its connection's number.
@@ -20,19 +19,17 @@ pub struct Kept<R> {
     pub(crate) inlet: Inlet<R>,
     bytes: Vec<u8>,
     at: usize,
-    /// Whether its reader is asked for more.
+    /// Whether more of them are in a file.
     goes_on: bool,
-    /// For how many milliseconds its reader may still wait.
-    left: u64,
+    spool: Option<Spool>,
     ghost within: { at ≤ vec_len bytes },
     ghost all: { goes_on ≡ false → bytes_of inlet.given.items ≡ bytes.items },
 }
 
 impl<R: Source + Drop> Kept<R> {
-    /// The reader of a draft; `None` if bytes of it were lost. Where it goes on after what was kept,
-    /// it waits at most so many milliseconds in all.
-    pub fn of(draft: Draft<R>, goes_on: bool, milliseconds: u64) -> Option<Kept<R>>
-        ensures bytes { IfSome result (λ k. (k.goes_on ≡ goes_on) × (k.at ≡ 0) × (k.bytes ≡ draft.kept)) }
+    /// The reader of a draft; `None` if bytes of it were lost.
+    pub fn of(draft: Draft<R>) -> Option<Kept<R>>
+        ensures bytes { IfSome result (λ k. (k.goes_on ≡ draft.spilled) × (k.at ≡ 0) × (k.bytes ≡ draft.kept)) }
         ensures own { IfSome result (λ k. (k.inlet ≡ draft.inlet) × (k.number ≡ draft.number)) }
     {
         if draft.lost {
@@ -43,8 +40,8 @@ impl<R: Source + Drop> Kept<R> {
             inlet: draft.inlet,
             bytes: draft.kept,
             at: 0,
-            goes_on,
-            left: milliseconds,
+            goes_on: draft.spilled,
+            spool: draft.spool,
         })
     }
 
@@ -62,47 +59,22 @@ impl<R: Source + Drop> Kept<R> {
         self.inlet
     }
 
-    /// How many of them were read.
-    pub fn passed(&self) -> usize
-        ensures { result ≡ self.now.at }
-    {
-        self.at
+    /// How many bytes came.
+    pub fn size(&self) -> u64 {
+        written_in(&self.spool).saturating_add(self.bytes.len() as u64)
     }
 }
 
-impl<R: Source + Patient> Source for Kept<R> {
+impl<R: Source> Source for Kept<R> {
     ghost remaining = { λ it. told_unless it.goes_on (drop it.at it.bytes.items) };
 
     #[tactic(auto, using(crate::proofs::KeptLemmas::given))]
     fn give(&mut self, room: &mut [u8]) -> io::Result<usize> {
         let count = copy_rest(room, self.bytes.as_slice(), self.at);
         if count == 0 && self.goes_on {
-            return give_waiting(&mut self.inlet, &mut self.left, room);
+            return get(&mut self.spool, room);
         }
         self.at += count;
         Ok(count)
     }
-}
-
-/// Reads what comes next, and waits for it.
-fn give_waiting<R: Source + Patient>(
-    inlet: &mut Inlet<R>,
-    left: &mut u64,
-    room: &mut [u8],
-) -> io::Result<usize>
-    requires { 0 < length room.old }
-    ensures { ReadsAtMost result room.new }
-{
-    let mut piece = [0u8; ROOM];
-    let most = room.len().min(ROOM);
-    for tried in 0..u64::MAX {
-        match inlet.give(&mut piece, most) {
-            Ok(count) => {
-                room[..count].copy_from_slice(&piece[..count]);
-                return Ok(count);
-            }
-            Err(error) => inlet.wait_after(error, left)?,
-        }
-    }
-    Err(too_late())
 }

@@ -9,6 +9,7 @@ pub mod kept;
 pub mod order;
 pub mod outbox;
 pub mod record;
+pub mod spool;
 pub mod stage;
 pub mod waiting;
 pub mod whole;

@@ -1,6 +1,6 @@
 //! The connections whose requests are whole, in the order in which they became so.
 
-ghost use Rattle.std.specs.Prelude.{◌≡◌, ◌++◌, ◌∷◌, [], map, IfSome, IfNone, OnOk};
+ghost use Rattle.std.specs.Prelude.{◌≡◌, ◌++◌, ◌∷◌, [], map, IfSome, IfNone, IfOk, OnOk};
 
 use http_server::Log;
 use std::alloc::{AllocError, Global};
@@ -25,14 +25,15 @@ pub struct Order {
 }
 
 impl Order {
-    pub fn new(alloc: Global) -> Order
-        ensures { result.became.items ≡ [] }
+    /// With room for so many.
+    pub fn new(alloc: Global, places: usize) -> Result<Order, AllocError>
+        ensures { IfOk result (λ o. o.became.items ≡ []) }
     {
-        Order {
-            queue: VecDeque::new(alloc),
+        Ok(Order {
+            queue: VecDeque::with_capacity(alloc, places)?,
             became: Log::new(),
             handed: Log::new(),
-        }
+        })
     }
 
     pub fn is_empty(&self) -> bool {

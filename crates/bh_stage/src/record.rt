@@ -5,6 +5,7 @@ ghost use Rattle.std.specs.Prelude.{◌≡◌, ◌≤◌, ◌<◌, ◌++◌, ◌
 ghost use Rattle.bh_http.specs.Transfers.{transfer_of, Logs};
 ghost use Rattle.bh_stage.specs.Records.{bytes_of, is_ended};
 
+use crate::spool::{Spool, Spools};
 use crate::waiting::{Patient, Shut, too_late, would_wait};
 use bh_link::ends::{Sink, Source};
 use http_server::Log;
@@ -82,25 +83,27 @@ impl<W: Sink> Outlet<W> {
     }
 }
 
-impl<R: Patient> Inlet<R> {
-    /// Waits after a call that would have waited, at most for the milliseconds that are left.
-    /// Another error is returned, and so is that they are over.
-    pub fn wait_after(&mut self, error: io::Error, left: &mut u64) -> io::Result<()>
+impl<R: Spools> Inlet<R> {
+    /// A file for bytes of this connection.
+    pub fn spool(&mut self) -> io::Result<Spool>
         ensures { self.new.given ≡ self.old.given }
     {
-        if !would_wait(&error) {
-            return Err(error);
-        }
-        *left = self.source.wait(*left);
-        if *left == 0 {
-            return Err(too_late());
-        }
-        Ok(())
+        self.source.spool()
+    }
+}
+
+impl<W: Spools> Outlet<W> {
+    /// A file for bytes of this connection.
+    pub fn spool(&mut self) -> io::Result<Spool>
+        ensures { self.new.taken ≡ self.old.taken }
+    {
+        self.sink.spool()
     }
 }
 
 impl<W: Patient> Outlet<W> {
-    /// As [`Inlet::wait_after`].
+    /// Waits after a call that would have waited, at most for the milliseconds that are left.
+    /// Another error is returned, and so is that they are over.
     pub fn wait_after(&mut self, error: io::Error, left: &mut u64) -> io::Result<()>
         ensures { self.new.taken ≡ self.old.taken }
     {

@@ -4,11 +4,11 @@
 ghost use Rattle.std.specs.Prelude.{◌≡◌, [], IfOk, IfSome};
 ghost use Rattle.bh_stage.specs.Staged.{IsHanded};
 
-use crate::connection::{Connection, State, Step};
-use crate::draft::{Draft, Look};
+use crate::connection::{Connection, State, Step, Weight};
+use crate::draft::{Draft, Look, MOST_KEPT};
 use crate::kept::Kept;
 use crate::order::{Order, Turn};
-use crate::outbox::Outbox;
+use crate::outbox::{Allowance, MOST_HELD, Outbox};
 use crate::waiting::too_late;
 use crate::whole::Door;
 use crate::wires::{Accepted, Came, Wires};
@@ -29,6 +29,12 @@ const STEPS: u32 = 32;
 /// How many requests are handed over before the next turn.
 const HANDED: u32 = 8;
 
+/// How many milliseconds requests may be served before the next turn.
+const BUSY: u64 = 20;
+
+/// How many bytes of a connection are kept in memory in any case.
+const LEAST_KEPT: usize = 32_768;
+
 /// How often deadlines are looked at, in milliseconds.
 const TICK: u64 = 250;
 
@@ -46,6 +52,10 @@ pub struct Measures {
     pub timeout: u64,
     /// How many connections there are at most.
     pub connections: usize,
+    /// How many bytes of requests and answers are kept in memory, beside 32 KiB of each; and how
+    /// many in files, but those of one request in any case.
+    pub memory: usize,
+    pub files: u64,
 }
 
 /// A request that is handed over, and its answer.
@@ -70,48 +80,96 @@ pub struct Stage<W: Wires> {
     order: Order,
     /// The number of the next connection.
     next: u64,
-    /// When this turn began, in milliseconds.
+    /// The time of this turn, in milliseconds. It doesn't pass while a request is served.
     now: u64,
+    /// How many milliseconds requests were served.
+    away: u64,
+    /// When the last request was handed over.
+    left: u64,
     /// When deadlines were looked at.
     looked: u64,
     /// Until when nothing is accepted.
     paused: u64,
-    /// How many requests were handed over since the last turn.
+    /// Whether another connection may wait to be accepted.
+    is_crowded: bool,
+    /// How many requests were handed over since the last turn, and how many milliseconds they took.
     handed: u32,
+    busy: u64,
+    /// How many bytes of all connections are in memory and in files, or are to come there.
+    memory: usize,
+    files: u64,
+    /// Whether a request waits for room in files.
+    is_short: bool,
+    /// Whether nothing more is accepted.
+    is_ending: bool,
 }
 
 impl<W: Wires + Drop> Stage<W> {
+    /// All memory that grows with the number of connections is taken here.
     pub fn new(alloc: Global, wires: W, measures: Measures) -> Result<Stage<W>, AllocError> {
+        let places = measures.connections;
         Ok(Stage {
             alloc,
             wires,
             measures,
-            connections: Slab::new(alloc),
-            ready: VecDeque::with_capacity(alloc, measures.connections)?,
-            told: Vec::new(alloc),
-            order: Order::new(alloc),
+            connections: Slab::with_capacity(alloc, places)?,
+            ready: VecDeque::with_capacity(alloc, places)?,
+            told: Vec::with_capacity(alloc, places)?,
+            order: Order::new(alloc, places)?,
             next: 0,
             now: 0,
+            away: 0,
+            left: 0,
             looked: 0,
             paused: 0,
+            is_crowded: false,
             handed: 0,
+            busy: 0,
+            memory: 0,
+            files: 0,
+            is_short: false,
+            is_ending: false,
         })
+    }
+
+    /// What the sockets are asked by.
+    pub fn wires(&mut self) -> &mut W {
+        &mut self.wires
     }
 
     /// Waits for the next request that is whole, and hands it over.
     pub fn accept(&mut self, limits: &Limits) -> io::Result<Handed<W::Reader, W::Writer>>
         ensures { IfOk result (IsHanded limits.now) }
     {
+        match self.accept_until(limits, u64::MAX)? {
+            Some(handed) => Ok(handed),
+            None => Err(too_late()),
+        }
+    }
+
+    /// Waits for the next request that is whole, and hands it over. If none is whole by that time of
+    /// the clock of `Wires`, in milliseconds, it returns `None`, at most 250 ms later.
+    pub fn accept_until(
+        &mut self,
+        limits: &Limits,
+        until: u64,
+    ) -> io::Result<Option<Handed<W::Reader, W::Writer>>>
+        ensures { IfOk result (λ found. IfSome found (IsHanded limits.now)) }
+    {
         for tried in 0..u64::MAX {
-            if self.order.is_empty() || self.handed >= HANDED {
+            if self.order.is_empty() || self.handed >= HANDED || self.busy >= BUSY {
                 self.turn(limits)?;
             }
             if let Some(handed) = self.next_whole(limits) {
                 self.handed = self.handed.saturating_add(1);
-                return Ok(handed);
+                self.left = self.wires.milliseconds();
+                return Ok(Some(handed));
+            }
+            if self.wires.milliseconds() >= until {
+                return Ok(None);
             }
         }
-        Err(too_late())
+        Ok(None)
     }
 
     /// Takes back the ends of a connection that was served. If its answer is as it should be, it is
@@ -123,19 +181,35 @@ impl<W: Wires + Drop> Stage<W> {
         writer: Outbox<W::Writer>,
         is_answered: bool,
     ) {
-        let deadline = self
-            .wires
-            .milliseconds()
-            .saturating_add(self.measures.timeout);
-        if let Some(connection) = self.connections.get_mut(turn.key) {
-            if connection.number == turn.number && is_answered {
-                connection.state = State::Going(reader.into_inlet(), writer);
-                connection.deadline = deadline;
-                self.mark(turn.key);
+        let took = self.wires.milliseconds().saturating_sub(self.left);
+        self.away = self.away.saturating_add(took);
+        self.busy = self.busy.saturating_add(took);
+        let deadline = self.now.saturating_add(self.measures.timeout);
+        let Some(connection) = self.connections.get_mut(turn.key) else {
+            return;
+        };
+        if connection.number != turn.number {
+            return;
+        }
+        connection.answer(reader.into_inlet(), writer, deadline);
+        let weight = connection.weight();
+        self.add(weight);
+        if is_answered {
+            self.send_on(turn.key);
+        } else {
+            self.end(turn.key);
+        }
+    }
+
+    /// Waits until all answers went out or their time is over, and accepts nothing more.
+    pub fn finish(&mut self, limits: &Limits) {
+        self.is_ending = true;
+        for tried in 0..u64::MAX {
+            self.end_all(true);
+            if self.connections.is_empty() || self.turn(limits).is_err() {
                 return;
             }
         }
-        let _ = self.connections.try_remove(turn.key);
     }
 
     /// The request that became whole first, if there is one.
@@ -143,14 +217,17 @@ impl<W: Wires + Drop> Stage<W> {
         ensures { IfSome result (IsHanded limits.now) }
     {
         let turn = self.order.next()?;
-        let (alloc, timeout) = (self.alloc, self.measures.timeout);
+        let allowance = self.allowance();
+        let alloc = self.alloc;
         let connection = self.connections.get_mut(turn.key)?;
         if connection.number != turn.number {
             return None;
         }
+        let weight = connection.weight();
         match replace(&mut connection.state, State::Served) {
             State::Whole(draft, writer) => {
-                handed_over(alloc, limits, turn, draft, writer, timeout)
+                self.subtract(weight);
+                handed_over(alloc, limits, turn, draft, writer, allowance)
             }
             state => {
                 connection.state = state;
@@ -159,23 +236,60 @@ impl<W: Wires + Drop> Stage<W> {
         }
     }
 
+    /// How much of the next answer may wait.
+    fn allowance(&self) -> Allowance {
+        Allowance {
+            memory: self.most_of(MOST_HELD),
+            file: self.measures.files.saturating_sub(self.files),
+            milliseconds: self.measures.timeout,
+        }
+    }
+
+    /// How many bytes of a request or an answer are kept in memory now, of so many at most.
+    fn most_of(&self, most: usize) -> usize {
+        let left = self.measures.memory.saturating_sub(self.memory);
+        left.clamp(LEAST_KEPT, most.max(LEAST_KEPT))
+    }
+
+    fn add(&mut self, weight: Weight) {
+        self.memory = self.memory.saturating_add(weight.memory);
+        self.files = self.files.saturating_add(weight.file);
+    }
+
+    fn subtract(&mut self, weight: Weight) {
+        self.memory = self.memory.saturating_sub(weight.memory);
+        self.files = self.files.saturating_sub(weight.file);
+    }
+
     /// One turn: who may go on is asked, connections are accepted, and those that may go on do.
     fn turn(&mut self, limits: &Limits) -> io::Result<()> {
         self.handed = 0;
+        self.busy = 0;
         self.hear()?;
-        self.take_in()?;
+        self.take_in(limits)?;
         self.go_on(limits);
-        self.end_late();
+        self.look_after();
         Ok(())
+    }
+
+    /// How many milliseconds to wait until somebody may go on.
+    fn wait(&self) -> u64 {
+        let is_idle = self.ready.is_empty() && self.order.is_empty() && !self.is_crowded;
+        if !is_idle {
+            0
+        } else if self.now < self.paused {
+            PAUSE
+        } else {
+            TICK
+        }
     }
 
     /// Asks who may go on, and waits if nobody else may.
     fn hear(&mut self) -> io::Result<()> {
-        let is_idle = self.ready.is_empty() && self.order.is_empty();
-        let wait = if is_idle { TICK } else { 0 };
+        let wait = self.wait();
         self.told.clear();
         self.wires.poll(wait, &mut self.told)?;
-        self.now = self.wires.milliseconds();
+        self.now = self.wires.milliseconds().saturating_sub(self.away);
         let told = replace(&mut self.told, Vec::new(self.alloc));
         for key in told.as_slice() {
             self.mark(*key);
@@ -194,48 +308,55 @@ impl<W: Wires + Drop> Stage<W> {
     }
 
     /// Accepts those that wait.
-    fn take_in(&mut self) -> io::Result<()> {
-        if self.now < self.paused {
+    fn take_in(&mut self, limits: &Limits) -> io::Result<()> {
+        self.is_crowded = false;
+        if self.now < self.paused || self.is_ending {
             return Ok(());
         }
         for taken in 0..ACCEPTED {
-            if !self.take_one()? {
+            if !self.take_one(limits)? {
                 return Ok(());
             }
         }
+        self.is_crowded = true;
         Ok(())
     }
 
     /// Accepts one. Returns whether another one may wait.
-    fn take_one(&mut self) -> io::Result<bool> {
-        let oldest = self.oldest();
-        if self.is_full() && oldest.is_none() {
+    fn take_one(&mut self, limits: &Limits) -> io::Result<bool> {
+        let place = self.place();
+        if self.is_full() && place.is_none() {
             return Ok(false);
         }
-        match self.wires.accept(self.connections.vacant_key())? {
+        match self
+            .wires
+            .accept(place.unwrap_or(self.connections.vacant_key()))?
+        {
             Accepted::Nobody => Ok(false),
             Accepted::NoRoom => {
                 self.paused = self.now.saturating_add(PAUSE);
                 Ok(false)
             }
             Accepted::One(came) => {
-                self.admit(came, oldest);
+                self.admit(came, place, limits);
                 Ok(true)
             }
         }
     }
 
-    /// Adds a connection. If there is no place for it, the oldest one whose request comes is closed.
-    fn admit(&mut self, came: Came<W::Reader, W::Writer>, oldest: Option<usize>) {
-        if let (true, Some(key)) = (self.is_full(), oldest) {
-            let _ = self.connections.try_remove(key);
+    /// Adds a connection, and reads what came of its request. If there is no place for it, that of
+    /// another one is taken.
+    fn admit(&mut self, came: Came<W::Reader, W::Writer>, place: Option<usize>, limits: &Limits) {
+        if let Some(key) = place {
+            self.end(key);
         }
-        let deadline = self.now.saturating_add(self.measures.timeout);
         let number = self.next;
         self.next = number.wrapping_add(1);
-        let connection = Connection::new(self.alloc, number, deadline, came);
+        let since = self.now.saturating_add(self.away);
+        let deadline = self.now.saturating_add(self.measures.timeout);
+        let connection = Connection::new(self.alloc, number, since, deadline, came);
         if let Ok(key) = self.connections.insert(connection) {
-            self.mark(key);
+            self.step(key, limits);
         }
     }
 
@@ -243,17 +364,18 @@ impl<W: Wires + Drop> Stage<W> {
         self.connections.len() >= self.measures.connections
     }
 
-    /// The oldest connection whose request comes, if there are as many as may be.
-    fn oldest(&self) -> Option<usize> {
-        let mut found: Option<(usize, u64)> = None;
+    /// The key of the connection that gives its place to the next, if there are as many as may be:
+    /// the oldest one without a head, or else the oldest one whose request comes.
+    fn place(&self) -> Option<usize> {
+        let mut found: Option<(usize, (bool, u64))> = None;
         if !self.is_full() {
             return None;
         }
         for (key, connection) in self.connections.iter() {
-            if connection.is_coming()
-                && found.is_none_or(|(_, number)| connection.number < number)
-            {
-                found = Some((key, connection.number));
+            if let Some(rank) = connection.rank() {
+                if found.is_none_or(|(_, other)| rank < other) {
+                    found = Some((key, rank));
+                }
             }
         }
         found.map(|(key, _)| key)
@@ -271,67 +393,191 @@ impl<W: Wires + Drop> Stage<W> {
 
     /// One connection goes a step on.
     fn step(&mut self, key: usize, limits: &Limits) {
+        let most = self.most_of(MOST_KEPT);
+        let deadline = self.now.saturating_add(self.measures.timeout);
         let Some(connection) = self.connections.get_mut(key) else {
             return;
         };
         connection.is_ready = false;
-        let number = connection.number;
-        match connection.step(limits) {
+        let before = connection.weight();
+        let step = connection.step(limits, most);
+        connection.extend(deadline);
+        let after = connection.weight();
+        self.subtract(before);
+        self.add(after);
+        self.after(key, step);
+    }
+
+    /// What can be sent of an answer at once is.
+    fn send_on(&mut self, key: usize) {
+        let Some(connection) = self.connections.get_mut(key) else {
+            return;
+        };
+        let before = connection.weight();
+        let step = connection.send();
+        let after = connection.weight();
+        self.subtract(before);
+        self.add(after);
+        self.after(key, step);
+    }
+
+    /// What follows a step.
+    fn after(&mut self, key: usize, step: Step) {
+        match step {
             Step::Wait => {}
             Step::Again => self.mark(key),
-            Step::Whole => {
-                connection.complete();
-                if self.order.push(Turn { number, key }).is_err() {
-                    let _ = self.connections.try_remove(key);
-                }
-            }
-            Step::Answered => {
-                connection.await_close(self.now.saturating_add(CLOSING));
-                self.mark(key);
-            }
-            Step::Over => {
-                let _ = self.connections.try_remove(key);
+            Step::Whole => self.complete(key),
+            Step::Spill => self.spill(key),
+            Step::Lost => self.refuse(key),
+            Step::Answered => self.await_close(key),
+            Step::Over => self.end(key),
+        }
+    }
+
+    /// A request is whole.
+    fn complete(&mut self, key: usize) {
+        let Some(connection) = self.connections.get_mut(key) else {
+            return;
+        };
+        connection.complete();
+        let number = connection.number;
+        if self.order.push(Turn { number, key }).is_err() {
+            self.end(key);
+        }
+    }
+
+    /// A request wants a file. If there is no room for it in files, it waits; one alone always has
+    /// room.
+    fn spill(&mut self, key: usize) {
+        let room = self.measures.files.saturating_sub(self.files);
+        let Some(connection) = self.connections.get_mut(key) else {
+            return;
+        };
+        if connection.wants() as u64 > room && self.files > 0 {
+            self.is_short = true;
+            return;
+        }
+        let before = connection.weight();
+        let spilled = connection.spill();
+        let after = connection.weight();
+        self.subtract(before);
+        self.add(after);
+        if spilled.is_ok() {
+            self.mark(key);
+        } else {
+            self.refuse(key);
+        }
+    }
+
+    /// A request can't be kept.
+    fn refuse(&mut self, key: usize) {
+        let deadline = self.now.saturating_add(CLOSING);
+        let now = self.wires.milliseconds();
+        if let Some(connection) = self.connections.get_mut(key) {
+            self.wires.tell(&connection.refused(key, now));
+            connection.is_told = true;
+            let before = connection.weight();
+            connection.refuse(deadline);
+            self.subtract(before);
+        }
+        self.mark(key);
+    }
+
+    /// An answer went out.
+    fn await_close(&mut self, key: usize) {
+        let deadline = self.now.saturating_add(CLOSING);
+        if let Some(connection) = self.connections.get_mut(key) {
+            let before = connection.weight();
+            connection.await_close(deadline);
+            self.subtract(before);
+        }
+        self.tell(key);
+        self.mark(key);
+    }
+
+    /// A connection is closed.
+    fn end(&mut self, key: usize) {
+        self.tell(key);
+        if let Some(connection) = self.connections.try_remove(key) {
+            self.subtract(connection.weight());
+        }
+    }
+
+    /// Tells how a connection went, once.
+    fn tell(&mut self, key: usize) {
+        let now = self.wires.milliseconds();
+        if let Some(connection) = self.connections.get_mut(key) {
+            if !connection.is_told {
+                connection.is_told = true;
+                self.wires.tell(&connection.ended(key, now));
             }
         }
     }
 
-    /// Closes those whose time is over.
-    fn end_late(&mut self) {
-        let now = self.now;
-        if now.saturating_sub(self.looked) < TICK {
+    /// Closes those whose time is over, and asks again those that wait for room in files.
+    fn look_after(&mut self) {
+        if self.now.saturating_sub(self.looked) < TICK {
             return;
         }
-        self.looked = now;
-        self.connections
-            .retain(|_, connection| !connection.is_late(now));
+        self.looked = self.now;
+        self.end_all(false);
+        if replace(&mut self.is_short, false) {
+            self.mark_wanting();
+        }
+    }
+
+    /// Closes those whose time is over, or all that have no answer.
+    fn end_all(&mut self, unserved: bool) {
+        for key in 0..self.connections.capacity() {
+            let is_over = match self.connections.get(key) {
+                Some(connection) if unserved => connection.is_unserved(),
+                Some(connection) => connection.is_late(self.now),
+                None => false,
+            };
+            if is_over {
+                self.end(key);
+            }
+        }
+    }
+
+    /// Those that wait for room in files may go on.
+    fn mark_wanting(&mut self) {
+        for key in 0..self.connections.capacity() {
+            if self
+                .connections
+                .get(key)
+                .is_some_and(|connection| connection.wants() > 0)
+            {
+                self.mark(key);
+            }
+        }
     }
 }
 
-/// The request of a draft, if it is whole, ended, or has more bytes than are kept.
+/// The request of a draft, if it is whole, or no more of it comes.
 fn handed_over<R: Source + Drop, W: Sink + Drop>(
     alloc: Global,
     limits: &Limits,
     turn: Turn,
     mut draft: Draft<R>,
     writer: W,
-    timeout: u64,
+    allowance: Allowance,
 ) -> Option<Handed<R, W>>
     ensures { IfSome result (IsHanded limits.now) }
 {
     if draft.number() != turn.number {
         return None;
     }
-    let goes_on = match draft.look(limits) {
-        Look::Whole | Look::Ended => false,
-        Look::TooLong => true,
-        Look::Coming | Look::Lost => return None,
-    };
+    match draft.look(limits, MOST_KEPT) {
+        Look::Whole | Look::Ended | Look::Spilled => {}
+        Look::Coming | Look::TooLong | Look::Lost => return None,
+    }
     let door = draft.door();
-    let reader = Kept::of(draft, goes_on, timeout)?;
+    let reader = Kept::of(draft)?;
     Some(Handed {
         turn,
         door,
         reader,
-        writer: Outbox::new(alloc, writer, timeout),
+        writer: Outbox::new(alloc, writer, allowance),
     })
 }

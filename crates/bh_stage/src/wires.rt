@@ -1,5 +1,6 @@
 //! What a stage asks of the sockets of a server.
 
+use crate::spool::Spools;
 use crate::waiting::{Patient, Shut};
 use crate::whole::Door;
 use bh_link::ends::{Sink, Source};
@@ -23,11 +24,28 @@ pub enum Accepted<R, W> {
     NoRoom,
 }
 
+/// How a connection went: its answer went out, or it ended before.
+#[derive(Clone, Copy)]
+pub struct Ended<'a> {
+    pub key: usize,
+    pub door: Door,
+    /// The first bytes that came, if it wasn't served.
+    pub first: &'a [u8],
+    /// How many bytes came, if it wasn't served.
+    pub came: u64,
+    /// The fixed answer, if memory or a file was wanting for its request; else nothing.
+    pub answer: &'a [u8],
+    /// How many bytes went out.
+    pub sent: u64,
+    /// How many milliseconds it took.
+    pub took: u64,
+}
+
 /// The sockets of a server. No contract can say what a socket gives, nor that it is told of.
 pub trait Wires {
-    type Reader: Source + Patient + Drop;
+    type Reader: Source + Spools + Drop;
 
-    type Writer: Sink + Patient + Shut + Drop;
+    type Writer: Sink + Patient + Shut + Spools + Drop;
 
     /// The next connection, if one waits. From here on `poll` tells of it by this key.
     fn accept(&mut self, key: usize) -> io::Result<Accepted<Self::Reader, Self::Writer>>;
@@ -38,4 +56,7 @@ pub trait Wires {
 
     /// A clock that doesn't go back, in milliseconds.
     fn milliseconds(&mut self) -> u64;
+
+    /// Told once of each connection that was accepted.
+    fn tell(&mut self, ended: &Ended<'_>);
 }

@@ -3,8 +3,12 @@
 
 mod line_task;
 mod lines;
+mod misfit;
 mod task;
 
-pub use line_task::{FileAt, HostTask, LineTask, Maintenance, OperatorGiven, ServeTask, Starts};
+pub use line_task::{
+    Door, FileAt, HostTask, LineTask, Maintenance, OperatorGiven, ServeTask, Starts,
+};
 pub use lines::task_of;
+pub use misfit::Misfit;
 pub use task::Task;

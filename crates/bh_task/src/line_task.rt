@@ -1,5 +1,8 @@
 //! What a command line asks for.
 
+ghost use Rattle.std.specs.Prelude.{◌≡◌, option_map};
+ghost use Rattle.bh_task.specs.Doors.{port_in, socket_in};
+
 use crate::task::Task;
 use bh_types::block_digest::BlockDigest;
 use bh_types::limits::{Limits, Tuning};
@@ -22,24 +25,63 @@ pub struct Starts<S: Start, T: Start, U: Start> {
     pub made: U,
 }
 
-/// The operators' port, and the file of their secret.
+/// Where a server listens.
+#[derive(Drop)]
+pub enum Door {
+    /// A port of 127.0.0.1; if it is 0, the system chooses one.
+    Port(u16),
+    /// A Unix socket of this path.
+    Socket(String),
+}
+
+impl Door {
+    /// The port; 0 for a socket.
+    pub fn port(&self) -> u16
+        ensures { result ≡ port_in self.now }
+    {
+        match self {
+            Door::Port(port) => *port,
+            Door::Socket(_) => 0,
+        }
+    }
+
+    /// The socket's path, if it is one.
+    pub fn socket(&self) -> Option<&str>
+        ensures { option_map (λ s. s.now) result ≡ socket_in self.now }
+    {
+        match self {
+            Door::Port(_) => None,
+            Door::Socket(path) => Some(path.as_str()),
+        }
+    }
+}
+
+/// Where operators' lines are taken, and the file of the operators' secret.
 #[derive(Drop)]
 pub struct OperatorGiven {
-    pub port: Option<u16>,
+    pub door: Door,
     pub secret_file: Option<String>,
 }
 
 /// How a host is to be served.
 #[derive(Drop)]
 pub struct ServeTask {
-    pub port: u16,
-    /// The number of connections; `None` for no limit.
+    pub door: Door,
+    /// The group whose users may use the socket.
+    pub socket_group: Option<String>,
+    /// The number of requests and lines; `None` for no limit.
     pub count: Option<u64>,
     /// How many seconds a request may take to read, and its response to write.
     pub timeout: u64,
     /// Whether each request is logged to standard error.
     pub is_logged: bool,
-    pub operator: OperatorGiven,
+    /// How many connections are open at most.
+    pub connections: u32,
+    /// The directory of long requests and responses; `None` for that of the host's file.
+    pub spool: Option<String>,
+    /// By how many seconds the clock may jump.
+    pub clock_step: u64,
+    pub operator: Option<OperatorGiven>,
 }
 
 /// Work on a host, before any secret is read.
@@ -108,9 +150,9 @@ pub enum LineTask<S: Start, T: Start, U: Start> {
     },
     /// Work on a file whose host isn't being served.
     Maintain(Maintenance<S, T, U>),
-    /// Sends a line to a running server's operator port.
+    /// Sends a line to a running server's operators' door.
     Tell {
-        port: u16,
+        door: Door,
         secret_file: Option<String>,
         order: String,
     },

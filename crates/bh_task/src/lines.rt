@@ -1,14 +1,17 @@
 //! The task of each command line.
 
-ghost use Rattle.std.specs.Prelude.{◌≡◌, true};
+ghost use Rattle.std.specs.Prelude.{◌≡◌, true, Ok};
 ghost use Rattle.bh_task.specs.Tasks as spec;
 ghost use Rattle.bh_task.specs.declared.line_task.HostTask.TheVariants as the_task;
 
-use crate::line_task::{FileAt, HostTask, LineTask, Maintenance, OperatorGiven, ServeTask, Starts};
+use crate::line_task::{
+    Door, FileAt, HostTask, LineTask, Maintenance, OperatorGiven, ServeTask, Starts,
+};
+use crate::misfit::Misfit;
 use crate::task::Task;
 use bh_event::event::Command;
 use bh_types::limits::Tuning;
-use bh_words::{ClockGiven, Line, SecretGiven};
+use bh_words::{ClockGiven, DoorGiven, DoorsGiven, Line, SecretGiven, ServeGiven};
 use sqlite_disk::Start;
 
 /// Work on a file's host.
@@ -61,7 +64,7 @@ fn command_of<S: Start, T: Start, U: Start>(
     starts: Starts<S, T, U>,
 ) -> LineTask<S, T, U>
     requires { spec.is_command line ≡ true }
-    ensures { result ≡ spec.task_of starts line }
+    ensures { Ok result ≡ spec.task_of starts line }
 {
     match line {
         Line::TenantAdd {
@@ -109,7 +112,7 @@ fn key_add(tenant: String, name: String, secret: SecretGiven) -> HostTask
 /// The task of a line that adds a key, or orders something of a whole host.
 fn order_of<S: Start, T: Start, U: Start>(line: Line, starts: Starts<S, T, U>) -> LineTask<S, T, U>
     requires { spec.is_order line ≡ true }
-    ensures { result ≡ spec.task_of starts line }
+    ensures { Ok result ≡ spec.task_of starts line }
 {
     match line {
         Line::KeyAdd {
@@ -138,7 +141,7 @@ fn maintenance_of<S: Start, T: Start, U: Start>(
     starts: Starts<S, T, U>,
 ) -> LineTask<S, T, U>
     requires { spec.is_maintenance line ≡ true }
-    ensures { result ≡ spec.task_of starts line }
+    ensures { Ok result ≡ spec.task_of starts line }
 {
     let Starts { host, other, made } = starts;
     LineTask::Maintain(match line {
@@ -164,53 +167,114 @@ fn maintenance_of<S: Start, T: Start, U: Start>(
     })
 }
 
-/// The task of a line that serves a host.
-fn serve_of<S: Start, T: Start, U: Start>(line: Line, starts: Starts<S, T, U>) -> LineTask<S, T, U>
-    requires { spec.is_serve line ≡ true }
-    ensures { result ≡ spec.task_of starts line }
+/// The door of a port or a socket, if one of both is given.
+fn door_of(given: DoorGiven) -> Result<Door, Misfit>
+    ensures { result ≡ spec.door_of given }
 {
-    let Line::Serve {
-        file,
-        port,
-        count,
-        log,
-        timeout,
-        leap,
-        tuning,
-        operator_port,
-        operator_secret_file,
-    } = line
-    else {
-        unreachable!()
-    };
-    let asked = HostTask::Serve(ServeTask {
-        port,
-        count,
-        timeout,
-        is_logged: log,
-        operator: OperatorGiven {
-            port: operator_port,
-            secret_file: operator_secret_file,
-        },
-    });
-    LineTask::OnHost {
-        file: at(file, starts.host),
-        tuning,
-        clock: ClockGiven { at: None, leap },
-        asked,
+    match (given.port, given.socket) {
+        (Some(port), None) => Ok(Door::Port(port)),
+        (None, Some(path)) => Ok(Door::Socket(path)),
+        (None, None) => Err(Misfit::NoDoor),
+        (Some(_), Some(_)) => Err(Misfit::TwoDoors),
     }
 }
 
-/// The task of a line on a file's host.
+/// The group of a socket's users, if one is given.
+fn group_of(door: &Door, given: Option<String>) -> Result<Option<String>, Misfit>
+    ensures { result ≡ spec.group_of door.now given }
+{
+    match (door, given) {
+        (Door::Port(_), Some(_)) => Err(Misfit::NoSocket),
+        (Door::Port(_), None) => Ok(None),
+        (Door::Socket(_), given) => Ok(given),
+    }
+}
+
+/// The operators' door and secret, if a door is given.
+fn operators_of(
+    given: DoorGiven,
+    secret_file: Option<String>,
+) -> Result<Option<OperatorGiven>, Misfit>
+    ensures { result ≡ spec.operators_of given secret_file }
+{
+    let door = match (given.port, given.socket) {
+        (Some(port), None) => Door::Port(port),
+        (None, Some(path)) => Door::Socket(path),
+        (None, None) if secret_file.is_some() => return Err(Misfit::NoOperatorDoor),
+        (None, None) => return Ok(None),
+        (Some(_), Some(_)) => return Err(Misfit::TwoOperatorDoors),
+    };
+    Ok(Some(OperatorGiven { door, secret_file }))
+}
+
+/// How a host is to be served, if the doors that are given fit together.
+fn serving_of(given: ServeGiven) -> Result<ServeTask, Misfit>
+    ensures { result ≡ spec.serving_of given }
+{
+    let DoorsGiven {
+        clients,
+        socket_group,
+        operators,
+        operator_secret_file,
+    } = given.doors;
+    let door = door_of(clients)?;
+    let socket_group = group_of(&door, socket_group)?;
+    let operator = operators_of(operators, operator_secret_file)?;
+    Ok(ServeTask {
+        door,
+        socket_group,
+        operator,
+        count: given.count,
+        timeout: given.timeout,
+        is_logged: given.log,
+        connections: given.connections,
+        spool: given.spool,
+        clock_step: given.clock_step,
+    })
+}
+
+/// The task of a line that serves a host, or tells a server an order.
+fn server_task_of<S: Start, T: Start, U: Start>(
+    line: Line,
+    starts: Starts<S, T, U>,
+) -> Result<LineTask<S, T, U>, Misfit>
+    requires { spec.is_of_server line ≡ true }
+    ensures { result ≡ spec.task_of starts line }
+{
+    match line {
+        Line::Serve {
+            file,
+            leap,
+            tuning,
+            given,
+        } => Ok(LineTask::OnHost {
+            file: at(file, starts.host),
+            tuning,
+            clock: ClockGiven { at: None, leap },
+            asked: HostTask::Serve(serving_of(given)?),
+        }),
+        Line::Tell {
+            door,
+            secret_file,
+            order,
+        } => Ok(LineTask::Tell {
+            door: door_of(door)?,
+            secret_file,
+            order,
+        }),
+        _ => unreachable!(),
+    }
+}
+
+/// The task of a line with an operator's order on a file's host.
 fn host_task_of<S: Start, T: Start, U: Start>(
     line: Line,
     starts: Starts<S, T, U>,
 ) -> LineTask<S, T, U>
     requires { spec.is_on_host line ≡ true }
-    ensures { result ≡ spec.task_of starts line }
+    ensures { Ok result ≡ spec.task_of starts line }
 {
     match line {
-        Line::Serve { .. } => serve_of(line, starts),
         Line::KeyAdd { .. } | Line::Tenants { .. } | Line::Report { .. } | Line::Sweep { .. } => {
             order_of(line, starts)
         }
@@ -218,11 +282,12 @@ fn host_task_of<S: Start, T: Start, U: Start>(
     }
 }
 
-/// What a command line asks for, with what is supposed of its files.
+/// What a command line asks for, with what is supposed of its files. Fails if options don't fit
+/// together.
 pub fn task_of<S: Start, T: Start, U: Start>(
     line: Line,
     starts: Starts<S, T, U>,
-) -> LineTask<S, T, U>
+) -> Result<LineTask<S, T, U>, Misfit>
     ensures { result ≡ spec.task_of starts line }
 {
     match line {
@@ -230,32 +295,24 @@ pub fn task_of<S: Start, T: Start, U: Start>(
             limits,
             tuning,
             digest,
-        } => LineTask::Script {
+        } => Ok(LineTask::Script {
             limits,
             tuning,
             digest,
-        },
-        Line::Tell {
-            port,
-            secret_file,
-            order,
-        } => LineTask::Tell {
-            port,
-            secret_file,
-            order,
-        },
+        }),
         Line::Init {
             file,
             limits,
             digest,
-        } => LineTask::Init {
+        } => Ok(LineTask::Init {
             file: at(file, starts.host),
             limits,
             digest,
-        },
+        }),
         Line::Check { .. } | Line::Backup { .. } | Line::Export { .. } | Line::Import { .. } => {
-            maintenance_of(line, starts)
+            Ok(maintenance_of(line, starts))
         }
-        _ => host_task_of(line, starts),
+        Line::Serve { .. } | Line::Tell { .. } => server_task_of(line, starts),
+        _ => Ok(host_task_of(line, starts)),
     }
 }

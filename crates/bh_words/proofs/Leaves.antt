@@ -8,9 +8,10 @@ use Rattle.clap.specs.Walk.{Row, Text, first_of, rows_after}
 use Rattle.bh_words.proofs.Valued.{IsLeaf, IsTaken, default-value, number_in, required-value}
 use Rattle.bh_words.specs.Commands.{options, shape, word}
 use Rattle.bh_words.specs.Options.{rule}
-use Rattle.bh_words.specs.Readings.{at, cache_of, clock_at, is_given, leap_at, leap_of, limits_at, line_at, number_at, number_of, tuning_at}
+use Rattle.bh_words.specs.Readings.{at, cache_of, clock_at, doors_at, is_given, leap_at, leap_of, limits_at, line_at, number_at, number_of}
+use Rattle.bh_words.specs.Readings.{serving_at, text_at, tuning_at}
 use Rattle.bh_words.specs.declared.lines.Leap.{Leap}
-use Rattle.bh_words.specs.declared.options.OptionName.TheVariants.{CacheBytes, Force}
+use Rattle.bh_words.specs.declared.options.OptionName.TheVariants.{CacheBytes, Count, Force, Log, Spool}
 use Rattle.bh_words.specs.declared.subcommands.Subcommand.{Subcommand}
 use Rattle.bh_words.specs.declared.subcommands.Subcommand.TheVariants as subcommand
 
@@ -41,8 +42,8 @@ leaf-fine subcommand.Sweep = record { fine = ((refl, inl (refl, refl), tt), ((re
 leaf-fine subcommand.Backup = record { fine = ((refl, inl (refl, refl), tt), ((refl, inl (refl, refl), tt), ((refl, inr (inr refl), tt), tt))); once = refl; negates = refl }
 leaf-fine subcommand.Export = record { fine = ((refl, inl (refl, refl), tt), ((refl, inl (refl, refl), tt), ((refl, inl (refl, refl), tt), ((refl, inr (inr refl), tt), tt)))); once = refl; negates = refl }
 leaf-fine subcommand.Import = record { fine = ((refl, inl (refl, refl), tt), ((refl, inl (refl, refl), tt), ((refl, inl (refl, refl), tt), ((refl, inr (inl (refl, refl, refl)), tt), ((refl, inr (inr refl), tt), tt))))); once = refl; negates = refl }
-leaf-fine subcommand.Serve = record { fine = ((refl, inl (refl, refl), tt), ((refl, inl (refl, refl), tt), ((refl, inl (refl, refl), tt), ((refl, inr (inl (refl, refl, refl)), tt), ((refl, inl (refl, refl), tt), ((refl, inl (refl, refl), tt), ((refl, inr (inl (refl, refl, refl)), tt), ((refl, inl (refl, refl), tt), ((refl, inl (refl, refl), tt), ((refl, inl (refl, refl), tt), ((refl, inl (refl, refl), tt), ((refl, inl (refl, refl), tt), ((refl, inr (inr refl), tt), tt))))))))))))); once = refl; negates = refl }
-leaf-fine subcommand.Tell = record { fine = ((refl, inl (refl, refl), tt), ((refl, inl (refl, refl), tt), ((refl, inl (refl, refl), tt), ((refl, inr (inr refl), tt), tt)))); once = refl; negates = refl }
+leaf-fine subcommand.Serve = record { fine = ((refl, inl (refl, refl), tt), ((refl, inl (refl, refl), tt), ((refl, inl (refl, refl), tt), ((refl, inl (refl, refl), tt), ((refl, inl (refl, refl), tt), ((refl, inr (inl (refl, refl, refl)), tt), ((refl, inl (refl, refl), tt), ((refl, inl (refl, refl), tt), ((refl, inl (refl, refl), tt), ((refl, inl (refl, refl), tt), ((refl, inl (refl, refl), tt), ((refl, inr (inl (refl, refl, refl)), tt), ((refl, inl (refl, refl), tt), ((refl, inl (refl, refl), tt), ((refl, inl (refl, refl), tt), ((refl, inl (refl, refl), tt), ((refl, inl (refl, refl), tt), ((refl, inl (refl, refl), tt), ((refl, inr (inr refl), tt), tt))))))))))))))))))); once = refl; negates = refl }
+leaf-fine subcommand.Tell = record { fine = ((refl, inl (refl, refl), tt), ((refl, inl (refl, refl), tt), ((refl, inl (refl, refl), tt), ((refl, inl (refl, refl), tt), ((refl, inr (inr refl), tt), tt))))); once = refl; negates = refl }
 
 limits-given : (rows : List Row) (v w : Text) (n m : ℕ) → first_of (codes "min-part") rows ≡ Some v → number_of 64 v ≡ Some n
     → first_of (codes "max-body") rows ≡ Some w → number_of 64 w ≡ Some m → n ≤ 2 ^ 30 → 1 ≤ m → m ≤ 2 ^ 30
@@ -70,6 +71,21 @@ leap-given rows v n a b = rw (a, b) refl
 clock-given : (rows : List Row) (leap : Leap) → leap_at rows ≡ Some leap → clock_at rows ≡ Some (record { at = at rows; leap = leap })
 unfolding clock_at
 clock-given rows leap a = rw a refl
+
+serving-given : (rows : List Row) (u v w : Text) (l n m : ℕ) → first_of (codes "timeout") rows ≡ Some u → number_of 64 u ≡ Some l
+    → first_of (codes "connections") rows ≡ Some v → number_of 32 v ≡ Some n → first_of (codes "clock-step") rows ≡ Some w
+    → number_of 64 w ≡ Some m
+    → serving_at rows ≡ Some (record {
+      doors = doors_at rows;
+      count = number_at 64 Count rows;
+      log = is_given Log rows;
+      timeout = l;
+      connections = n;
+      spool = text_at Spool rows;
+      clock_step = m;
+    })
+unfolding serving_at
+serving-given rows u v w l n m a b c d e f = rw (a, b, c, d, e, f) refl
 
 pub leaf-told : (s : Subcommand) (words : List Text) → IsTaken (leaf s) words → is_some (line_at s (rows_of_words s words)) ≡ true
 leaf-told subcommand.Script words e =
@@ -225,10 +241,12 @@ leaf-told subcommand.Serve words e =
     let fine = leaf-fine subcommand.Serve in
     let s = leaf subcommand.Serve in
     let file = required-value s words (codes "file") _ fine e refl refl in
-    let port = required-value s words (codes "port") _ fine e refl refl in
-    let port_n = number_in 16 0 65_535 port.0 (omega arith) port.2 in
     let timeout = default-value s words (codes "timeout") _ fine e refl refl in
     let timeout_n = number_in 64 1 3_600 timeout.0 (omega arith) timeout.2 in
+    let connections = default-value s words (codes "connections") _ fine e refl refl in
+    let connections_n = number_in 32 1 65_536 connections.0 (omega arith) connections.2 in
+    let clock_step = default-value s words (codes "clock-step") _ fine e refl refl in
+    let clock_step_n = number_in 64 1 4_294_967_295 clock_step.0 (omega arith) clock_step.2 in
     let block_size = default-value s words (codes "block-size") _ fine e refl refl in
     let block_size_n = number_in 64 1 1_048_576 block_size.0 (omega arith) block_size.2 in
     let cache_blocks = default-value s words (codes "cache-blocks") _ fine e refl refl in
@@ -237,11 +255,10 @@ leaf-told subcommand.Serve words e =
     let days = default-value s words (codes "clock-leap") _ fine e refl refl in
     let days_n = number_in 32 0 3_000_000 days.0 (omega arith) days.2 in
     let leap = leap-given (rows_of_words subcommand.Serve words) _ _ days.1 days_n.1 in
-    rw (file.1, port.1, port_n.1, timeout.1, timeout_n.1, leap, tuning) refl
+    let serving = serving-given (rows_of_words subcommand.Serve words) _ _ _ _ _ _ timeout.1 timeout_n.1 connections.1 connections_n.1 clock_step.1 clock_step_n.1 in
+    rw (file.1, leap, tuning, serving) refl
 leaf-told subcommand.Tell words e =
     let fine = leaf-fine subcommand.Tell in
     let s = leaf subcommand.Tell in
-    let port = required-value s words (codes "port") _ fine e refl refl in
-    let port_n = number_in 16 0 65_535 port.0 (omega arith) port.2 in
     let order = required-value s words (codes "LINE") _ fine e refl refl in
-    rw (port.1, port_n.1, order.1) refl
+    rw order.1 refl

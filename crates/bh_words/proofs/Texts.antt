@@ -28,6 +28,14 @@ pub digits_65536 : codes "65536" ≡ decimal 65536
 unfolding digits
 digits_65536 = refl
 
+pub digits_4096 : codes "4096" ≡ decimal 4096
+unfolding digits
+digits_4096 = refl
+
+pub digits_3600 : codes "3600" ≡ decimal 3600
+unfolding digits
+digits_3600 = refl
+
 pub digits_0 : codes "0" ≡ decimal 0
 unfolding digits
 digits_0 = refl

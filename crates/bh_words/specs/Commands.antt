@@ -5,8 +5,9 @@ use Rattle.clap.specs.Simple.{new_shape}
 use Rattle.bh_words.specs.Options.{rule}
 use Rattle.bh_words.specs.declared.options.OptionName.{OptionName}
 use Rattle.bh_words.specs.declared.options.OptionName.TheVariants.{File, To, From, Tenant, Name, Secret, Quota, At, ClockLeap, Force, Limit}
-use Rattle.bh_words.specs.declared.options.OptionName.TheVariants.{Port, Count, Log, Timeout, MinPart, MaxBody, BlockSize, CacheBlocks}
-use Rattle.bh_words.specs.declared.options.OptionName.TheVariants.{CacheBytes, Digest, OperatorPort, OperatorSecretFile, SecretFile, Order}
+use Rattle.bh_words.specs.declared.options.OptionName.TheVariants.{Port, Socket, SocketGroup, Count, Log, Timeout, Connections, Spool, ClockStep}
+use Rattle.bh_words.specs.declared.options.OptionName.TheVariants.{MaxBody, BlockSize, CacheBlocks, CacheBytes, Digest, OperatorPort}
+use Rattle.bh_words.specs.declared.options.OptionName.TheVariants.{MinPart, OperatorSocket, OperatorSecretFile, SecretFile, Order}
 use Rattle.bh_words.specs.declared.subcommands.Subcommand.{Subcommand}
 use Rattle.bh_words.specs.declared.subcommands.Subcommand.TheVariants as subcommand
 
@@ -46,9 +47,9 @@ options subcommand.Sweep = File ∷ Limit ∷ At ∷ ClockLeap ∷ Force ∷ []
 options subcommand.Backup = File ∷ To ∷ []
 options subcommand.Export = File ∷ Tenant ∷ To ∷ []
 options subcommand.Import = File ∷ From ∷ ClockLeap ∷ Force ∷ []
-options subcommand.Serve = File ∷ Port ∷ Count ∷ Log ∷ Timeout ∷ ClockLeap ∷ Force ∷ BlockSize ∷ CacheBlocks ∷ CacheBytes ∷ OperatorPort
-    ∷ OperatorSecretFile ∷ []
-options subcommand.Tell = Port ∷ SecretFile ∷ Order ∷ []
+options subcommand.Serve = File ∷ Port ∷ Socket ∷ SocketGroup ∷ Count ∷ Log ∷ Timeout ∷ Connections ∷ Spool ∷ ClockLeap ∷ ClockStep
+    ∷ Force ∷ BlockSize ∷ CacheBlocks ∷ CacheBytes ∷ OperatorPort ∷ OperatorSocket ∷ OperatorSecretFile ∷ []
+options subcommand.Tell = Port ∷ Socket ∷ SecretFile ∷ Order ∷ []
 
 abbrev pub subcommands : List Subcommand
 subcommands = subcommand.Script ∷ subcommand.Init ∷ subcommand.TenantAdd ∷ subcommand.Quota ∷ subcommand.KeyAdd

@@ -4,11 +4,14 @@ use Rattle.std.specs.String.{string_bytes}
 use Rattle.bh_types.specs.Limits.{HostLimits, HostTuning}
 use Rattle.bh_types.specs.declared.block_digest.BlockDigest.{BlockDigest}
 use Rattle.bh_words.specs.declared.lines.ClockGiven.{ClockGiven}
+use Rattle.bh_words.specs.declared.lines.DoorGiven.{DoorGiven}
+use Rattle.bh_words.specs.declared.lines.DoorsGiven.{DoorsGiven}
 use Rattle.bh_words.specs.declared.lines.Leap.{Leap}
 use Rattle.bh_words.specs.declared.lines.Line.{Line}
 use Rattle.bh_words.specs.declared.lines.Line.TheVariants as line
 use Rattle.bh_words.specs.declared.lines.SecretGiven.{SecretGiven}
 use Rattle.bh_words.specs.declared.lines.SecretGiven.TheVariants as given
+use Rattle.bh_words.specs.declared.lines.ServeGiven.{ServeGiven}
 
 abbrev pub Octets : Type 0
 Octets = List ℕ
@@ -18,8 +21,29 @@ pub data Secret : Type 0 where
   Written : (secret : Octets) → Secret
   FromInput : Secret
 
--- a subcommand with its values; `count` is the number of connections, if one is given, and `digest`
--- is none if no function has that name
+-- where a server listens, as far as it is given
+pub record Door : Type 0 where
+  pub port : Option ℕ
+  pub socket : Option Octets
+
+-- where it listens for clients and for operators, and the file of the operators' secret
+pub record Doors : Type 0 where
+  pub clients : Door
+  pub socket_group : Option Octets
+  pub operators : Door
+  pub operator_secret_file : Option Octets
+
+-- how a host is served; `count` is the number of requests and lines, if one is given
+pub record Serving : Type 0 where
+  pub doors : Doors
+  pub count : Option ℕ
+  pub log : Bool
+  pub timeout : ℕ
+  pub connections : ℕ
+  pub spool : Option Octets
+  pub clock_step : ℕ
+
+-- a subcommand with its values; `digest` is none if no function has that name
 pub data CommandLine : Type 0 where
   Script : (limits : HostLimits) (tuning : HostTuning) (digest : Option BlockDigest) → CommandLine
   Init : (file : Octets) (limits : HostLimits) (digest : Option BlockDigest) → CommandLine
@@ -36,14 +60,34 @@ pub data CommandLine : Type 0 where
   Backup : (file : Octets) (to : Octets) → CommandLine
   Export : (file : Octets) (tenant : Octets) (to : Octets) → CommandLine
   Import : (file : Octets) (given : Octets) (leap : Leap) → CommandLine
-  Serve : (file : Octets) (port : ℕ) (count : Option ℕ) (log : Bool) (timeout : ℕ) (leap : Leap) (tuning : HostTuning)
-      (operator_port : Option ℕ)
-      (operator_secret_file : Option Octets) → CommandLine
-  Tell : (port : ℕ) (secret_file : Option Octets) (order : Octets) → CommandLine
+  Serve : (file : Octets) (leap : Leap) (tuning : HostTuning) (serving : Serving) → CommandLine
+  Tell : (door : Door) (secret_file : Option Octets) (order : Octets) → CommandLine
 
 abbrev pub secret : SecretGiven → Secret
 secret (given.Word text) = Written (string_bytes text)
 secret given.StandardInput = FromInput
+
+abbrev pub door : DoorGiven → Door
+door given = record { port = given.port; socket = option_map string_bytes given.socket }
+
+abbrev pub doors : DoorsGiven → Doors
+doors given = record {
+  clients = door given.clients;
+  socket_group = option_map string_bytes given.socket_group;
+  operators = door given.operators;
+  operator_secret_file = option_map string_bytes given.operator_secret_file;
+}
+
+abbrev pub serving : ServeGiven → Serving
+serving given = record {
+  doors = doors given.doors;
+  count = given.count;
+  log = given.log;
+  timeout = given.timeout;
+  connections = given.connections;
+  spool = option_map string_bytes given.spool;
+  clock_step = given.clock_step;
+}
 
 abbrev pub command_line : Line → CommandLine
 command_line (line.Script limits tuning digest) = Script limits tuning digest
@@ -61,6 +105,5 @@ command_line (line.Sweep file limit clock) = Sweep (string_bytes file) limit clo
 command_line (line.Backup file to) = Backup (string_bytes file) (string_bytes to)
 command_line (line.Export file tenant to) = Export (string_bytes file) (string_bytes tenant) (string_bytes to)
 command_line (line.Import file given leap) = Import (string_bytes file) (string_bytes given) leap
-command_line (line.Serve file port count log timeout leap tuning operator secret) =
-    Serve (string_bytes file) port count log timeout leap tuning operator (option_map string_bytes secret)
-command_line (line.Tell port secret order) = Tell port (option_map string_bytes secret) (string_bytes order)
+command_line (line.Serve file leap tuning given) = Serve (string_bytes file) leap tuning (serving given)
+command_line (line.Tell at secret order) = Tell (door at) (option_map string_bytes secret) (string_bytes order)

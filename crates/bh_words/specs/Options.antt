@@ -6,8 +6,9 @@ use Rattle.clap.specs.declared.builder.value_parser.ValueParser.TheVariants.{Uns
 use Rattle.bh_types.specs.Limits.{default_limits, default_tuning}
 use Rattle.bh_words.specs.declared.options.OptionName.{OptionName}
 use Rattle.bh_words.specs.declared.options.OptionName.TheVariants.{File, To, From, Tenant, Name, Secret, Quota, At, ClockLeap, Force, Limit}
-use Rattle.bh_words.specs.declared.options.OptionName.TheVariants.{Port, Count, Log, Timeout, MinPart, MaxBody, BlockSize, CacheBlocks}
-use Rattle.bh_words.specs.declared.options.OptionName.TheVariants.{CacheBytes, Digest, OperatorPort, OperatorSecretFile, SecretFile, Order}
+use Rattle.bh_words.specs.declared.options.OptionName.TheVariants.{Port, Socket, SocketGroup, Count, Log, Timeout, Connections, Spool, ClockStep}
+use Rattle.bh_words.specs.declared.options.OptionName.TheVariants.{MaxBody, BlockSize, CacheBlocks, CacheBytes, Digest, OperatorPort}
+use Rattle.bh_words.specs.declared.options.OptionName.TheVariants.{MinPart, OperatorSocket, OperatorSecretFile, SecretFile, Order}
 
 -- an option is written `--word value` or `--word=value`
 abbrev pub word : OptionName → Text
@@ -23,9 +24,14 @@ word ClockLeap = codes "clock-leap"
 word Force = codes "force"
 word Limit = codes "limit"
 word Port = codes "port"
+word Socket = codes "socket"
+word SocketGroup = codes "socket-group"
 word Count = codes "count"
 word Log = codes "log"
 word Timeout = codes "timeout"
+word Connections = codes "connections"
+word Spool = codes "spool"
+word ClockStep = codes "clock-step"
 word MinPart = codes "min-part"
 word MaxBody = codes "max-body"
 word BlockSize = codes "block-size"
@@ -33,6 +39,7 @@ word CacheBlocks = codes "cache-blocks"
 word CacheBytes = codes "cache-bytes"
 word Digest = codes "digest"
 word OperatorPort = codes "operator-port"
+word OperatorSocket = codes "operator-socket"
 word OperatorSecretFile = codes "operator-secret-file"
 word SecretFile = codes "secret-file"
 word Order = codes "LINE"
@@ -84,10 +91,15 @@ rule At = number At 0 greatest
 rule ClockLeap = preset 1 (number ClockLeap 0 3_000_000)
 rule Force = flag Force
 rule Limit = required (number Limit 0 4_294_967_295)
-rule Port = required (number Port 0 65_535)
+rule Port = number Port 0 65_535
+rule Socket = described Socket
+rule SocketGroup = described SocketGroup
 rule Count = number Count 1 4_294_967_295
 rule Log = flag Log
 rule Timeout = preset 30 (number Timeout 1 3_600)
+rule Connections = preset 4_096 (number Connections 1 65_536)
+rule Spool = described Spool
+rule ClockStep = preset 3_600 (number ClockStep 1 4_294_967_295)
 rule MinPart = preset default_limits.min_part (number MinPart 0 (2 ^ 30))
 rule MaxBody = preset default_limits.max_body (number MaxBody 1 (2 ^ 30))
 rule BlockSize = preset default_tuning.block_size (number BlockSize 1 1_048_576)
@@ -95,6 +107,7 @@ rule CacheBlocks = preset default_tuning.cache_blocks (number CacheBlocks 0 65_5
 rule CacheBytes = number CacheBytes 0 (65_536 * 1_048_576)
 rule Digest = worded (codes "sha256") (described Digest)
 rule OperatorPort = number OperatorPort 0 65_535
+rule OperatorSocket = described OperatorSocket
 rule OperatorSecretFile = described OperatorSecretFile
 rule SecretFile = described SecretFile
 rule Order = placed Order

@@ -67,6 +67,33 @@ secret_at rows = do
   text ← text_at option.Secret rows
   Some (secret_of text)
 
+-- a port's number and a socket's path, as far as they are given
+abbrev pub door_at : OptionName → OptionName → List Row → line.Door
+door_at port socket rows = record { port = number_at 16 port rows; socket = text_at socket rows }
+
+abbrev pub doors_at : List Row → line.Doors
+doors_at rows = record {
+  clients = door_at option.Port option.Socket rows;
+  socket_group = text_at option.SocketGroup rows;
+  operators = door_at option.OperatorPort option.OperatorSocket rows;
+  operator_secret_file = text_at option.OperatorSecretFile rows;
+}
+
+unfoldable pub serving_at : List Row → Option line.Serving
+serving_at rows = do
+  timeout ← number_at 64 option.Timeout rows
+  connections ← number_at 32 option.Connections rows
+  clock_step ← number_at 64 option.ClockStep rows
+  Some (record {
+    doors = doors_at rows;
+    count = number_at 64 option.Count rows;
+    log = is_given option.Log rows;
+    timeout = timeout;
+    connections = connections;
+    spool = text_at option.Spool rows;
+    clock_step = clock_step;
+  })
+
 abbrev pub at : List Row → Option ℕ
 at rows = number_at 64 option.At rows
 
@@ -233,18 +260,15 @@ import_ rows = do
 abbrev pub serve : List Row → Option CommandLine
 serve rows = do
   file ← text_at option.File rows
-  port ← number_at 16 option.Port rows
-  timeout ← number_at 64 option.Timeout rows
   leap ← leap_at rows
   tuning ← tuning_at rows
-  Some (line.Serve file port (number_at 64 option.Count rows) (is_given option.Log rows) timeout leap tuning
-      (number_at 16 option.OperatorPort rows) (text_at option.OperatorSecretFile rows))
+  serving ← serving_at rows
+  Some (line.Serve file leap tuning serving)
 
 abbrev pub tell : List Row → Option CommandLine
 tell rows = do
-  port ← number_at 16 option.Port rows
   order ← text_at option.Order rows
-  Some (line.Tell port (text_at option.SecretFile rows) order)
+  Some (line.Tell (door_at option.Port option.Socket rows) (text_at option.SecretFile rows) order)
 
 abbrev pub line_at : Subcommand → List Row → Option CommandLine
 line_at subcommand.Script = script

@@ -3,9 +3,8 @@ ghost use Rattle.std.specs.Prelude.{◌≡◌, Some, IfOk, option_map};
 ghost use Rattle.std.specs.String.{string_bytes};
 ghost use Rattle.bh_words.specs.Lines as lines;
 ghost use Rattle.bh_words.specs.Readings as spec;
-ghost use Rattle.bh_words.specs.declared.options.OptionName.TheVariants as option;
 
-use crate::lines::{ClockGiven, Leap, SecretGiven};
+use crate::lines::{ClockGiven, DoorGiven, DoorsGiven, Leap, SecretGiven, ServeGiven};
 use crate::options::OptionName;
 use bh_types::block_digest::BlockDigest;
 use bh_types::limits::{GREATEST_CACHE_BLOCKS, Limits, Tuning};
@@ -165,11 +164,11 @@ fn small_number_of(text: &str) -> Option<u32>
     text.parse::<u32>().ok()
 }
 
-/// The port.
-pub(crate) fn port(given: &ArgMatches<'_>) -> Option<u16>
-    ensures { result ≡ spec.number_at 16 option.Port (spec.rows_in given.now) }
+/// The port of an option, if it has one.
+fn port(given: &ArgMatches<'_>, option: OptionName) -> Option<u16>
+    ensures { result ≡ spec.number_at 16 option (spec.rows_in given.now) }
 {
-    match written(given, OptionName::Port) {
+    match written(given, option) {
         Some(text) => port_of(text),
         None => None,
     }
@@ -182,14 +181,57 @@ fn port_of(text: &str) -> Option<u16>
     text.parse::<u16>().ok()
 }
 
-/// The operators' port, if one was given.
-pub(crate) fn operator_port(given: &ArgMatches<'_>) -> Option<u16>
-    ensures { result ≡ spec.number_at 16 option.OperatorPort (spec.rows_in given.now) }
+/// Where the server listens, as given by these options of a port and a socket.
+pub(crate) fn door(
+    alloc: Global,
+    given: &ArgMatches<'_>,
+    port_option: OptionName,
+    socket_option: OptionName,
+) -> Result<DoorGiven, GivenError>
+    ensures { spec.Gives lines.door result (Some (spec.door_at port_option socket_option (spec.rows_in given.now))) }
 {
-    match written(given, OptionName::OperatorPort) {
-        Some(text) => port_of(text),
-        None => None,
-    }
+    let socket = text_if_given(alloc, given, socket_option)?;
+    Ok(DoorGiven {
+        port: port(given, port_option),
+        socket,
+    })
+}
+
+/// Where a server listens for clients and for operators.
+fn doors(alloc: Global, given: &ArgMatches<'_>) -> Result<DoorsGiven, GivenError>
+    ensures { spec.Gives lines.doors result (Some (spec.doors_at (spec.rows_in given.now))) }
+{
+    Ok(DoorsGiven {
+        clients: door(alloc, given, OptionName::Port, OptionName::Socket)?,
+        socket_group: text_if_given(alloc, given, OptionName::SocketGroup)?,
+        operators: door(
+            alloc,
+            given,
+            OptionName::OperatorPort,
+            OptionName::OperatorSocket,
+        )?,
+        operator_secret_file: text_if_given(alloc, given, OptionName::OperatorSecretFile)?,
+    })
+}
+
+/// How a host is served.
+#[tactic(auto, unfolding(crate::specs::Readings::serving_at))]
+pub(crate) fn serving(alloc: Global, given: &ArgMatches<'_>) -> Result<ServeGiven, GivenError>
+    ensures { spec.Gives lines.serving result (spec.serving_at (spec.rows_in given.now)) }
+{
+    let timeout = needed(number(given, OptionName::Timeout))?;
+    let connections = needed(small_number(given, OptionName::Connections))?;
+    let clock_step = needed(number(given, OptionName::ClockStep))?;
+    let spool = text_if_given(alloc, given, OptionName::Spool)?;
+    Ok(ServeGiven {
+        doors: doors(alloc, given)?,
+        count: number(given, OptionName::Count),
+        log: is_given(given, OptionName::Log),
+        timeout,
+        connections,
+        spool,
+        clock_step,
+    })
 }
 
 /// The limits of a new host.

@@ -11,5 +11,5 @@ mod readings;
 mod subcommands;
 
 pub use fault::LineFault;
-pub use lines::{ClockGiven, Leap, Line, SecretGiven};
+pub use lines::{ClockGiven, DoorGiven, DoorsGiven, Leap, Line, SecretGiven, ServeGiven};
 pub use read::read_words;

@@ -27,6 +27,41 @@ pub struct ClockGiven {
     pub leap: Leap,
 }
 
+/// Where a server listens, as far as it was given: a port of 127.0.0.1, and a Unix socket's path.
+#[derive(Drop)]
+pub struct DoorGiven {
+    pub port: Option<u16>,
+    pub socket: Option<String>,
+}
+
+/// Where a server listens for clients and for operators, and the file of the operators' secret.
+#[derive(Drop)]
+pub struct DoorsGiven {
+    pub clients: DoorGiven,
+    /// The group whose users may use the clients' socket.
+    pub socket_group: Option<String>,
+    pub operators: DoorGiven,
+    pub operator_secret_file: Option<String>,
+}
+
+/// How a host is served.
+#[derive(Drop)]
+pub struct ServeGiven {
+    pub doors: DoorsGiven,
+    /// Serving ends after so many requests and lines; `None` for no end.
+    pub count: Option<u64>,
+    /// Whether each request is logged to standard error.
+    pub log: bool,
+    /// How many seconds a request may take to read, and its response to write.
+    pub timeout: u64,
+    /// How many connections are open at most.
+    pub connections: u32,
+    /// The directory of temporary files for long requests and responses.
+    pub spool: Option<String>,
+    /// By how many seconds the clock may jump.
+    pub clock_step: u64,
+}
+
 /// A parsed command line: a subcommand and its options.
 ///
 /// Names, secrets and quotas are unchecked: the host checks their ranges. A `digest` is `None` if
@@ -124,25 +159,17 @@ pub enum Line {
         given: String,
         leap: Leap,
     },
-    /// Serves `count` connections, or without end, on a port of 127.0.0.1; if that is 0, the system
-    /// chooses one. A request may take `timeout` seconds to read, and its response as long to
-    /// write. With `log` each request is logged to standard error. An `operator_port` takes
-    /// operators' lines; with an `operator_secret_file` each begins with the secret in that file.
+    /// Serves requests, and operators' lines if there is a door for them.
     Serve {
         file: String,
-        port: u16,
-        count: Option<u64>,
-        log: bool,
-        timeout: u64,
         leap: Leap,
         tuning: Tuning,
-        operator_port: Option<u16>,
-        operator_secret_file: Option<String>,
+        given: ServeGiven,
     },
-    /// Sends a line to a running server's operator port, after the secret in a file if one is
+    /// Sends a line to a running server's operators' door, after the secret in a file if one is
     /// named. `-` means the first line of standard input.
     Tell {
-        port: u16,
+        door: DoorGiven,
         secret_file: Option<String>,
         order: String,
     },

@@ -22,9 +22,14 @@ pub(crate) enum OptionName {
     Force,
     Limit,
     Port,
+    Socket,
+    SocketGroup,
     Count,
     Log,
     Timeout,
+    Connections,
+    Spool,
+    ClockStep,
     MinPart,
     MaxBody,
     BlockSize,
@@ -32,6 +37,7 @@ pub(crate) enum OptionName {
     CacheBytes,
     Digest,
     OperatorPort,
+    OperatorSocket,
     OperatorSecretFile,
     SecretFile,
     Order,
@@ -55,9 +61,14 @@ impl OptionName {
             OptionName::Force => "force",
             OptionName::Limit => "limit",
             OptionName::Port => "port",
+            OptionName::Socket => "socket",
+            OptionName::SocketGroup => "socket-group",
             OptionName::Count => "count",
             OptionName::Log => "log",
             OptionName::Timeout => "timeout",
+            OptionName::Connections => "connections",
+            OptionName::Spool => "spool",
+            OptionName::ClockStep => "clock-step",
             OptionName::MinPart => "min-part",
             OptionName::MaxBody => "max-body",
             OptionName::BlockSize => "block-size",
@@ -65,6 +76,7 @@ impl OptionName {
             OptionName::CacheBytes => "cache-bytes",
             OptionName::Digest => "digest",
             OptionName::OperatorPort => "operator-port",
+            OptionName::OperatorSocket => "operator-socket",
             OptionName::OperatorSecretFile => "operator-secret-file",
             OptionName::SecretFile => "secret-file",
             OptionName::Order => "LINE",
@@ -90,11 +102,19 @@ impl OptionName {
             OptionName::Limit =>
                 "Maximum number of uploads and blocks to remove, together: 0 to 2^32 - 1",
             OptionName::Port => "Port on 127.0.0.1; with 0 the system chooses one",
+            OptionName::Socket => "Path of a Unix socket, instead of --port",
+            OptionName::SocketGroup =>
+                "Group whose users may use the socket too, by its name or number; without it, only its owner",
             OptionName::Count =>
-                "Ends after this many connections: 1 to 2^32 - 1; without it, never",
+                "Ends after this many requests and orders: 1 to 2^32 - 1; without it, never",
             OptionName::Log => "Logs each request to standard error",
             OptionName::Timeout =>
                 "Maximum seconds to read a request, and then to write its response: 1 to 3,600",
+            OptionName::Connections => "Maximum number of open connections: 1 to 65,536",
+            OptionName::Spool =>
+                "Directory of temporary files for long requests and responses; without it, that of the host's file",
+            OptionName::ClockStep =>
+                "Maximum seconds by which the clock may jump while the server runs: 1 to 2^32 - 1",
             OptionName::MinPart => "Minimum size of each part but the last, in bytes: 0 to 2^30",
             OptionName::MaxBody => "Maximum size of a request's body, in bytes: 1 to 2^30",
             OptionName::BlockSize => "Size of new blocks, in bytes: 1 to 1,048,576",
@@ -104,6 +124,8 @@ impl OptionName {
             OptionName::Digest => "Block digest, fixed when the host is created: sha256 or fast",
             OptionName::OperatorPort =>
                 "Port on 127.0.0.1 for operators' orders; with 0 the system chooses one",
+            OptionName::OperatorSocket =>
+                "Path of a Unix socket for operators' orders, instead of --operator-port",
             OptionName::OperatorSecretFile =>
                 "Path of a file of mode 0600; each order must begin with its first line and a space",
             OptionName::SecretFile => "Path of the server's --operator-secret-file, if it has one",
@@ -129,10 +151,12 @@ impl OptionName {
             OptionName::ClockLeap => self.number(alloc, 0, 3_000_000).default_value("1"),
             OptionName::Force => self.flag(alloc),
             OptionName::Limit => self.number(alloc, 0, 4_294_967_295).required(true),
-            OptionName::Port => self.number(alloc, 0, 65_535).required(true),
+            OptionName::Port => self.number(alloc, 0, 65_535),
             OptionName::Count => self.number(alloc, 1, 4_294_967_295),
             OptionName::Log => self.flag(alloc),
             OptionName::Timeout => self.number(alloc, 1, 3_600).default_value("30"),
+            OptionName::Connections => self.number(alloc, 1, 65_536).default_value("4096"),
+            OptionName::ClockStep => self.number(alloc, 1, 4_294_967_295).default_value("3600"),
             OptionName::MinPart => self.number(alloc, 0, 1 << 30).default_value("5242880"),
             OptionName::MaxBody => self.number(alloc, 1, 1 << 30).default_value("16777216"),
             OptionName::BlockSize => self.number(alloc, 1, 1_048_576).default_value("65536"),
@@ -140,7 +164,12 @@ impl OptionName {
             OptionName::CacheBytes => self.number(alloc, 0, 1 << 36),
             OptionName::Digest => self.described(alloc).default_value("sha256"),
             OptionName::OperatorPort => self.number(alloc, 0, 65_535),
-            OptionName::OperatorSecretFile | OptionName::SecretFile => self.described(alloc),
+            OptionName::Socket
+            | OptionName::SocketGroup
+            | OptionName::Spool
+            | OptionName::OperatorSocket
+            | OptionName::OperatorSecretFile
+            | OptionName::SecretFile => self.described(alloc),
             OptionName::Order => self.placed(alloc),
         }
     }

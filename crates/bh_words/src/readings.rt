@@ -3,8 +3,8 @@ ghost use Rattle.bh_words.specs.Lines.{command_line};
 ghost use Rattle.bh_words.specs.Readings as spec;
 
 use crate::given::{
-    GivenError, clock, digest, is_given, leap, limits, needed, number, operator_port, port, secret,
-    small_number, text, text_if_given, tuning,
+    GivenError, clock, digest, door, leap, limits, needed, number, secret, serving, small_number,
+    text, text_if_given, tuning,
 };
 use crate::lines::Line;
 use crate::options::OptionName;
@@ -228,35 +228,25 @@ fn serve(alloc: Global, given: &ArgMatches<'_>) -> Result<Line, GivenError>
     ensures { spec.Gives command_line result (spec.serve (spec.rows_in given.now)) }
 {
     let file = text(alloc, given, OptionName::File)?;
-    let port = needed(port(given))?;
-    let count = number(given, OptionName::Count);
-    let log = is_given(given, OptionName::Log);
-    let timeout = needed(number(given, OptionName::Timeout))?;
     let leap = needed(leap(given))?;
     let tuning = needed(tuning(given))?;
-    let operator_port = operator_port(given);
-    let operator_secret_file = text_if_given(alloc, given, OptionName::OperatorSecretFile)?;
+    let serving = serving(alloc, given)?;
     Ok(Line::Serve {
         file,
-        port,
-        count,
-        log,
-        timeout,
         leap,
         tuning,
-        operator_port,
-        operator_secret_file,
+        given: serving,
     })
 }
 
 fn tell(alloc: Global, given: &ArgMatches<'_>) -> Result<Line, GivenError>
     ensures { spec.Gives command_line result (spec.tell (spec.rows_in given.now)) }
 {
-    let port = needed(port(given))?;
+    let door = door(alloc, given, OptionName::Port, OptionName::Socket)?;
     let secret_file = text_if_given(alloc, given, OptionName::SecretFile)?;
     let order = text(alloc, given, OptionName::Order)?;
     Ok(Line::Tell {
-        port,
+        door,
         secret_file,
         order,
     })

@@ -5,9 +5,9 @@ ghost use Rattle.bh_words.specs.Commands as spec;
 
 use crate::options::OptionName;
 use crate::options::OptionName::{
-    At, BlockSize, CacheBlocks, CacheBytes, ClockLeap, Count, Digest, File, Force, Limit, Log,
-    MaxBody, MinPart, Name, OperatorPort, OperatorSecretFile, Order, Port, Quota, Secret,
-    SecretFile, Tenant, Timeout, To,
+    At, BlockSize, CacheBlocks, CacheBytes, ClockLeap, ClockStep, Connections, Count, Digest, File,
+    Force, Limit, Log, MaxBody, MinPart, Name, OperatorPort, OperatorSecretFile, OperatorSocket,
+    Order, Port, Quota, Secret, SecretFile, Socket, SocketGroup, Spool, Tenant, Timeout, To,
 };
 
 /// A subcommand of the program.
@@ -56,22 +56,28 @@ static EXPORT: [OptionName; 3] = [File, Tenant, To];
 
 static IMPORT: [OptionName; 4] = [File, OptionName::From, ClockLeap, Force];
 
-static SERVE: [OptionName; 12] = [
+static SERVE: [OptionName; 18] = [
     File,
     Port,
+    Socket,
+    SocketGroup,
     Count,
     Log,
     Timeout,
+    Connections,
+    Spool,
     ClockLeap,
+    ClockStep,
     Force,
     BlockSize,
     CacheBlocks,
     CacheBytes,
     OperatorPort,
+    OperatorSocket,
     OperatorSecretFile,
 ];
 
-static TELL: [OptionName; 3] = [Port, SecretFile, Order];
+static TELL: [OptionName; 4] = [Port, Socket, SecretFile, Order];
 
 impl Subcommand {
     /// The subcommand's name.
@@ -124,7 +130,10 @@ impl Subcommand {
                 "import",
                 "Adds the tenant of a file that export made to the host",
             ),
-            Subcommand::Serve => ("serve", "Serves requests over HTTP on a port of 127.0.0.1"),
+            Subcommand::Serve => (
+                "serve",
+                "Serves requests over HTTP on a port of 127.0.0.1 or a Unix socket",
+            ),
             Subcommand::Tell => (
                 "tell",
                 "Sends an operator's order to a running server, and prints the reply",

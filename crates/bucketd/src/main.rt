@@ -1,7 +1,7 @@
 //! bucketd: an S3-style object store for many tenants in one file.
 #![tactic(auto)]
 
-use bh_command_line::carry_out;
+use bh_command_line::{Failure, carry_out};
 use bh_maintenance::fault::Fault;
 use bh_maintenance::printed::Printed;
 use bh_words::read_words;
@@ -21,7 +21,7 @@ fn end_misread(rt: &impl Print, fault: &impl fmt::Display) -> io::Result<ExitCod
 }
 
 /// Prints the cause on standard error, and ends with status 1.
-fn end_fault(rt: &(impl Print + Eprint), fault: &Fault) -> io::Result<ExitCode> {
+fn end_fault(rt: &(impl Print + Eprint), fault: &Failure) -> io::Result<ExitCode> {
     println!(rt; "fault")?;
     eprintln!(rt; "bucketd: {fault}")?;
     Ok(ExitCode::from(1))
@@ -31,7 +31,7 @@ fn main(rt: HostRuntime) -> io::Result<ExitCode> {
     let words: Vec<String> = env::args(&rt)?.collect(rt.alloc())?;
     let line = match read_words(rt.alloc(), words.as_slice()) {
         Ok(line) => line,
-        Err(fault) if fault.is_memory() => return end_fault(&rt, &Fault::Memory),
+        Err(fault) if fault.is_memory() => return end_fault(&rt, &Failure::from(Fault::Memory)),
         Err(version) if version.is_version() => {
             print!(rt; "{version}")?;
             return Ok(ExitCode::SUCCESS);
@@ -40,7 +40,7 @@ fn main(rt: HostRuntime) -> io::Result<ExitCode> {
     };
     match carry_out(&rt, line) {
         Ok(printed) => end(&rt, &printed),
-        Err(fault) if fault.is_in_words() => end_misread(&rt, &fault),
-        Err(fault) => end_fault(&rt, &fault),
+        Err(failure) if failure.is_in_words() => end_misread(&rt, &failure),
+        Err(failure) => end_fault(&rt, &failure),
     }
 }

@@ -2,9 +2,9 @@
 
 use crate::digest_runs::answers;
 use crate::digesters::{Constant, Parity};
+use crate::series::events_in;
 use bh_blocks::digester::{FastDigester, Sha256Digester};
 use bh_schema::host::Digester;
-use bh_script::input::read_script;
 use example_calls::answer::{Answer, Fault};
 use example_calls::words::number;
 use sqlite::{Alter, Connection};
@@ -123,9 +123,9 @@ fn shown<D: Digester + Drop>(
     cache_blocks: Option<u64>,
     script: &str,
 ) -> Result<(String, usize), Fault> {
-    let script = read_script(alloc, script.as_bytes())?;
+    let events = events_in(alloc, script.as_bytes())?;
     let kept = cache_blocks.unwrap_or(0);
-    let Ok(Some(mut answered)) = answers(alloc, digester, kept, script.events.as_slice()) else {
+    let Ok(Some(mut answered)) = answers(alloc, digester, kept, events.as_slice()) else {
         return Err(Fault::Memory);
     };
     let mut text = String::new(alloc);

@@ -5,6 +5,7 @@ ghost use Rattle.bh_storage.specs.Calls.{Clean, IsAtRest};
 ghost use Rattle.bh_connection.specs.Each.{IsGoing};
 
 use crate::ends::{Last, Narrow, cut_of, reader};
+use crate::series::events_in;
 use bh_blocks::digester::Sha256Digester;
 use bh_connection::{Arrival, End, Served, serve_each};
 use bh_create::create;
@@ -14,7 +15,6 @@ use bh_host::apply;
 use bh_link::ends::Untold;
 use bh_link::link::Link;
 use bh_operation::routes::Routes;
-use bh_script::input::read_script;
 use bh_storage::storage::Storage;
 use bh_types::block_digest::BlockDigest;
 use bh_types::limits::{Limits, Tuning};
@@ -181,7 +181,7 @@ pub fn check(rt: &(impl Files + Print + AllocGlobal), name: &str) -> io::Result<
     let script = stored(rt, name, ".in")?;
     let cuts = stored(rt, name, ".cuts")?;
     let expected = stored(rt, name, ".out")?;
-    let events = read_script(rt.alloc(), script.as_bytes())?.events;
+    let events = events_in(rt.alloc(), script.as_bytes())?;
     let text = answered(rt.alloc(), events.as_slice(), cuts.as_str())?;
     if text.as_slice() == expected.as_bytes() {
         println!(rt; "{name} over connections: as expected")?;

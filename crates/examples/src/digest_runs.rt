@@ -2,6 +2,7 @@
 //! reports, which count blocks with another one's digest.
 
 use crate::digesters::{Constant, Parity};
+use crate::series::events_of;
 use bh_blocks::digester::{FastDigester, Sha256Digester};
 use bh_create::create;
 use bh_dispatch::storage::HostStorage;
@@ -9,14 +10,13 @@ use bh_event::event::Event;
 use bh_host::{Told, run};
 use bh_operation::routes::Routes;
 use bh_schema::host::Digester;
-use bh_script::input::read_script;
 use bh_storage::error::Trouble;
 use bh_types::block_digest::BlockDigest;
 use bh_types::limits::{DEFAULT_MAX_BODY, Limits, Tuning};
 use sqlite::{Connection, MemStore};
 use std::alloc::Global;
+use std::io;
 use std::rt::Files;
-use std::{fs, io};
 
 /// Blocks of 4 bytes, no cache, and parts of at least 4 bytes except for the last.
 pub fn settings() -> Option<(Limits, Tuning)> {
@@ -110,9 +110,8 @@ fn all_answer_alike(alloc: Global, events: &[Event]) -> Result<bool, Trouble> {
 /// fast digest function, a constant one, and one with two values, each with a cache.
 pub fn check(rt: &(impl Files + Print + AllocGlobal), name: &str) -> io::Result<bool> {
     let alloc = rt.alloc();
-    let text = fs::read_to_string(rt, format!(in alloc; "scripts/{name}.in")?)?;
-    let script = read_script(alloc, text.as_bytes())?;
-    let is_well = all_answer_alike(alloc, script.events.as_slice()) == Ok(true);
+    let events = events_of(rt, name)?;
+    let is_well = all_answer_alike(alloc, events.as_slice()) == Ok(true);
     let told = if is_well {
         "alike by any digest"
     } else {

@@ -6,13 +6,14 @@
 
 ghost use Rattle.bh_storage.specs.Calls.{Clean, IsAtRest};
 
+use crate::series::events_in;
 use bh_blocks::digester::Sha256Digester;
 use bh_create::create;
 use bh_dispatch::storage::HostStorage;
 use bh_event::event::Event;
 use bh_host::{Told, apply};
 use bh_operation::routes::Routes;
-use bh_script::input::{read_all, read_script};
+use bh_script::input::read_all;
 use bh_storage::storage::Storage;
 use bh_types::block_digest::BlockDigest;
 use bh_types::limits::{Limits, Tuning};
@@ -58,7 +59,7 @@ pub fn retry(rt: &(impl Input + Print + AllocGlobal)) -> io::Result<bool> {
     let Some(bytes) = read_all(alloc, &mut rt.reader())? else {
         return Ok(false);
     };
-    let script = read_script(alloc, bytes.as_slice())?;
+    let events = events_in(alloc, bytes.as_slice())?;
     let routes = Routes::new(alloc)?;
     let connection = Connection::open_in_memory(alloc)?;
     match create(
@@ -70,7 +71,7 @@ pub fn retry(rt: &(impl Input + Print + AllocGlobal)) -> io::Result<bool> {
     ) {
         Ok(host) => {
             let mut storage = HostStorage { host };
-            let text = answers(alloc, &routes, &mut storage, script.events.as_slice())?;
+            let text = answers(alloc, &routes, &mut storage, events.as_slice())?;
             io::writer(rt).write_all(text.as_slice())?;
             Ok(true)
         }

@@ -1,9 +1,10 @@
 //! Counts of a series of runs, and the events of a stored script.
 
 use bh_event::event::Event;
+use bh_event::line::read_line;
 use bh_host::Told;
-use bh_script::input::read_script;
 use bh_types::moment::Moment;
+use std::alloc::{AllocError, Global};
 use std::rt::Files;
 use std::{fs, io};
 
@@ -19,11 +20,27 @@ pub fn is_told(stamp: Option<Moment>, bytes: &[u8], told: &Told) -> bool {
     stamp.is_some() && stamp == told.stamp && bytes == told.reply.bytes()
 }
 
+/// The events that the lines of a text tell, up to the first one that tells none; empty lines are
+/// skipped.
+pub fn events_in(alloc: Global, text: &[u8]) -> Result<Vec<Event>, AllocError> {
+    let mut events = Vec::new(alloc);
+    for line in text.split(|b| *b == b'\n') {
+        if line.is_empty() {
+            continue;
+        }
+        match read_line(alloc, line)? {
+            Some(event) => events.push(event)?,
+            None => return Ok(events),
+        }
+    }
+    Ok(events)
+}
+
 /// The events of a stored script.
 pub fn events_of(rt: &(impl Files + AllocGlobal), name: &str) -> io::Result<Vec<Event>> {
     let alloc = rt.alloc();
     let text = fs::read_to_string(rt, format!(in alloc; "scripts/{name}.in")?)?;
-    Ok(read_script(alloc, text.as_bytes())?.events)
+    Ok(events_in(alloc, text.as_bytes())?)
 }
 
 /// Prints whether the runs on a script were as expected, and on standard error how many there were.

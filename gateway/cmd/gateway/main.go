@@ -28,8 +28,12 @@ import (
 	"bucketd/gateway/internal/s3"
 	"bucketd/gateway/internal/sigv4"
 	"bucketd/gateway/internal/spool"
+	"bucketd/gateway/internal/status"
 	"bucketd/gateway/internal/tlsconf"
 )
+
+// restPatience is how long what goes on behind clients' answers may take at the end.
+const restPatience = 5 * time.Second
 
 func main() {
 	log.SetPrefix("gateway: ")
@@ -58,9 +62,10 @@ func run(ctx context.Context, o options) error {
 	server := &s3.Server{
 		Options:  o.Options,
 		Verifier: &sigv4.Verifier{Keys: file, Region: o.Region, NoVersion2: !o.signature2, Now: time.Now},
-		Host:     host.New(o.host, o.ahead),
-		Spool:    &spool.Spool{Folder: o.spool, Room: limits.NewSpool(o.spoolRoom, o.tenantRoom)},
+		Host:     host.New(o.place(), o.ahead),
 	}
+	room := limits.NewSpool(o.spoolRoom, o.tenantRoom)
+	server.Spool = &spool.Spool{Folder: o.spool, Room: room}
 	if isInMemory(o.spool) {
 		log.Printf("--spool %s lies in memory: bodies that wait there take it", o.spool)
 	}
@@ -70,23 +75,64 @@ func run(ctx context.Context, o options) error {
 	if server.Requests, err = o.openLog(); err != nil {
 		return err
 	}
+	var metrics *status.Metrics
+	if o.status.isWanted() {
+		metrics = status.NewMetrics()
+		server.Watch, server.Host.Watch, server.Met, room.Met = metrics, metrics, metrics.Met, metrics.Met
+	}
 	web := server.Web()
-	listener, scheme, err := o.open(web)
+	open, err := o.open(web, server.Met)
 	if err != nil {
 		return err
 	}
-	if o.serve != "" {
-		hostCtx, endHost := context.WithCancel(context.Background())
-		defer endHost()
-		over, err := server.Host.Serve(hostCtx, o.program, o.serve)
+	if metrics != nil {
+		from := status.Sources{Host: server.Host, Operators: o.status.operators(server.Host, o.serve != ""), Spool: room,
+			Connections: open.bounded.Taken, MaxConnections: o.connections, Certificates: open.ends()}
+		end, err := o.status.serve(metrics, from)
 		if err != nil {
 			return err
 		}
-		defer func() { endHost(); <-over }()
+		defer end()
 	}
-	log.Printf("listening on %s://%s", scheme, listener.Addr())
+	if o.serve != "" {
+		end, err := o.serveHost(ctx, server.Host)
+		if err != nil || end == nil {
+			return err
+		}
+		defer end()
+	}
+	log.Printf("listening on %s://%s", open.scheme, open.Addr())
 	go sweep(ctx, server, file)
-	return serve(ctx, web, listener)
+	defer server.Rest(restPatience)
+	return serve(ctx, web, open)
+}
+
+// serveHost runs bucketd until the function that it returns is called; nil where the context ended while bucketd opened its file.
+func (o options) serveHost(ctx context.Context, h *host.Host) (end func(), err error) {
+	hostCtx, endHost := context.WithCancel(context.Background())
+	goesOn := context.AfterFunc(ctx, endHost)
+	over, err := h.Serve(hostCtx, o.program, o.serve)
+	if !goesOn() {
+		endHost()
+		if err == nil {
+			<-over
+		}
+		return nil, nil
+	}
+	if err != nil {
+		endHost()
+		return nil, err
+	}
+	// (it ends after the clients, and not with them)
+	return func() { endHost(); <-over }, nil
+}
+
+// place returns where the host listens that isn't served by the gateway.
+func (o options) place() host.Place {
+	if o.hostSocket != "" {
+		return host.Socket(o.hostSocket)
+	}
+	return host.TCP(o.host)
 }
 
 // sweep aborts the uploads that a gateway before this left, with each key until bucketd has answered it.
@@ -158,31 +204,50 @@ func rereadOnHangup(ctx context.Context, file *keys.File) {
 	}()
 }
 
-// open listens for clients, for a server with places. It returns the scheme of its URL, too.
-func (o options) open(web *http.Server) (net.Listener, string, error) {
+// door is where clients come in.
+type door struct {
+	net.Listener
+	scheme       string // of its URL
+	bounded      *limits.Listener
+	certificates *tlsconf.Ends // nil where no TLS is spoken
+}
+
+// ends returns what tells when the first certificate ends; nil where there are none.
+func (d *door) ends() func() (time.Time, bool) {
+	if d.certificates == nil {
+		return nil
+	}
+	return d.certificates.First
+}
+
+// open listens for clients, for a server with places. Limits that are met are counted.
+func (o options) open(web *http.Server, met limits.Count) (*door, error) {
 	if err := limits.Files(o.connections); err != nil {
 		log.Print(err)
 	}
 	config, err := o.tls()
 	if err != nil {
-		return nil, "", err
+		return nil, err
 	}
 	plain, err := net.Listen("tcp", o.listen)
 	if err != nil {
-		return nil, "", err
+		return nil, err
 	}
-	bounded, err := limits.Listen(plain, limits.NewPlaces(o.connections, o.ofAddress))
+	places := limits.NewPlaces(o.connections, o.ofAddress)
+	places.Met = met
+	bounded, err := limits.Listen(plain, places)
 	if err != nil {
-		return nil, "", err
+		return nil, err
 	}
 	web.ConnState = func(conn net.Conn, state http.ConnState) {
 		s3.Restart(conn, state)
 		bounded.State(conn, state)
 	}
 	if config == nil {
-		return s3.Heads(bounded, web.ErrorLog), "http", nil
+		return &door{s3.Heads(bounded, web.ErrorLog), "http", bounded, nil}, nil
 	}
-	return s3.Heads(tls.NewListener(bounded, config), web.ErrorLog), "https", nil
+	ends := tlsconf.Watch(config, o.acme.Names)
+	return &door{s3.Heads(tls.NewListener(bounded, config), web.ErrorLog), "https", bounded, ends}, nil
 }
 
 // tls returns how TLS is spoken; nil where it isn't.

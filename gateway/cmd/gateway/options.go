@@ -15,7 +15,9 @@ import (
 type options struct {
 	s3.Options
 	listen, certificate, certificateKey, keys string
-	host, hostUser, serve, program, spool     string
+	host, hostSocket, hostUser, serve         string
+	program, spool                            string
+	status                                    statusOptions
 	acme                                      tlsconf.Domain
 	connections, ofAddress, ahead             int
 	heap                                      int64 // MiB
@@ -34,9 +36,11 @@ func parseOptions(words []string, out io.Writer) (options, error) {
 	set.StringVar(&o.keys, "keys", "gateway.keys", "the access keys, a line each: tenant$name secret; a file of mode 0600, which is replaced by mv. A change is seen at once, and on SIGHUP")
 	set.StringVar(&o.host, "host", "127.0.0.1:8080", "the address of 'bucketd serve'. Whoever listens there is believed, and gets each tenant's secret with each request: "+
 		"no other user of the machine may be able to listen on that port while bucketd doesn't run, or --host-user names bucketd's")
-	set.StringVar(&o.hostUser, "host-user", "", "the user, by name or number, whose process has to listen at --host, which is an address of this machine; where it is empty, anybody's is believed. "+
+	set.StringVar(&o.hostSocket, "host-socket", "", "the path of the Unix socket of 'bucketd serve --socket', in place of --host")
+	set.StringVar(&o.hostUser, "host-user", "", "the user, by name or number, whose process has to listen at --host, which is an address of this machine, or at --host-socket; where it is empty, anybody's is believed. "+
 		"With --serve it is always the gateway's own user and the process that it started")
-	set.StringVar(&o.serve, "serve", "", "a host's file, made by 'bucketd init --max-body 1073741824' so that parts above 16 MiB go: bucketd serves it as long as the gateway runs, --alone, and --host is not looked at")
+	set.StringVar(&o.serve, "serve", "", "a host's file, made by 'bucketd init --max-body 1073741824' so that parts above 16 MiB go: bucketd serves it as long as the gateway runs, --alone, and --host is not looked at. "+
+		"It listens on sockets in a folder that the gateway's user alone may enter, where it knows of sockets, and else on a port")
 	set.StringVar(&o.program, "program", "bucketd", "the program that --serve starts")
 	set.BoolVar(&o.Alone, "alone", false, "no one writes to the host but through this gateway: what was found of an object needn't be asked again")
 	set.StringVar(&o.Region, "region", "us-east-1", "the region that signatures name; where it is empty, any")
@@ -53,12 +57,18 @@ func parseOptions(words []string, out io.Writer) (options, error) {
 	set.BoolVar(&o.Meta, "meta", true, "keeps x-amz-meta-*, Content-Type and the like in a hidden bucket of the tenant, bucketd.meta")
 	o.addTLS(set)
 	o.addLimits(set)
+	o.status.add(set)
 	if err := set.Parse(words); err != nil {
 		return o, err
 	}
+	given := map[string]bool{}
+	set.Visit(func(it *flag.Flag) { given[it.Name] = true })
 	o.Alone, o.LeastRate.Grace = o.Alone || o.serve != "", 30*time.Second
 	if set.NArg() > 0 {
 		return o, errors.New("a word is no option: " + set.Arg(0))
+	}
+	if o.hostSocket != "" && (given["host"] || o.serve != "") {
+		return o, errors.New("--host-socket stands in place of --host and --serve")
 	}
 	return o, o.check()
 }
@@ -101,5 +111,5 @@ func (o *options) check() error {
 	case len(o.acme.Names) > 0 && (o.certificate != "" || o.acme.Folder == ""):
 		return errors.New("--acme wants --acme-folder, and no --cert")
 	}
-	return nil
+	return o.status.check()
 }

@@ -31,9 +31,20 @@ type Request struct {
 	Bucket string
 	Code   string // S3's code of an error
 	IsCut  bool   // the answer ended before its end
-	status int
-	in     int64
-	out    int64
+
+	Operation      string // S3's name of the call; empty where there is none
+	SignatureCause string // why the signature was refused; empty where it wasn't
+
+	Status  int   // that was answered; 0 where none was
+	In, Out int64 // bytes of both bodies
+}
+
+// A Watch is told of each request. It is called by many at once, and may not wait.
+type Watch interface {
+	// Begun tells of a request whose head has come.
+	Begun()
+	// Ended tells of a request that was answered, or whose answer was cut.
+	Ended(r *Request, took time.Duration)
 }
 
 // A Log writes a line for each request.
@@ -68,20 +79,26 @@ func Of(ctx context.Context) *Request {
 	return &Request{}
 }
 
-// Handler has each request answered by another handler, and then writes its line, also where the answer was cut. Where there is no
-// log, no line is written.
-func (l *Log) Handler(next http.Handler) http.Handler {
+// Handler has each request answered by another handler, and then writes its line and tells a watch of it, also where the answer was
+// cut. Where there is no log no line is written, and where the watch is nil nobody is told.
+func (l *Log) Handler(next http.Handler, watch Watch) http.Handler {
 	return http.HandlerFunc(func(w http.ResponseWriter, r *http.Request) {
 		told, begun := &Request{ID: newID()}, time.Now()
 		w.Header().Set(IDField, told.ID)
 		counted := &writer{w, told}
 		r = r.WithContext(context.WithValue(r.Context(), requestKey{}, told))
 		r.Body = &body{r.Body, told}
+		if watch != nil {
+			watch.Begun()
+		}
 		defer func() {
-			fault := recover()
+			fault, took := recover(), time.Since(begun)
 			told.IsCut = told.IsCut || fault != nil
+			if watch != nil {
+				watch.Ended(told, took)
+			}
 			if l != nil {
-				l.write(told, r.RemoteAddr, time.Since(begun))
+				l.write(told, r.RemoteAddr, took)
 			}
 			if fault != nil {
 				panic(fault)
@@ -111,9 +128,9 @@ func (l *Log) write(r *Request, address string, took time.Duration) {
 		r.Bucket = ""
 	}
 	milliseconds := float64(took.Microseconds()) / 1000
-	values := []slog.Attr{slog.String("id", r.ID), slog.String("address", address), slog.Int("status", r.status), slog.String("code", r.Code),
+	values := []slog.Attr{slog.String("id", r.ID), slog.String("address", address), slog.Int("status", r.Status), slog.String("code", r.Code),
 		slog.String("tenant", r.Tenant), slog.String("key", r.Key), slog.String("call", r.Call), slog.String("bucket", r.Bucket),
-		slog.Int64("in", r.in), slog.Int64("out", r.out), slog.Float64("ms", milliseconds), slog.Bool("cut", r.IsCut)}
+		slog.Int64("in", r.In), slog.Int64("out", r.Out), slog.Float64("ms", milliseconds), slog.Bool("cut", r.IsCut)}
 	l.lines.LogAttrs(context.Background(), slog.LevelInfo, "request", values...)
 }
 
@@ -127,18 +144,18 @@ type writer struct {
 func (w *writer) Unwrap() http.ResponseWriter { return w.ResponseWriter }
 
 func (w *writer) WriteHeader(status int) {
-	if status >= 200 && w.told.status == 0 {
-		w.told.status = status
+	if status >= 200 && w.told.Status == 0 {
+		w.told.Status = status
 	}
 	w.ResponseWriter.WriteHeader(status)
 }
 
 func (w *writer) Write(b []byte) (int, error) {
-	if w.told.status == 0 {
-		w.told.status = http.StatusOK
+	if w.told.Status == 0 {
+		w.told.Status = http.StatusOK
 	}
 	n, err := w.ResponseWriter.Write(b)
-	w.told.out += int64(n)
+	w.told.Out += int64(n)
 	return n, err
 }
 
@@ -150,7 +167,7 @@ type body struct {
 
 func (b *body) Read(into []byte) (int, error) {
 	n, err := b.ReadCloser.Read(into)
-	b.told.in += int64(n)
+	b.told.In += int64(n)
 	return n, err
 }
 

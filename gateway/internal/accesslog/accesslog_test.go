@@ -14,6 +14,7 @@ import (
 	"regexp"
 	"strings"
 	"testing"
+	"time"
 )
 
 // guarded is a log's text, which is there when the handler has ended.
@@ -61,7 +62,7 @@ func serve(t *testing.T, format string) (url string, lines chan string) {
 	if err != nil {
 		t.Fatal(err)
 	}
-	server := httptest.NewUnstartedServer(l.Handler(http.HandlerFunc(answer)))
+	server := httptest.NewUnstartedServer(l.Handler(http.HandlerFunc(answer), nil))
 	server.Config.ErrorLog = ServerErrors()
 	server.Start()
 	t.Cleanup(server.Close)
@@ -89,6 +90,46 @@ func line(t *testing.T, url, path string, lines chan string) (text string, head 
 		t.Errorf("%s: a line with a signature, or more than one: %s", path, text)
 	}
 	return text, head
+}
+
+// watched has what a watch is told.
+type watched struct {
+	begun int
+	ended []Request
+}
+
+func (w *watched) Begun() { w.begun++ }
+
+func (w *watched) Ended(r *Request, took time.Duration) {
+	if took >= 0 {
+		w.ended = append(w.ended, *r)
+	}
+}
+
+// A watch is told of each request, also of one that is cut, with a log and without one.
+func TestWatch(t *testing.T) {
+	var none *Log
+	w := &watched{}
+	handler := none.Handler(http.HandlerFunc(answer), w)
+	for _, path := range []string{"/", "/refused", "/cut"} {
+		func() {
+			defer func() { recover() }()
+			handler.ServeHTTP(httptest.NewRecorder(), httptest.NewRequest("PUT", path, strings.NewReader("body")))
+		}()
+	}
+	if w.begun != 3 || len(w.ended) != 3 {
+		t.Fatalf("%+v", w)
+	}
+	for i, it := range []struct {
+		status int
+		out    int64
+		code   string
+		isCut  bool
+	}{{200, 5, "", false}, {403, 8, "SignatureDoesNotMatch", false}, {200, 3, "", true}} {
+		if r := w.ended[i]; r.Status != it.status || r.Out != it.out || r.In != 4 || r.Code != it.code || r.IsCut != it.isCut {
+			t.Errorf("%d: %+v", i, r)
+		}
+	}
 }
 
 func TestFields(t *testing.T) {
@@ -130,7 +171,7 @@ func TestIDs(t *testing.T) {
 	var none *Log
 	for i := 0; i < 100; i++ {
 		w := httptest.NewRecorder()
-		none.Handler(http.HandlerFunc(answer)).ServeHTTP(w, httptest.NewRequest("GET", "/", nil))
+		none.Handler(http.HandlerFunc(answer), nil).ServeHTTP(w, httptest.NewRequest("GET", "/", nil))
 		seen[w.Header().Get(IDField)] = true
 	}
 	if len(seen) != 100 {

@@ -27,21 +27,26 @@ const (
 	checkedAfter = 20 * time.Millisecond
 )
 
-// Host asks 'bucketd serve', which answers one connection after another, one request each. A few requests are sent ahead, so that
-// it needn't wait for the gateway; of a tenant no more than so many wait among those of all, so that tenants take turns.
+// Host asks 'bucketd serve', which takes one request a connection, and carries out one after another. A few requests are sent ahead,
+// so that it needn't wait for the gateway; of a tenant no more than so many wait among those of all, so that tenants take turns.
 type Host struct {
-	turn    chan struct{}
-	address atomic.Value // a string; empty where nobody is known to listen
-	user    atomic.Int64 // whose process has to listen there; -1 where anybody is believed
-	mu      sync.Mutex
-	turns   map[string]chan struct{} // of each tenant
+	Watch Watch // is told of what is asked; nil where nobody wants to know
+
+	turn  chan struct{}
+	at    atomic.Pointer[places]
+	user  atomic.Int64 // whose process has to listen there; anyone where anybody's is believed
+	mu    sync.Mutex
+	turns map[string]chan struct{} // of each tenant
 }
 
-// New returns a host at an address, which is sent some requests ahead.
-func New(address string, ahead int) *Host {
+// places are where a host listens; empty ones where it isn't known to.
+type places struct{ clients, operators Place }
+
+// New returns a host at a place, which is sent some requests ahead.
+func New(place Place, ahead int) *Host {
 	h := &Host{turn: make(chan struct{}, ahead), turns: map[string]chan struct{}{}}
-	h.address.Store(address)
-	h.user.Store(-1)
+	h.at.Store(&places{clients: place})
+	h.user.Store(anyone)
 	return h
 }
 
@@ -67,29 +72,13 @@ func (h *Host) Client(tenant, id, secret string) *Client {
 	return &Client{host: h, turn: turn, Tenant: tenant, id: id, secret: secret}
 }
 
-// dial connects to bucketd. (A connection has one request, so nothing keeps it alive.)
+// dial connects to bucketd.
 func (h *Host) dial(ctx context.Context) (net.Conn, error) {
-	address := h.address.Load().(string)
-	if address == "" {
-		return nil, errors.New("bucketd isn't running")
-	}
-	conn, err := (&net.Dialer{KeepAlive: -1}).DialContext(ctx, "tcp", address)
-	if err != nil {
-		return nil, err
-	}
-	if tcp, isTCP := conn.(*net.TCPConn); isTCP {
-		// (else each connection's window grows from little: a piece wants it at once)
-		err = tcp.SetReadBuffer(readWindow)
-	}
-	if user := h.user.Load(); err == nil && user >= 0 {
-		err = checkPeer(conn, uint32(user))
-	}
-	if err != nil {
-		conn.Close()
-		return nil, err
-	}
-	return conn, nil
+	return h.at.Load().clients.dial(ctx, h.user.Load())
 }
+
+// Waiting returns how many requests have been sent and not answered.
+func (h *Host) Waiting() int { return len(h.turn) }
 
 // takeTurn waits for a place among requests, unless the context ends before.
 func takeTurn(ctx context.Context, turn chan struct{}) error {
@@ -114,6 +103,9 @@ func (c *Client) Ask(ctx context.Context, q *Request) (*Response, error) {
 		return nil, err
 	}
 	defer func() { <-c.host.turn }()
+	if c.host.Watch != nil {
+		c.host.Watch.Waited(time.Since(begun))
+	}
 	for wait := checkedAfter; ; wait *= 2 {
 		r, isTaken, err := c.try(ctx, q)
 		if err == nil {
@@ -140,6 +132,17 @@ func (c *Client) try(ctx context.Context, q *Request) (*Response, bool, error) {
 	if err != nil {
 		return nil, false, err
 	}
+	begun := time.Now()
+	r, isTaken, err := c.send(ctx, q, head)
+	if c.host.Watch != nil {
+		o, refusal := outcome(ctx, r)
+		c.host.Watch.Tried(o, refusal, time.Since(begun))
+	}
+	return r, isTaken, err
+}
+
+// send sends a request whose head is written.
+func (c *Client) send(ctx context.Context, q *Request, head string) (*Response, bool, error) {
 	conn, err := c.host.dial(ctx)
 	if err != nil {
 		return nil, false, err

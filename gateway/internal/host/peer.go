@@ -33,6 +33,9 @@ var errNoSocket = errors.New("no such socket")
 // checkPeer compares the user whose process has the other end of a connection to this machine. What isn't accepted yet has no user
 // of its own: then it is the listener's.
 func checkPeer(conn net.Conn, user uint32) error {
+	if socket, isSocket := conn.(*net.UnixConn); isSocket {
+		return checkSocket(socket, user)
+	}
 	own, peer, err := ends(conn)
 	if err != nil {
 		return err

@@ -4,10 +4,13 @@ import (
 	"bufio"
 	"context"
 	"errors"
+	"fmt"
 	"io"
 	"log"
 	"os"
 	"os/exec"
+	"path/filepath"
+	"regexp"
 	"runtime"
 	"strings"
 	"sync"
@@ -18,33 +21,41 @@ import (
 const (
 	restartAfter = 250 * time.Millisecond
 	announcement = "listening on " // what bucketd writes before its address, on standard error
+	stopLine     = `{"op":"stop"}`
 )
 
+// How long bucketd may take to end after an operator's stop, and after SIGTERM: the request at hand is answered first. (Variables, as
+// tests have less time.)
+var stopPatience, termPatience = 10 * time.Second, 5 * time.Second
+
+// A server is a bucketd that is run.
+type server struct {
+	host          *Host
+	program, file string
+	folder        string // that of its sockets; empty where it has ports
+}
+
 // Serve runs 'bucketd serve' on a host's file until the context is done, again whenever it ends. It returns when bucketd listens;
-// the channel is closed when it has ended. Each change is on the disk before it is answered, so it may be killed. bucketd chooses
-// its port itself, and nobody is believed but the child that was started: what it writes is its address as long as it runs, and
-// who listens there has to be of the gateway's own user.
+// the channel is closed when it has ended. Nobody is believed but the child that was started: who listens has to be of the gateway's
+// own user. A bucketd that knows of sockets has them in a folder that this user alone may enter, so nobody else reaches it. One that
+// doesn't chooses its port itself, and what it writes is its address as long as it runs.
 func (h *Host) Serve(ctx context.Context, program, file string) (<-chan struct{}, error) {
+	s := &server{host: h, program: program, file: file}
+	if knowsSockets(program) {
+		folder, err := socketFolder()
+		if err != nil {
+			return nil, err
+		}
+		s.folder = folder
+	}
 	listens, over := make(chan struct{}), make(chan struct{})
-	var once sync.Once
-	h.address.Store("")
+	h.at.Store(&places{})
 	h.user.Store(int64(os.Geteuid()))
 	go func() {
 		defer close(over)
-		// The kernel ends the child with the thread that made it, so also where the gateway is killed.
-		runtime.LockOSThread()
-		for {
-			err := h.serveOnce(ctx, program, file, func() { once.Do(func() { close(listens) }) })
-			log.Printf("bucketd serve --file %s ended: %v", file, err)
-			select {
-			case <-listens:
-				time.Sleep(restartAfter)
-			default: // (it never did)
-				return
-			}
-			if ctx.Err() != nil {
-				return
-			}
+		s.run(ctx, listens)
+		if s.folder != "" {
+			os.RemoveAll(s.folder)
 		}
 	}()
 	select {
@@ -55,10 +66,29 @@ func (h *Host) Serve(ctx context.Context, program, file string) (<-chan struct{}
 	}
 }
 
-// serveOnce runs bucketd to its end. Its address is forgotten then: the port is nobody's, or another's.
-func (h *Host) serveOnce(ctx context.Context, program, file string, listens func()) error {
-	// A year: a host may have been idle for the holidays, and a clock that is wrong is so by more.
-	child := exec.CommandContext(ctx, program, "serve", "--file", file, "--port", "0", "--clock-leap", "366")
+// run runs bucketd again and again. The channel is closed when it listens first; a bucketd that never did isn't started again.
+func (s *server) run(ctx context.Context, listens chan struct{}) {
+	// The kernel ends the child with the thread that made it, so also where the gateway is killed.
+	runtime.LockOSThread()
+	var once sync.Once
+	for ctx.Err() == nil {
+		err := s.serveOnce(ctx, func() { once.Do(func() { close(listens) }) })
+		log.Printf("bucketd serve --file %s ended: %v", s.file, err)
+		select {
+		case <-listens:
+		default:
+			return
+		}
+		select {
+		case <-time.After(restartAfter):
+		case <-ctx.Done():
+		}
+	}
+}
+
+// serveOnce runs bucketd to its end. Its place is forgotten then: a port is nobody's, or another's.
+func (s *server) serveOnce(ctx context.Context, listens func()) error {
+	child := exec.Command(s.program, s.words()...)
 	// What was read at the opening goes back to the system; what the gateway's own environment says counts more.
 	child.Env = append([]string{"MALLOC_MMAP_THRESHOLD_=65536"}, os.Environ()...)
 	child.Stdout = os.Stderr
@@ -70,18 +100,124 @@ func (h *Host) serveOnce(ctx context.Context, program, file string, listens func
 	if err := child.Start(); err != nil {
 		return err
 	}
-	defer h.address.Store("")
+	defer s.host.at.Store(&places{})
+	ended, isOver := make(chan struct{}), make(chan struct{})
+	go func() {
+		defer close(isOver)
+		select {
+		case <-ctx.Done():
+			s.end(child.Process, ended)
+		case <-ended:
+		}
+	}()
 	isTold := false
 	readLines(lines, func(line string) {
 		address, isAddress := strings.CutPrefix(line, announcement)
 		if isAddress && !isTold { // (it says so once)
 			isTold = true
-			h.address.Store(address)
+			s.host.at.Store(s.places(address))
 			listens()
 		}
 	})
-	h.address.Store("")
-	return child.Wait()
+	s.host.at.Store(&places{})
+	err = child.Wait()
+	close(ended)
+	<-isOver
+	return err
+}
+
+// words are those of bucketd.
+func (s *server) words() []string {
+	words := []string{"serve", "--file", s.file}
+	if s.folder == "" {
+		words = append(words, "--port", "0")
+	} else {
+		words = append(words, "--socket", s.socket("clients"), "--operator-socket", s.socket("operators"))
+	}
+	// A year: a host may have been idle for the holidays, and a clock that is wrong is so by more.
+	return append(words, "--clock-leap", "366")
+}
+
+func (s *server) socket(name string) string { return filepath.Join(s.folder, name) }
+
+// places returns where bucketd listens that has told an address.
+func (s *server) places(address string) *places {
+	if s.folder == "" {
+		return &places{clients: TCP(address)}
+	}
+	return &places{clients: Socket(s.socket("clients")), operators: Socket(s.socket("operators"))}
+}
+
+// end ends bucketd after the request at hand: by an operator's stop where it has a socket for that, else by SIGTERM. One that goes on
+// is killed: each change is on the disk before it is answered.
+func (s *server) end(process *os.Process, ended <-chan struct{}) {
+	begun, operators := time.Now(), s.host.Operators(Place{})
+	if operators.IsThere() && tellStop(operators) == nil && isClosed(ended, stopPatience-time.Since(begun)) {
+		return
+	}
+	if process.Signal(syscall.SIGTERM); isClosed(ended, termPatience) {
+		return
+	}
+	log.Printf("bucketd serve --file %s doesn't end: it is killed", s.file)
+	process.Kill()
+}
+
+// tellStop tells bucketd to stop. Its answer may be lost with it; one that is a refusal is an error.
+func tellStop(operators *Operators) error {
+	ctx, cancel := context.WithTimeout(context.Background(), stopPatience)
+	defer cancel()
+	return operators.Tell(ctx, stopLine, func(answer io.Reader) error {
+		text, err := io.ReadAll(io.LimitReader(answer, 1000))
+		if line := strings.TrimSpace(string(text)); err == nil && line != "" && !strings.HasPrefix(line, "stop") {
+			return fmt.Errorf("bucketd doesn't know how to stop: %q", line)
+		}
+		return nil
+	})
+}
+
+// isClosed waits for a channel's end, and returns whether it came in time.
+func isClosed(ended <-chan struct{}, patience time.Duration) bool {
+	select {
+	case <-ended:
+		return true
+	case <-time.After(patience):
+		return false
+	}
+}
+
+var socketOption = regexp.MustCompile(`(?m)^\s+--socket\b`)
+
+// knowsSockets returns whether the help of a bucketd has the option of a socket.
+func knowsSockets(program string) bool {
+	ctx, cancel := context.WithTimeout(context.Background(), 30*time.Second)
+	defer cancel()
+	text, err := exec.CommandContext(ctx, program, "help", "serve").Output()
+	return err == nil && socketOption.Match(text)
+}
+
+// longestSocket is how many bytes the path of a Unix socket may have (unix(7)), without its end.
+const longestSocket = 107
+
+// socketFolder makes a folder for sockets, which its user alone may enter: where the system has one for what lives as long as a
+// service or a session, there, and else where temporary files are.
+func socketFolder() (string, error) {
+	var err error
+	runtimeFolder, _, _ := strings.Cut(os.Getenv("RUNTIME_DIRECTORY"), ":")
+	for _, at := range []string{runtimeFolder, os.Getenv("XDG_RUNTIME_DIR"), os.TempDir(), "/tmp"} {
+		var folder string
+		if at == "" {
+			continue
+		}
+		if folder, err = os.MkdirTemp(at, "bucketd-"); err != nil { // (of mode 0700)
+			continue
+		}
+		if len(filepath.Join(folder, "operators")) <= longestSocket {
+			return folder, nil
+		}
+		os.Remove(folder)
+		err = fmt.Errorf("%s: a path there is too long for a socket", at)
+	}
+	return "", fmt.Errorf("there is no folder for bucketd's sockets: %w", err)
 }
 
 // readLines gives each line but those that are too long, and passes all on to standard error.

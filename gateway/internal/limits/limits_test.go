@@ -41,6 +41,43 @@ func logged(t *testing.T) *guarded {
 	return text
 }
 
+// counted has how often each limit was met.
+type counted struct {
+	mu sync.Mutex
+	n  map[string]int
+}
+
+func (c *counted) add(option string) {
+	c.mu.Lock()
+	defer c.mu.Unlock()
+	if c.n == nil {
+		c.n = map[string]int{}
+	}
+	c.n[option]++
+}
+
+func (c *counted) of(option string) int {
+	c.mu.Lock()
+	defer c.mu.Unlock()
+	return c.n[option]
+}
+
+// Of a spool it is counted which room was met.
+func TestSpoolMet(t *testing.T) {
+	var met counted
+	s := NewSpool(10, 4)
+	s.Met = met.add
+	for _, it := range []struct {
+		tenant string
+		bytes  int64
+	}{{"a", 5}, {"a", 4}, {"b", 4}, {"c", 3}, {"c", 2}, {"c", 1}} {
+		s.Reserve(it.tenant, it.bytes)
+	}
+	if met.of(SpoolRoom) != 2 || met.of(TenantSpoolRoom) != 1 || s.Taken() != 10 || s.Most() != 10 {
+		t.Errorf("%v, %d taken", met.n, s.Taken())
+	}
+}
+
 // slow is closed when requests of /slow are answered.
 var slow chan struct{}
 
@@ -131,7 +168,8 @@ func TestIdleConnections(t *testing.T) {
 		"answered": func(conn net.Conn) error { return asks(conn, "/") },
 	} {
 		text := logged(t)
-		l, address := web(t, Places{All: 64, Address: 16, Served: 1024, Silence: time.Minute, Short: time.Minute})
+		var met counted
+		l, address := web(t, Places{All: 64, Address: 16, Served: 1024, Silence: time.Minute, Short: time.Minute, Met: met.add})
 		var conns []net.Conn
 		for i := 0; i < 80; i++ { // from five addresses
 			conn := dial(t, address, fmt.Sprintf("127.0.0.%d", 2+i%5))
@@ -150,13 +188,19 @@ func TestIdleConnections(t *testing.T) {
 		if lines := strings.Count(text.String(), "all places are taken"); lines != 1 {
 			t.Errorf("%s: %d lines in the log:\n%s", name, lines, text)
 		}
+		if n := met.of(Connections); n < 20 {
+			t.Errorf("%s: %d connections gave way", name, n)
+		}
 	}
 }
 
 // A quarter of the places is what one address has: beyond it its own connections that wait give way, and not others'.
 func TestShareOfAnAddress(t *testing.T) {
 	logged(t)
-	l, address := web(t, NewPlaces(64, 0))
+	var met counted
+	places := NewPlaces(64, 0)
+	places.Met = met.add
+	l, address := web(t, places)
 	other := dial(t, address, "127.0.0.3")
 	var conns []net.Conn
 	for i := 0; i < 100; i++ {
@@ -168,6 +212,9 @@ func TestShareOfAnAddress(t *testing.T) {
 	}
 	if err := asks(dial(t, address, "127.0.0.2"), "/"); err != nil {
 		t.Errorf("the address shuts itself out: %v", err)
+	}
+	if of, all := met.of(AddressConnections), met.of(Connections); of < 84 || all != 0 {
+		t.Errorf("%d of the address gave way, %d of all", of, all)
 	}
 }
 

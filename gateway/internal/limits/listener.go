@@ -22,6 +22,8 @@ type Places struct {
 
 	Silence time.Duration // how long a connection may wait for its first byte, and between requests
 	Short   time.Duration // the same where more than half of the places are taken
+
+	Met Count // is told of connections that others had to give way to
 }
 
 // NewPlaces returns the bounds for so many connections, of which so many may come from one address; 0 is a quarter of them.
@@ -170,6 +172,7 @@ func (l *Listener) take(c *Conn) (isPlaced bool, displaced *Conn) {
 	case own != nil && own.count >= l.places.Address:
 		l.notice.Say("an address has its share of the places: for a new connection one is closed that waits for its client",
 			"address", c.from.Addr().String(), "share", l.places.Address)
+		l.places.Met.Add(AddressConnections)
 		if front := own.waiting.Front(); front != nil {
 			return false, front.Value.(*Conn)
 		}
@@ -177,6 +180,7 @@ func (l *Listener) take(c *Conn) (isPlaced bool, displaced *Conn) {
 		return true, c
 	case l.taken >= l.places.All:
 		l.notice.Say("all places are taken: for a new connection one is closed that waits for its client", "places", l.places.All)
+		l.places.Met.Add(Connections)
 		return false, l.longest(&l.silent, &l.begun, &l.idle)
 	}
 	if own == nil {

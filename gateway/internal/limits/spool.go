@@ -10,6 +10,8 @@ var ErrSpool = errors.New("the bodies that wait have as many bytes as they may h
 
 // A Spool counts the bytes of bodies that wait on the gateway's disk, of all tenants and of each.
 type Spool struct {
+	Met Count // is told of what found no room
+
 	all, tenant int64
 	mu          sync.Mutex
 	taken       int64
@@ -25,7 +27,12 @@ func NewSpool(all, tenant int64) *Spool {
 func (s *Spool) Reserve(tenant string, bytes int64) error {
 	s.mu.Lock()
 	defer s.mu.Unlock()
-	if bytes < 0 || bytes > s.all-s.taken || bytes > s.tenant-s.of[tenant] {
+	switch {
+	case bytes < 0 || bytes > s.all-s.taken:
+		s.Met.Add(SpoolRoom)
+		return ErrSpool
+	case bytes > s.tenant-s.of[tenant]:
+		s.Met.Add(TenantSpoolRoom)
 		return ErrSpool
 	}
 	if bytes > 0 {
@@ -44,6 +51,9 @@ func (s *Spool) Release(tenant string, bytes int64) {
 		delete(s.of, tenant)
 	}
 }
+
+// Most returns how many bytes may wait.
+func (s *Spool) Most() int64 { return s.all }
 
 // Taken returns how many bytes wait.
 func (s *Spool) Taken() int64 {

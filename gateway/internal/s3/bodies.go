@@ -160,6 +160,7 @@ func (a *arrival) Read(b []byte) (int, error) {
 		return n, err
 	}
 	if errors.Is(err, limits.ErrSlow) {
+		a.c.server.Met.Add(limits.LeastRate)
 		return n, s3err.New("RequestTimeout", err.Error())
 	}
 	if _, isThere := s3err.Of(err); isThere {

@@ -146,6 +146,7 @@ type options struct {
 	Options
 	ahead    int
 	requests *accesslog.Log
+	watch    *watched
 }
 
 // A gateway before a stand-in, and clients of two tenants.
@@ -158,9 +159,12 @@ func newGateway(t testing.TB, change func(o *options)) (*Server, *standin, signe
 	s := &Server{
 		Options:  o.Options,
 		Verifier: &sigv4.Verifier{Keys: keyring(standinSecrets), Region: o.Region, Now: func() time.Time { return clock() }},
-		Host:     host.New(stand.listener.Addr().String(), o.ahead),
+		Host:     host.New(host.TCP(stand.listener.Addr().String()), o.ahead),
 		Spool:    &spool.Spool{Folder: t.TempDir()},
 		Requests: o.requests,
+	}
+	if o.watch != nil {
+		s.Watch, s.Met = o.watch, o.watch.met
 	}
 	web := httptest.NewUnstartedServer(s)
 	web.Config = s.Web()

@@ -701,7 +701,7 @@ func TestHostGone(t *testing.T) {
 			conn.Close()
 		}
 	}()
-	s.Host = host.New(broken.Addr().String(), 4)
+	s.Host = host.New(host.TCP(broken.Addr().String()), 4)
 	expect(t, green.do("DELETE", "/plans/x?uploadId=1", nil), 503, "SlowDown")
 	if n := asked.Load(); n != 1 {
 		t.Fatal(n)

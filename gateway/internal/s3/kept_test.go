@@ -64,7 +64,7 @@ func pass(conn net.Conn, to string) {
 
 // before returns a client of a further gateway before a host at an address.
 func before(t *testing.T, like *Server, address string) signer {
-	s := &Server{Options: like.Options, Verifier: like.Verifier, Spool: like.Spool, Host: host.New(address, 4)}
+	s := &Server{Options: like.Options, Verifier: like.Verifier, Spool: like.Spool, Host: host.New(host.TCP(address), 4)}
 	web := httptest.NewUnstartedServer(s)
 	web.Config = s.Web()
 	web.Start()

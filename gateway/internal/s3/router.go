@@ -3,6 +3,7 @@ package s3
 import (
 	"fmt"
 	"net/http"
+	"net/url"
 	"regexp"
 	"slices"
 	"strings"
@@ -60,6 +61,15 @@ const (
 
 func takes(names string, act func(c *call) error, parameters ...string) operation {
 	return operation{names: names, act: act, parameters: parameters}
+}
+
+// name returns the one name in S3's API that a query is meant by.
+func (o operation) name(query url.Values) string {
+	first, second, isTwo := strings.Cut(o.names, " ")
+	if isTwo && query.Has("list-type") {
+		return second
+	}
+	return first
 }
 
 func (o operation) withLock(fields ...string) operation {
@@ -186,6 +196,7 @@ func (c *call) findOperation() (func(c *call) error, error) {
 	c.line.Call = c.route.String()
 	it, isThere := operations[c.route]
 	c.names = it.names
+	c.line.Operation = it.name(c.query)
 	for name := range c.query {
 		if err := c.checkParameter(it, isThere, name); err != nil {
 			return nil, err

@@ -10,6 +10,7 @@ import (
 	"net"
 	"net/http"
 	"net/url"
+	"os"
 	"runtime/debug"
 	"strconv"
 	"strings"
@@ -55,6 +56,9 @@ type Server struct {
 	Spool    *spool.Spool
 	Requests *accesslog.Log // has a line for each; nil where none is wanted
 
+	Watch accesslog.Watch // is told of each request; nil where nobody wants to know
+	Met   limits.Count    // is told of requests that a limit ended
+
 	documents xmlio.Gate // of those that are read
 	tenants   tenants
 	parts     partBook
@@ -64,8 +68,21 @@ type Server struct {
 
 // Web returns what serves connections of clients, with bounds of how long a head or the next request may be waited for.
 func (s *Server) Web() *http.Server {
-	return &http.Server{Handler: s.Requests.Handler(s), ErrorLog: accesslog.ServerErrors(), ReadHeaderTimeout: 20 * time.Second,
+	return &http.Server{Handler: s.Requests.Handler(s, s.Watch), ErrorLog: accesslog.ServerErrors(), ReadHeaderTimeout: 20 * time.Second,
 		IdleTimeout: time.Minute, MaxHeaderBytes: 32 << 10, ConnContext: withHead, ConnState: Restart}
+}
+
+// Rest waits for what goes on behind answers, for so long at most.
+func (s *Server) Rest(patience time.Duration) {
+	ended := make(chan struct{})
+	go func() {
+		s.behind.Wait()
+		close(ended)
+	}()
+	select {
+	case <-ended:
+	case <-time.After(patience):
+	}
 }
 
 // call is one S3 call: its body is read and its answer written through it, and it breaks off where its client is silent for a while.
@@ -98,6 +115,7 @@ func (c *call) Read(b []byte) (int, error) {
 		return 0, err
 	}
 	n, err := c.r.Body.Read(b)
+	c.noteSilence(err)
 	c.taken, c.isTaken = c.taken+int64(n), err == io.EOF
 	return n, err
 }
@@ -112,7 +130,15 @@ func (c *call) Write(b []byte) (written int, err error) {
 		n, err = c.w.Write(b[written:min(len(b), written+writeSlice)])
 		written += n
 	}
+	c.noteSilence(err)
 	return written, err
+}
+
+// noteSilence counts a client that was silent for too long.
+func (c *call) noteSilence(err error) {
+	if errors.Is(err, os.ErrDeadlineExceeded) {
+		c.server.Met.Add(limits.Silence)
+	}
 }
 
 func (c *call) beginWriting() error {
@@ -201,7 +227,10 @@ func (c *call) refuse(err error) {
 		return // (the client has gone)
 	}
 	e := told(err)
-	if c.line.Code = e.Code; c.line.IsCut {
+	if c.line.Code = e.Code; e.Code == "SignatureDoesNotMatch" {
+		c.line.SignatureCause = e.Code // (also a chunk's)
+	}
+	if c.line.IsCut {
 		return
 	}
 	var text []byte
@@ -245,6 +274,7 @@ func (c *call) serve() error {
 		c.line.Key = caller.ID
 	}
 	if err != nil {
+		c.line.SignatureCause = sigv4.Cause(err)
 		return err
 	}
 	c.Caller, c.line.Tenant, c.line.Bucket = caller, caller.Tenant, c.target.Bucket

@@ -135,7 +135,7 @@ func (g *signedRequest) readQuery() error {
 func (g *signedRequest) readHead() error {
 	authorization := g.Header.Get("Authorization")
 	if authorization == "" {
-		return s3err.New("AccessDenied", "the request is not signed")
+		return errUnsigned
 	}
 	if !strings.HasPrefix(authorization, algorithm+" ") {
 		return s3err.New("InvalidRequest", "a head is signed by "+algorithm)
@@ -184,7 +184,25 @@ func (v *Verifier) verify4(g *signedRequest) (*Caller, error) {
 	return c, nil
 }
 
-var errSignature = s3err.New("SignatureDoesNotMatch", "the signature of the request is another one")
+var (
+	errSignature = s3err.New("SignatureDoesNotMatch", "the signature of the request is another one")
+	errUnsigned  = s3err.New("AccessDenied", "the request is not signed")
+	errExpired   = s3err.New("AccessDenied", "Request has expired")
+)
+
+// Cause returns why a request wasn't verified: S3's code, or where that says less Unsigned or Expired.
+func Cause(err error) string {
+	switch e, isThere := s3err.Of(err); {
+	case !isThere:
+		return "InternalError"
+	case e == errUnsigned:
+		return "Unsigned"
+	case e == errExpired:
+		return "Expired"
+	default:
+		return e.Code
+	}
+}
 
 // checkTime refuses a request of another day than its credential's, from a clock that is wrong, or whose URL has expired.
 func (g *signedRequest) checkTime(now time.Time, day string) error {
@@ -198,7 +216,7 @@ func (g *signedRequest) checkTime(now time.Time, day string) error {
 			return g.malformed("X-Amz-Expires is from 1 to 604800")
 		}
 		if now.After(at.Add(time.Duration(seconds) * time.Second)) {
-			return s3err.New("AccessDenied", "Request has expired")
+			return errExpired
 		}
 	}
 	if at.After(now.Add(skew)) || !g.isQuery && at.Before(now.Add(-skew)) {

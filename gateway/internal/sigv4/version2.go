@@ -95,7 +95,7 @@ func (v *Verifier) verify2(r *http.Request, query url.Values, path string) (*Cal
 	}
 	until, err := strconv.ParseInt(query.Get("Expires"), 10, 64)
 	if now := v.Now().Unix(); err != nil || until < now || until > now+longestQuery {
-		return nil, s3err.New("AccessDenied", "Request has expired")
+		return nil, errExpired
 	}
 	text, err := canonical2(r, query, path)
 	if err != nil {

@@ -1,7 +1,9 @@
-use Rattle.std.proofs.Common.{◌≡◌, Some, IfSome, sym, subst, ◌∙◌}
+use Rattle.std.proofs.Common.{◌≡◌, Some, IfSome, sym, ap, subst, ◌∙◌}
 use Rattle.sqlite.specs.Files.{file_state}
 use Rattle.sqlite.specs.State.{HasCleanDisk}
+use Rattle.bh_cache.specs.Kept.{KeptBlocks}
 use Rattle.bh_kept.specs.Closings.{IsOpenAgain}
+use Rattle.bh_kept.proofs.Keeping.{tuned_kept}
 use Rattle.bh_kept.proofs.Shown.{limits_stay, limits_after, intact_kept, left_kept, same_kept, rests_kept, copies_kept}
 use Rattle.bh_kept.proofs.storage.KeptHostBackUp.back_up.Goals as goal
 
@@ -60,3 +62,8 @@ returns-clause-copied g c =
     let found = subst (λ o. IfSome o (λ again. HasCleanDisk (file_state again) → IsOpenAgain host.connection again)) c.in_ok-connection.was c.copy_and_open-copy.ensures.again in
     copies_kept host.digester facts host.cache host.limits c.args.self.now.limits host.connection c.args.self.now.storage is c.tuning.result again found g.G.Digester.digest_of c.requires _ c.copy_and_open-copy.result.copy
     c.copy_and_open-copy.result.connection c.in_ok-connection.was c.copy_and_open-copy.ensures.copied
+
+pub returns-clause-tuned : goal.returns-clause-tuned
+returns-clause-tuned g c =
+    let is : c.args.self.now.storage ≡ Some c.in_ok-storage.field-0 = sym c.take.ensures.value ∙ c.in_ok-storage.was in
+    tuned_kept c.args.self.now.storage c.in_ok-storage.field-0 c.new.result.tuning is (ap (λ (k : KeptBlocks). k.tuning) c.new.ensures ∙ c.tuning.ensures)

@@ -1,7 +1,8 @@
+use Rattle.std.proofs.Common.{refl}
 use Rattle.bh_view.specs.Bodies.{IsSoundHost}
 use Rattle.bh_storage.specs.Calls.{Unless}
 use Rattle.bh_kept.proofs.Keeping.{at_work_kept}
 use Rattle.bh_kept.proofs.storage.KeptHostStorage.authenticate.Goals as goal
 
 pub returns-in-Some-clause-goes_on : goal.returns-in-Some-clause-goes_on
-returns-in-Some-clause-goes_on g c = at_work_kept c.args.self.now c.in-Some.storage c.authenticate.new.self c.in-Some.is (IsSoundHost g.G.Digester.digest_of) (Unless c.authenticate.result) c.authenticate.ensures.goes_on
+returns-in-Some-clause-goes_on g c = at_work_kept c.args.self.now _ c.in-Some.storage c.authenticate.new.self c.in-Some.is refl (IsSoundHost g.G.Digester.digest_of) (Unless c.authenticate.result) c.authenticate.ensures.goes_on

@@ -1,0 +1,24 @@
+-- How a host that may have been lost cuts bodies into blocks.
+use Rattle.std.specs.Prelude.{◌≡◌, ℕ, Option, Result, IfSome}
+use Rattle.sqlite_disk.specs.declared.Disk as disk
+use Rattle.sqlite_store.specs.declared.store.FileStore.{FileStore}
+use Rattle.sqlite.specs.Files.{over_files}
+use Rattle.bh_http.specs.Bodies.{Coming}
+use Rattle.bh_model.specs.State.{Octets}
+use Rattle.bh_operation.specs.declared.operation.Operation.{Operation}
+use Rattle.bh_storage.specs.declared.error.Outcome.{Outcome}
+use Rattle.bh_storage.specs.declared.error.StepError.{StepError}
+use Rattle.bh_dispatch.specs.Stored.{CutsBody}
+use Rattle.bh_dispatch.specs.declared.recalling.RecallingStorage.{RecallingStorage}
+
+module _ {D G : Type 0} {g : disk.Ghosts D} where
+  -- a call on a host that isn't lost cuts an object and a part into blocks of a size
+  abbrev pub Cuts : {X E : Type 0} → (Octets → Octets) → ℕ → Operation → Coming → Coming → Option (RecallingStorage (FileStore D g) G)
+      → Option (RecallingStorage (FileStore D g) G) → Result (Outcome X E) (StepError E) → Type 0
+  Cuts digest size operation before after old new result =
+      IfSome old (λ a. IfSome new (λ b. CutsBody over_files digest size operation before after a.storage.host.connection
+      b.storage.host.connection result))
+
+  -- a host that isn't lost keeps its settings
+  abbrev pub KeepsTuning : Option (RecallingStorage (FileStore D g) G) → Option (RecallingStorage (FileStore D g) G) → Type 0
+  KeepsTuning old new = IfSome old (λ a. IfSome new (λ b. b.storage.host.cache.tuning ≡ a.storage.host.cache.tuning))

@@ -1,0 +1,26 @@
+-- Where nothing could listen, nothing came.
+use Rattle.std.proofs.Common.{[], None, sym, ◌∙◌, arith}
+use Rattle.std.proofs.lemmas.Bool.{false≢true}
+use Rattle.std.proofs.lemmas.Result.{err_from_is_err_and}
+use Rattle.bh_connection.proofs.ListeningLemmas.{ran_nothing, nothing_came, counted_of}
+use Rattle.bh_wires.proofs.many.serve_many.Goals as goal
+
+pub returns-in_err-front-clause-ran : goal.returns-in_err-front-clause-ran
+returns-in_err-front-clause-ran g c = λ intact. ran_nothing g.H.Storage.IsIntact g.H.Storage.IsOpen g.H.Storage.seen g.H.Storage.left g.H.BackUp.shows _ c.args.host.now
+
+pub returns-in_err-front-clause-visited : goal.returns-in_err-front-clause-visited
+returns-in_err-front-clause-visited g c = ([], nothing_came g.H.Storage.IsIntact g.H.Storage.IsOpen g.H.Storage.seen g.H.Storage.left g.H.BackUp.shows _ c.args.host.now)
+
+pub returns-in_err-front-clause-lost : goal.returns-in_err-front-clause-lost
+returns-in_err-front-clause-lost g c = λ was now. absurd (false≢true (sym was ∙ now))
+
+pub returns-in_err-front-clause-counted : goal.returns-in_err-front-clause-counted
+returns-in_err-front-clause-counted g c =
+    let p = err_from_is_err_and c.from_residual.result c.from_residual.ensures.1 in
+    rw p.1 ([], nothing_came g.H.Storage.IsIntact g.H.Storage.IsOpen g.H.Storage.seen g.H.Storage.left g.H.BackUp.shows _ c.args.host.now, tt, omega arith)
+
+pub returns-clause-counted : goal.returns-clause-counted
+returns-clause-counted g c = rw c.in_ok-front.ensures at (rw c.secret.ensures at (counted_of g.H.Storage.IsIntact g.H.Storage.IsOpen g.H.Storage.seen g.H.Storage.left _ _ g.H.BackUp.lost None None c.args.count c.serve_from-served.result c.args.host.now c.serve_from-served.new.host c.serve_from-served.ensures.listened))
+
+pub returns-clause-lost : goal.returns-clause-lost
+returns-clause-lost g c = rw c.secret.ensures at c.serve_from-served.ensures.lost
