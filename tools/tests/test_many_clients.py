@@ -335,6 +335,23 @@ def test_answers_before_the_end(expect, program, folder):
         expect("then it ends", server.process.wait(PATIENCE) == 0)
 
 
+def test_files_are_short(expect, program, folder):
+    """Bodies that strangers announced take all room in files: readers who read nothing then hold up nobody either."""
+    if not is_fast(program):
+        return expect.skip("files are short", "the object is too large for a slow program")
+    with server_of(program, folder, "--connections", "600") as server:
+        server.get("PUT", "/plans", b"")
+        assert server.get("PUT", "/plans/large", os.urandom(16 << 20))[0] == 200
+        announced = [server.socket() for _ in range(256)]
+        for it in announced:
+            it.sendall(request("green", "PUT", "/plans/no", b"a" * 1024, secret="anothersecret", length=16 << 20))
+        deaf = [server.socket(room=4096) for _ in range(3)]
+        for it in deaf:
+            it.sendall(request("green", "GET", "/plans/large"))
+        took, is_answered = slowest(server)
+        expect("requests beside 3 who don't read, where 256 bodies have all room in files", is_answered and took < 0.5 * server.timeout, f"{took:.2f} s")
+
+
 # ---- the clock
 
 

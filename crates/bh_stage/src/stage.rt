@@ -45,6 +45,10 @@ const PAUSE: u64 = 100;
 /// How many milliseconds to wait for a client to close, after its answer went out.
 const CLOSING: u64 = 1_000;
 
+/// How many milliseconds an answer that has no room in files may wait for its socket in all, while
+/// every other connection waits for it.
+const HELD_UP: u64 = 250;
+
 /// How connections are served.
 #[derive(Clone, Copy)]
 pub struct Measures {
@@ -53,7 +57,7 @@ pub struct Measures {
     /// How many connections there are at most.
     pub connections: usize,
     /// How many bytes of requests and answers are kept in memory, beside 32 KiB of each; and how
-    /// many in files, but those of one request in any case.
+    /// many in files, of which requests have half, but one request has room in any case.
     pub memory: usize,
     pub files: u64,
 }
@@ -241,7 +245,7 @@ impl<W: Wires + Drop> Stage<W> {
         Allowance {
             memory: self.most_of(MOST_HELD),
             file: self.measures.files.saturating_sub(self.files),
-            milliseconds: self.measures.timeout,
+            milliseconds: self.measures.timeout.min(HELD_UP),
         }
     }
 
@@ -446,10 +450,10 @@ impl<W: Wires + Drop> Stage<W> {
         }
     }
 
-    /// A request wants a file. If there is no room for it in files, it waits; one alone always has
-    /// room.
+    /// A request wants a file. If requests have no room for it in files, it waits; one alone always
+    /// has room.
     fn spill(&mut self, key: usize) {
-        let room = self.measures.files.saturating_sub(self.files);
+        let room = (self.measures.files / 2).saturating_sub(self.files);
         let Some(connection) = self.connections.get_mut(key) else {
             return;
         };
