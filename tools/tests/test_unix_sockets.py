@@ -94,7 +94,7 @@ def test_group(expect, program, folder, file):
             expect(f"the group {group}", found == (0o660, own.gr_gid, 0o600) and it.ask("HEAD", "/").status < 500, f"{found}")
     with OnSocket(program, file, path, "--socket-group", "no-such-group-here") as it:
         status, line = it.failed()
-        expect("a group that isn't there", status != 0 and f"unable to listen on {path}: no such group" in line, f"{status} {line}")
+        expect("a group that isn't there", status != 0 and "unable to listen on --socket: no such group" in line, f"{status} {line}")
 
 
 def test_left_behind(expect, program, folder, file):
@@ -108,7 +108,7 @@ def test_left_behind(expect, program, folder, file):
         other = make_host(program, os.path.join(folder, "other"), ["green"])
         with OnSocket(program, other, path) as second:
             status, line = second.failed()
-            expect("two servers on one socket", status != 0 and f"unable to listen on {path}: a server listens there" in line, f"{status} {line}")
+            expect("two servers on one socket", status != 0 and "unable to listen on --socket: a server listens there" in line, f"{status} {line}")
         expect("the first one goes on", it.ask("HEAD", "/plans").status == 200)
 
 
@@ -129,15 +129,15 @@ def test_other_files(expect, program, folder, file):
             status, line = it.failed()
             after = os.lstat(path)
             stays = (before.st_ino, before.st_mode) == (after.st_ino, after.st_mode)
-            expect(f"{kind} at the path", status != 0 and f"unable to listen on {path}: a file is there" in line and stays, f"{status} {line}")
+            expect(f"{kind} at the path", status != 0 and "unable to listen on --socket: a file is there" in line and stays, f"{status} {line}")
     long = os.path.join(folder, "x" * 120)
     with OnSocket(program, file, long) as it:
         status, line = it.failed()
-        expect("a path that is too long", status != 0 and f"unable to listen on {long}: " in line, f"{status} {line}")
+        expect("a path that is too long", status != 0 and "unable to listen on --socket: " in line, f"{status} {line}")
     path = os.path.join(place, "nowhere", "clients")
     with OnSocket(program, file, path) as it:
         status, line = it.failed()
-        expect("a folder that isn't there", status != 0 and f"unable to listen on {path}: " in line, f"{status} {line}")
+        expect("a folder that isn't there", status != 0 and "unable to listen on --socket: " in line, f"{status} {line}")
 
 
 def test_second_fails(expect, program, folder, file):
@@ -146,7 +146,7 @@ def test_second_fails(expect, program, folder, file):
     os.mkdir(operators)
     with OnSocket(program, file, path, operators=operators) as it:
         status, line = it.failed()
-        expect("an operators' socket on a folder", status != 0 and f"unable to listen on {operators}" in line, f"{status} {line}")
+        expect("an operators' socket on a folder", status != 0 and "unable to listen on --operator-socket: " in line, f"{status} {line}")
     expect("no socket's file is left", beside(folder) == ["operators"], names(folder))
 
 

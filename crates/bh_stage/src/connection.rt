@@ -20,6 +20,9 @@ const LATE_READS: u32 = 8192;
 /// So many bytes that came or went in time give a connection as much time again.
 const PROGRESS: usize = 1_048_576;
 
+/// For how many milliseconds no other connection is given its place.
+const GRACE: u64 = 1_000;
+
 /// What an operator is told if memory or a file is wanting.
 const UNAVAILABLE: &[u8] = b"48 Unavailable\n";
 
@@ -137,8 +140,12 @@ impl<R: Source + Drop, W: Sink + Shut + Drop> Connection<R, W> {
         }
     }
 
-    /// Whether its request comes, and whether that has its head: those without one go first.
-    pub(crate) fn rank(&self) -> Option<(bool, u64)> {
+    /// Whether its request comes, and whether that has its head: those without one go first. One that
+    /// came less than a second ago keeps its place.
+    pub(crate) fn rank(&self, now: u64) -> Option<(bool, u64)> {
+        if now.saturating_sub(self.since) < GRACE {
+            return None;
+        }
         match &self.state {
             State::Coming(draft, _) => Some((!draft.is_new(), self.number)),
             State::Whole(_, _) | State::Served | State::Going(_, _) | State::Closing(_, _, _) =>

@@ -369,14 +369,16 @@ impl<W: Wires + Drop> Stage<W> {
     }
 
     /// The key of the connection that gives its place to the next, if there are as many as may be:
-    /// the oldest one without a head, or else the oldest one whose request comes.
+    /// the oldest one without a head, or else the oldest one whose request comes, but none that came
+    /// less than a second ago.
     fn place(&self) -> Option<usize> {
+        let now = self.now.saturating_add(self.away);
         let mut found: Option<(usize, (bool, u64))> = None;
         if !self.is_full() {
             return None;
         }
         for (key, connection) in self.connections.iter() {
-            if let Some(rank) = connection.rank() {
+            if let Some(rank) = connection.rank(now) {
                 if found.is_none_or(|(_, other)| rank < other) {
                     found = Some((key, rank));
                 }

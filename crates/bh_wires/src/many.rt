@@ -145,6 +145,7 @@ fn listen<'a, N: Net + Files<File = File> + AllocGlobal + Eprint, C: Clock>(
     sockets: &mut Sockets<'a, N, C>,
 ) -> io::Result<()> {
     let clients = Place {
+        option: "--socket",
         port: ports.port,
         path: places.socket,
         group: places.socket_group,
@@ -154,6 +155,7 @@ fn listen<'a, N: Net + Files<File = File> + AllocGlobal + Eprint, C: Clock>(
         return Ok(());
     };
     let operators = Place {
+        option: "--operator-socket",
         port: operator.port,
         path: places.operator_socket,
         group: None,
@@ -164,6 +166,8 @@ fn listen<'a, N: Net + Files<File = File> + AllocGlobal + Eprint, C: Clock>(
 /// Where to listen: on a Unix socket, to which a group may connect, or else on a port of 127.0.0.1.
 #[derive(Clone, Copy)]
 struct Place<'a> {
+    /// The option that names the path. An error names this, since its text holds 80 bytes.
+    option: &'a str,
     port: u16,
     path: Option<&'a str>,
     group: Option<&'a str>,
@@ -214,7 +218,7 @@ fn bound<'a, N: Net + Files<File = File> + AllocGlobal + Eprint>(
                 let _ = eprintln!(net; "{what} on {path}");
                 Ok(bound)
             }
-            Err(error) => Err(not_bound(net.alloc(), path, error)),
+            Err(error) => Err(not_bound(net.alloc(), place.option, error)),
         },
         None => bound_port(net, place.port, what),
     }
@@ -257,7 +261,7 @@ fn bound_port<'a, N: Net + AllocGlobal + Eprint>(
     })
 }
 
-/// An error that names the place. If memory for its text runs out, the error is unchanged.
+/// An error that names the place or the option. If memory for its text runs out, the error is unchanged.
 fn not_bound<D: Display + Drop>(alloc: Global, place: D, error: io::Error) -> io::Error {
     match format!(in alloc; "unable to listen on {place}: {error}") {
         Ok(text) => io::Error::new(error.kind(), text.as_str()),
