@@ -288,4 +288,5 @@ def main():
                 it.end()
 
 
-main()
+if __name__ == "__main__":
+    main()
