@@ -8,7 +8,7 @@ import subprocess
 from host import TOP
 
 DEPLOY = os.path.join(TOP, "deploy")
-UNITS = ("bucketd.service", "bucketd-sweep.service", "bucketd-sweep.timer")
+UNITS = ("bucketd.service",)
 INSTALLED = {"bin/bucketd": 0o755, **{name: 0o644 for name in (
     "share/man/man1/bucketd.1", "share/bash-completion/completions/bucketd", "lib/sysusers.d/bucketd.conf", "share/doc/bucketd/nginx.conf", "share/doc/bucketd/shards.conf",
     *(f"lib/systemd/system/{unit}" for unit in UNITS))}}
@@ -64,7 +64,7 @@ def test_completions(expect, folder):
 
 def test_words_of_units(expect, program):
     """Each unit's words, by the help of the subcommand: its options are there, and none that it demands is missing."""
-    for unit in UNITS[:2]:
+    for unit in UNITS:
         (words,) = re.findall(r"^ExecStart=/usr/local/bin/bucketd (.*)$", read(DEPLOY, unit), re.M)
         name, *rest = words.split()
         help = run([program, "help", name]).stdout

@@ -352,6 +352,36 @@ def test_files_are_short(expect, program, folder):
         expect("requests beside 3 who don't read, where 256 bodies have all room in files", is_answered and took < 0.5 * server.timeout, f"{took:.2f} s")
 
 
+# ---- sweeps of its own
+
+
+def stored(server):
+    """How many bytes of blocks stand, and how many are referred to."""
+    words = server.order(op="report").split()
+    return int(words[3]), int(words[5])
+
+
+def test_own_sweeps(expect, program, folder):
+    """One object that is overwritten over and over: what nobody needs any more goes without an order, and nothing else does."""
+    if not is_fast(program):
+        return expect.skip("the server's own sweeps", "the bytes that begin one take a slow program too long")
+    with Operated(program, make_host(program, os.path.join(folder, "host"), TENANTS)) as server:
+        server.get("PUT", "/plans", b"")
+        size, count = 8 << 20, 30
+        kept = os.urandom(size)
+        server.get("PUT", "/plans/stays", kept)
+        most = 0
+        for number in range(count):
+            assert server.get("PUT", "/plans/x", number.to_bytes(4, "big") + os.urandom(size - 4))[0] == 200
+            most = max(most, stored(server)[0])
+        begun = time.monotonic()
+        while stored(server)[0] > 10 * size and time.monotonic() - begun < PATIENCE:
+            time.sleep(0.05)
+        left, needed = stored(server)
+        expect("what nobody needs goes", left <= 10 * size and most < 20 * size, f"{left} of {count * size} are left, at most {most}")
+        expect("what is needed stays", needed == 2 * size and server.get("GET", "/plans/stays")[2] == kept, needed)
+
+
 # ---- the clock
 
 

@@ -20,7 +20,7 @@ from host import PATIENCE, TOP, listens
 pytestmark = pytest.mark.xdist_group("packages")  # (packages are made once)
 BUILDS = "/usr/lib/bucketd/x86-64-v{}/bucketd"
 OLD, NEW, LAST = "0.1.0~1", "0.1.0~2", "0.1.0~3"
-UNITS = ["bucketd.service", "bucketd-sweep.service", "bucketd-sweep.timer", "bucketd-gateway.service", "bucketd-port.service"]
+UNITS = ["bucketd.service", "bucketd-gateway.service", "bucketd-port.service"]
 SYSTEM = "usr/lib/systemd/system"
 FILES = {
     "bucketd": ["etc/bucketd/bucketd.conf", "usr/lib/bucketd/choose-build", "usr/lib/bucketd/x86-64-v2/bucketd", "usr/lib/bucketd/x86-64-v3/bucketd",
@@ -311,7 +311,7 @@ def installed(expect, debian, programs):
     expect("the units, by systemd-analyze", done.returncode == 0 and not done.stdout, done.stdout)
     for unit in UNITS:
         told = debian.run("systemctl", "is-enabled", unit).stdout.strip()
-        expect(f"{unit} at boot", told == ("static" if unit == "bucketd-sweep.service" else "enabled"), told)
+        expect(f"{unit} at boot", told == "enabled", told)
     for program in ("/usr/bin/bucketd", *(BUILDS.format(it) for it in (2, 3)), "/usr/bin/bucketd-gateway"):
         told = debian.run("ldd", program).stdout
         expect(f"{program} has its libraries", "not found" not in told and told, told)
