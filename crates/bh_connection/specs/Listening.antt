@@ -121,7 +121,8 @@ module _ {H : Type 0} (IsIntact IsOpen : H → Type 0) (seen : H → Seen) (left
   HasListened operated lost before after count result old new =
       (visits : List Visit) × HasServedAll visits old new × AllAdmitted operated visits × MatchResult result
       (λ _. (length visits ≡ count) × AllOpen visits × Logs before after (flat_map calls_of visits))
-      (λ _. ((length visits < count) × AllOpen visits × ((fault : List Call) × IsFault fault × Logs before after (flat_map calls_of visits ++ fault)))
+      (λ _. ((length visits < count) × AllOpen visits
+      × ((fault : List Call) × IsFault fault × Logs before after (flat_map calls_of visits ++ fault)))
       ⊎ (HasEnded lost new visits × (length visits ≤ count) × Logs before after (flat_map calls_of visits)))
 
   -- a host that was lost was served up to some visit

@@ -5,9 +5,10 @@ use Rattle.clap.specs.Simple.{new_shape}
 use Rattle.bh_words.specs.Options.{rule}
 use Rattle.bh_words.specs.declared.options.OptionName.{OptionName}
 use Rattle.bh_words.specs.declared.options.OptionName.TheVariants.{File, To, From, Tenant, Name, Secret, Quota, At, ClockLeap, Force, Limit}
-use Rattle.bh_words.specs.declared.options.OptionName.TheVariants.{Port, Socket, SocketGroup, Count, Log, Timeout, Connections, Spool, ClockStep}
+use Rattle.bh_words.specs.declared.options.OptionName.TheVariants.{Port, Socket, SocketGroup, Count, Log, Timeout, Connections, Spool}
 use Rattle.bh_words.specs.declared.options.OptionName.TheVariants.{MaxBody, BlockSize, CacheBlocks, CacheBytes, Digest, OperatorPort}
-use Rattle.bh_words.specs.declared.options.OptionName.TheVariants.{MinPart, OperatorSocket, OperatorSecretFile, SecretFile, Order}
+use Rattle.bh_words.specs.declared.options.OptionName.TheVariants.{ClockStep, MinPart}
+use Rattle.bh_words.specs.declared.options.OptionName.TheVariants.{OperatorSocket, OperatorSecretFile, SecretFile, Order}
 use Rattle.bh_words.specs.declared.subcommands.Subcommand.{Subcommand}
 use Rattle.bh_words.specs.declared.subcommands.Subcommand.TheVariants as subcommand
 
