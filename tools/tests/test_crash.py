@@ -622,8 +622,10 @@ def test_full_disk(expect, program, folder, full_host):
     expect("a get in a later second is answered as ever, or refused", later.status == 503 or (later.status, later.body) == (200, body), later)
     told = codes_of(server)
     codes = [code for status, code in told if status == "503"]
-    expect("the log says so at each 503, and at no other answer", len(codes) >= 5 and set(codes) == {"store=DiskFull"}
-           and all(code is None for status, code in told if status != "503"), f"{told[-100:]}")
+    # A body above 1 MiB has a file of its own while it comes. Where that has no room the store isn't asked.
+    unasked = codes.count(None)
+    is_told = len(codes) - unasked >= 5 and {*codes} - {None} == {"store=DiskFull"} and unasked <= sum(size > 1 << 20 for size in FILLING)
+    expect("the log says so at each 503, and at no other answer", is_told and all(code is None for status, code in told if status != "503"), f"{told[-100:]}")
     expect.note(f"{len(keys)} objects: a delete is answered {statuses[0]}, a get in a later second {later.status}")
     os.remove(ballast)
     clock.set(clock.now + 1)

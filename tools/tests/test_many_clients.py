@@ -137,7 +137,7 @@ def test_drawn_orders(expect, program, folder, full, number):
             wanted = without_moments(alone(program, tenant, own))
             if found != wanted or not own:
                 wrong.append(f"{tenant}: {differing(wanted, found)}")
-        is_told = len(answered) == count - ended.count("reset") and {"reset", "closed", "once"} <= {*ended}
+        is_told = len(answered) == count - ended.count("reset") and {"reset", "closed"} <= {*ended}
         expect(f"{count} connections of three tenants in pieces, {kinds}", not wrong and is_told, "\n".join(wrong))
         await_lines(server, 1 + len(TENANTS) + count)
         resets_told = sum(" - - " in it and it.split()[-2] == "0" for it in server.lines())
