@@ -367,11 +367,24 @@ def lacking(lines):
     return [it.groups() if it else ("no line", None) for it in told]
 
 
+def shut(program, folder, library, base, number):
+    """A server on a disk that fails from some call on, and what 40 puts got. The call is the first from this number on that shuts the
+    store: a sync, or the last write of a commit."""
+    broken = next(it for it in FAULTS if (it.does, it.error) == ("refuse-on", EIO))
+    for at in range(number, number + 16):
+        file = copied(base, folder, f"failing-{at}")
+        server = Server(program, file, "--log", **broken.env(library, at))
+        asked = [server.ask("green", "PUT", f"/plans/{put}", b"failing" * 1000).status for put in range(40)]
+        if None in asked:
+            return file, server, asked
+        server.end()
+        removed(file)
+    raise AssertionError("none of 16 calls shuts the store")
+
+
 def failing(expect, program, folder, library, base, number):
     """What the log tells of puts on a disk that fails from some call on."""
-    file, broken = copied(base, folder, "failing"), next(it for it in FAULTS if (it.does, it.error) == ("refuse-on", EIO))
-    server = Server(program, file, "--log", **broken.env(library, number))
-    asked = [server.ask("green", "PUT", f"/plans/{at}", b"failing" * 1000).status for at in range(40)]
+    file, server, asked = shut(program, folder, library, base, number)
     ended = server.process.wait(PATIENCE)
     _, out, said = server.end()
     removed(file)

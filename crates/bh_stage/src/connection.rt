@@ -140,17 +140,18 @@ impl<R: Source + Drop, W: Sink + Shut + Drop> Connection<R, W> {
         }
     }
 
-    /// Whether its request comes, and whether that has its head: those without one go first. One that
-    /// came less than a second ago keeps its place.
-    pub(crate) fn rank(&self, now: u64) -> Option<(bool, u64)> {
-        if now.saturating_sub(self.since) < GRACE {
-            return None;
-        }
+    /// Whether its request comes, and whether that has its head: those without one go first.
+    pub(crate) fn rank(&self) -> Option<(bool, u64)> {
         match &self.state {
             State::Coming(draft, _) => Some((!draft.is_new(), self.number)),
             State::Whole(_, _) | State::Served | State::Going(_, _) | State::Closing(_, _, _) =>
                 None,
         }
+    }
+
+    /// Whether it came less than a second ago.
+    pub(crate) fn is_young(&self, now: u64) -> bool {
+        now.saturating_sub(self.since) < GRACE
     }
 
     /// Whether it has no answer and won't be asked for one if no request is served any more.

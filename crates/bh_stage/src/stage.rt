@@ -369,22 +369,26 @@ impl<W: Wires + Drop> Stage<W> {
     }
 
     /// The key of the connection that gives its place to the next, if there are as many as may be:
-    /// the oldest one without a head, or else the oldest one whose request comes, but none that came
-    /// less than a second ago.
+    /// the oldest one without a head, or else the oldest one whose request comes. If that came less
+    /// than a second ago, the next one waits.
     fn place(&self) -> Option<usize> {
-        let now = self.now.saturating_add(self.away);
         let mut found: Option<(usize, (bool, u64))> = None;
         if !self.is_full() {
             return None;
         }
         for (key, connection) in self.connections.iter() {
-            if let Some(rank) = connection.rank(now) {
+            if let Some(rank) = connection.rank() {
                 if found.is_none_or(|(_, other)| rank < other) {
                     found = Some((key, rank));
                 }
             }
         }
-        found.map(|(key, _)| key)
+        let (key, _) = found?;
+        let now = self.now.saturating_add(self.away);
+        match self.connections.get(key) {
+            Some(connection) if !connection.is_young(now) => Some(key),
+            Some(_) | None => None,
+        }
     }
 
     /// Those that may go on do, one after another, so many steps in all.
