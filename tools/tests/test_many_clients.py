@@ -217,7 +217,7 @@ def test_clients_that_do_not_read(expect, program, folder):
     """Clients that ask for a large object and read nothing hold up nobody; one that reads late has all of it."""
     if not is_fast(program):
         return expect.skip("clients that don't read", "their object is too large for a slow program")
-    with server_of(program, folder) as server:
+    with server_of(program, folder, timeout=6) as server:
         server.get("PUT", "/plans", b"")
         data = os.urandom(12 << 20)
         assert server.get("PUT", "/plans/large", data)[0] == 200
@@ -325,7 +325,7 @@ def test_answers_before_the_end(expect, program, folder):
         data = os.urandom(4 << 20 if is_fast(program) else 200_000)
         server.get("PUT", "/plans", b"")
         server.get("PUT", "/plans/large", data)
-    with Served(program, os.path.join(folder, "host"), count=1) as server:
+    with Served(program, os.path.join(folder, "host"), count=1, timeout=8) as server:
         it, silent = server.socket(room=4096), server.socket()
         it.sendall(request("green", "GET", "/plans/large"))
         time.sleep(0.5 * server.timeout)
@@ -339,7 +339,7 @@ def test_files_are_short(expect, program, folder):
     """Bodies that strangers announced take all room in files: readers who read nothing then hold up nobody either."""
     if not is_fast(program):
         return expect.skip("files are short", "the object is too large for a slow program")
-    with server_of(program, folder, "--connections", "600") as server:
+    with server_of(program, folder, "--connections", "600", timeout=6) as server:
         server.get("PUT", "/plans", b"")
         assert server.get("PUT", "/plans/large", os.urandom(16 << 20))[0] == 200
         announced = [server.socket() for _ in range(256)]
