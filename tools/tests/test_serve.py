@@ -32,8 +32,8 @@ class Served(Server):
     """A server whose connections have some seconds, asked by the tenant green."""
 
     def __init__(self, program, file, *options, timeout=None, **more):
-        self.large, self.timeout = (8 << 20, 2) if is_fast(program) else (32 << 10, 6)
-        super().__init__(program, file, "--timeout", str(timeout or self.timeout), "--force", *options, **more)
+        self.large, self.timeout = (8 << 20, timeout or 2) if is_fast(program) else (32 << 10, timeout or 6)
+        super().__init__(program, file, "--timeout", str(self.timeout), "--force", *options, **more)
 
     def get(self, method, path, body=None, *fields, secret=None):
         """Status, fields and body of the answer."""
