@@ -99,6 +99,9 @@ func TestTell(t *testing.T) {
 	told := make(chan string, 10)
 	path := listen(t, func(conn net.Conn) {
 		line, _ := bufio.NewReader(conn).ReadString('\n')
+		if line == "" {
+			return // it went without a word
+		}
 		told <- line
 		io.WriteString(conn, "done\n")
 	})
