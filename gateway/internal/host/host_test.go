@@ -19,6 +19,8 @@ import (
 	"syscall"
 	"testing"
 	"time"
+
+	"bucketd/gateway/internal/hosttest"
 )
 
 // The program of the tests is bucketd, too, where the environment says so.
@@ -123,27 +125,13 @@ func pretendOperators(folder string, web *http.Server) {
 func thief(t *testing.T, address string) (*atomic.Int64, net.Listener) {
 	t.Helper()
 	var told atomic.Int64
-	listener, err := net.Listen("tcp", address)
-	if err != nil {
-		t.Fatal(err)
-	}
-	t.Cleanup(func() { listener.Close() })
-	go func() {
-		for {
-			conn, err := listener.Accept()
-			if err != nil {
-				return
-			}
-			go func() {
-				defer conn.Close()
-				conn.SetDeadline(time.Now().Add(time.Second))
-				first := make([]byte, 4096)
-				n, _ := conn.Read(first)
-				told.Add(int64(n))
-				io.WriteString(conn, "HTTP/1.1 200 X\r\ncontent-length: 0\r\n\r\n")
-			}()
-		}
-	}()
+	listener := hosttest.Serve(t, "tcp", address, func(conn net.Conn) {
+		conn.SetDeadline(time.Now().Add(time.Second))
+		first := make([]byte, 4096)
+		n, _ := conn.Read(first)
+		told.Add(int64(n))
+		io.WriteString(conn, "HTTP/1.1 200 X\r\ncontent-length: 0\r\n\r\n")
+	})
 	return &told, listener
 }
 
@@ -152,7 +140,7 @@ func served(t *testing.T, files ...string) (h *Host, folder string, end func()) 
 	t.Helper()
 	folder = t.TempDir()
 	t.Setenv("BUCKETD_FOLDER", folder)
-	t.Setenv("RUNTIME_DIRECTORY", shortFolder(t))
+	t.Setenv("RUNTIME_DIRECTORY", hosttest.Folder(t))
 	for _, name := range files {
 		if err := os.WriteFile(filepath.Join(folder, name), nil, 0o600); err != nil {
 			t.Fatal(err)
@@ -171,17 +159,6 @@ func served(t *testing.T, files ...string) (h *Host, folder string, end func()) 
 	end = func() { cancel(); <-over }
 	t.Cleanup(end)
 	return h, folder, end
-}
-
-// shortFolder makes a folder whose path is short enough for a socket's.
-func shortFolder(t *testing.T) string {
-	t.Helper()
-	folder, err := os.MkdirTemp("/tmp", "host-test-")
-	if err != nil {
-		t.Fatal(err)
-	}
-	t.Cleanup(func() { os.RemoveAll(folder) })
-	return folder
 }
 
 func ask(h *Host) (*Response, error) {
@@ -307,7 +284,7 @@ func TestSocketFolder(t *testing.T) {
 	if err := os.Mkdir(long, 0o700); err != nil {
 		t.Fatal(err)
 	}
-	short := shortFolder(t)
+	short := hosttest.Folder(t)
 	for _, it := range []struct{ runtime, session, want string }{
 		{short, "", short}, {short + ":/none", "", short}, {"", short, short}, {long, short, short}, {"/none", short, short}, {"", "", os.TempDir()}, {long, long, os.TempDir()},
 	} {

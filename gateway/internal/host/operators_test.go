@@ -11,31 +11,9 @@ import (
 	"strings"
 	"testing"
 	"time"
-)
 
-// listen opens a Unix socket, and gives each connection to a function.
-func listen(t *testing.T, each func(conn net.Conn)) (path string) {
-	t.Helper()
-	path = filepath.Join(shortFolder(t), "socket")
-	listener, err := net.Listen("unix", path)
-	if err != nil {
-		t.Fatal(err)
-	}
-	t.Cleanup(func() { listener.Close() })
-	go func() {
-		for {
-			conn, err := listener.Accept()
-			if err != nil {
-				return
-			}
-			go func() {
-				defer conn.Close()
-				each(conn)
-			}()
-		}
-	}()
-	return path
-}
+	"bucketd/gateway/internal/hosttest"
+)
 
 // answer reads a head and answers it by a line.
 func answer(status string, fields ...string) func(net.Conn) {
@@ -68,7 +46,7 @@ func TestCheck(t *testing.T) {
 		{"no HTTP", func(conn net.Conn) { conn.Read(make([]byte, 1000)); io.WriteString(conn, "hello\r\n\r\n") }, "malformed"},
 	} {
 		ctx, end := context.WithTimeout(context.Background(), time.Second)
-		err := New(Socket(listen(t, it.each)), 1).Check(ctx)
+		err := New(Socket(hosttest.Listen(t, it.each)), 1).Check(ctx)
 		if end(); it.has == "" && err != nil || it.has != "" && (err == nil || !strings.Contains(err.Error(), it.has)) {
 			t.Errorf("%s: %v", it.name, err)
 		}
@@ -82,7 +60,7 @@ func TestCheck(t *testing.T) {
 
 // A request goes to a socket as to a port, and only if the user who listens is trusted.
 func TestSocket(t *testing.T) {
-	h := New(Socket(listen(t, answer("200 X"))), 4)
+	h := New(Socket(hosttest.Listen(t, answer("200 X"))), 4)
 	for _, it := range []struct {
 		user   int
 		isWell bool
@@ -97,7 +75,7 @@ func TestSocket(t *testing.T) {
 // An operator's line goes behind the secret, to nobody but the user who is trusted, and not for ever.
 func TestTell(t *testing.T) {
 	told := make(chan string, 10)
-	path := listen(t, func(conn net.Conn) {
+	path := hosttest.Listen(t, func(conn net.Conn) {
 		line, _ := bufio.NewReader(conn).ReadString('\n')
 		if line == "" {
 			return // it went without a word
@@ -152,7 +130,7 @@ func TestTell(t *testing.T) {
 	defer end()
 	h.user.Store(anyone)
 	read := func(in io.Reader) error { _, err := io.ReadAll(in); return err }
-	if err := h.Operators(Socket(listen(t, silence))).Tell(ctx, "{}", read); err == nil {
+	if err := h.Operators(Socket(hosttest.Listen(t, silence))).Tell(ctx, "{}", read); err == nil {
 		t.Error("silence is an answer")
 	}
 	if err := h.Operators(Place{}).Tell(context.Background(), "{}", read); err == nil || h.Operators(Place{}).IsThere() {
@@ -183,7 +161,7 @@ func TestWatch(t *testing.T) {
 		{answer("503 X", "x-refusal: 31 ServiceUnavailable"), "PUT", "5xx ServiceUnavailable"}, {func(net.Conn) {}, "PUT", "none"}, {silence, "GET", "left"},
 	} {
 		watch := &noted{}
-		h := New(Socket(listen(t, it.each)), 1)
+		h := New(Socket(hosttest.Listen(t, it.each)), 1)
 		h.Watch = watch
 		ctx, end := context.WithTimeout(context.Background(), 500*time.Millisecond)
 		h.Client("green", "k", "s").Ask(ctx, Object{}.Request(it.method))

@@ -15,16 +15,17 @@ import (
 
 	"bucketd/gateway/internal/accesslog"
 	"bucketd/gateway/internal/host"
+	"bucketd/gateway/internal/hosttest"
 	"bucketd/gateway/internal/limits"
 )
 
 // served returns a status server before a host that answers, of which everything is told.
 func served(t *testing.T, m *Metrics) *http.Server {
 	t.Helper()
-	h := host.New(host.Socket(listen(t, answers)), 1)
+	h := host.New(host.Socket(hosttest.Listen(t, answers)), 1)
 	from := sources(h)
 	var count atomic.Int64
-	from.Operators = h.Operators(host.Socket(listen(t, operators(&count, map[string]string{tenantsLine: goodTenants, reportLine: goodReport}))))
+	from.Operators = h.Operators(host.Socket(hosttest.Listen(t, operators(&count, map[string]string{tenantsLine: goodTenants, reportLine: goodReport}))))
 	from.Certificates = func() (time.Time, bool) { return time.Unix(1800000000, 0), true }
 	folder := t.TempDir()
 	for name, at := range map[string]int64{"host-1": 1700000000, "host-2": 1700000100, "host-3.partial": 1700000200, "other": 1700000300} {

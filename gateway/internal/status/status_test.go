@@ -9,45 +9,15 @@ import (
 	"net"
 	"net/http"
 	"net/http/httptest"
-	"os"
-	"path/filepath"
 	"strings"
 	"sync/atomic"
 	"testing"
 	"time"
 
 	"bucketd/gateway/internal/host"
+	"bucketd/gateway/internal/hosttest"
 	"bucketd/gateway/internal/limits"
 )
-
-// listen opens a Unix socket, and gives each connection to a function.
-func listen(t *testing.T, each func(conn net.Conn)) (path string) {
-	t.Helper()
-	folder, err := os.MkdirTemp("/tmp", "status-test-")
-	if err != nil {
-		t.Fatal(err)
-	}
-	t.Cleanup(func() { os.RemoveAll(folder) })
-	path = filepath.Join(folder, "socket")
-	listener, err := net.Listen("unix", path)
-	if err != nil {
-		t.Fatal(err)
-	}
-	t.Cleanup(func() { listener.Close() })
-	go func() {
-		for {
-			conn, err := listener.Accept()
-			if err != nil {
-				return
-			}
-			go func() {
-				defer conn.Close()
-				each(conn)
-			}()
-		}
-	}()
-	return path
-}
 
 // answers reads a head, and answers that the key isn't known.
 func answers(conn net.Conn) {
@@ -82,7 +52,7 @@ func get(server *http.Server, method, path string) *httptest.ResponseRecorder {
 }
 
 func TestPaths(t *testing.T) {
-	server := Server(NewMetrics(), sources(host.New(host.Socket(listen(t, answers)), 1)))
+	server := Server(NewMetrics(), sources(host.New(host.Socket(hosttest.Listen(t, answers)), 1)))
 	metrics := http.StatusOK
 	if !HasMetrics {
 		metrics = http.StatusNotImplemented
@@ -108,10 +78,10 @@ func TestHealth(t *testing.T) {
 		status int
 		has    string
 	}{
-		{"up", host.Socket(listen(t, answers)), 200, "ok\n"},
+		{"up", host.Socket(hosttest.Listen(t, answers)), 200, "ok\n"},
 		{"down", host.Socket("/none/socket"), 503, "no such file"},
 		{"not started", host.Place{}, 503, "isn't running"},
-		{"stalled", host.Socket(listen(t, stalls)), 503, "no answer within 2s"},
+		{"stalled", host.Socket(hosttest.Listen(t, stalls)), 503, "no answer within 2s"},
 	} {
 		begun := time.Now()
 		w := get(Server(NewMetrics(), sources(host.New(it.place, 1))), "GET", "/healthz")
@@ -155,7 +125,7 @@ const (
 )
 
 func newAsker(t *testing.T, each func(net.Conn)) *asker {
-	return &asker{operators: host.New(host.Place{}, 1).Operators(host.Socket(listen(t, each))), clock: time.Now}
+	return &asker{operators: host.New(host.Place{}, 1).Operators(host.Socket(hosttest.Listen(t, each))), clock: time.Now}
 }
 
 // What operators are told is read word by word; anything else is a failure, and what was known stays.
