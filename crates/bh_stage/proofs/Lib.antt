@@ -2,3 +2,4 @@ pub mod RecordLemmas
 pub mod WholeLemmas
 pub mod KeptLemmas
 pub mod OutboxLemmas
+pub mod SpoolLemmas

@@ -1,12 +1,13 @@
 //! A request while it comes: all the bytes that its connection gave are kept, in memory or, of a long
 //! one, in a file.
 
-ghost use Rattle.std.specs.Prelude.{◌≡◌, ◌≢◌, ◌<◌, ◌≤◌, true, false};
+ghost use Rattle.std.specs.Prelude.{◌≡◌, ◌≢◌, ◌<◌, ◌≤◌, ◌++◌, true, false, is_some};
 ghost use Rattle.bh_stage.specs.Records.{bytes_of, is_ended};
+ghost use Rattle.bh_stage.specs.Spools.{rest_in};
 ghost use Rattle.bh_stage.specs.Wholes.{IsWhole, IsReached};
 
 use crate::record::{Inlet, ROOM};
-use crate::spool::{Spool, Spools, put, written_in};
+use crate::spool::{Spool, Spools, keep, written_in};
 use crate::whole::{Door, Extent, extent_of};
 use bh_link::ends::Source;
 use bh_types::limits::Limits;
@@ -45,15 +46,13 @@ pub struct Draft<R> {
     size: usize,
     /// How many bytes it has, if they have no room in memory; else 0.
     wanted: usize,
-    /// The file of the bytes that have no room in memory.
+    /// The file of the bytes that have no room in memory, which come after these.
     pub(crate) spool: Option<Spool>,
-    /// Whether bytes of it may be in that file.
-    pub(crate) spilled: bool,
     /// Whether the last call gave no byte.
     ended: bool,
     /// Whether memory ran out.
     pub(crate) lost: bool,
-    ghost all: { lost ≡ false → spilled ≡ false → bytes_of inlet.given.items ≡ kept.items },
+    ghost all: { lost ≡ false → bytes_of inlet.given.items ≡ kept.items ++ rest_in spool },
     ghost end: { is_ended inlet.given.items ≡ ended },
 }
 
@@ -71,7 +70,6 @@ impl<R: Source> Draft<R> {
             size: 0,
             wanted: 0,
             spool: None,
-            spilled: false,
             ended: false,
             lost: false,
         }
@@ -88,11 +86,7 @@ impl<R: Source> Draft<R> {
         let count = self.inlet.give(&mut room, most)?;
         self.ended = count == 0;
         self.lost = true;
-        if self.spilled {
-            put(&mut self.spool, &room[..count])?;
-        } else {
-            self.kept.extend_from_slice(&room[..count])?;
-        }
+        keep(&mut self.kept, &mut self.spool, &room, count)?;
         self.lost = was_lost;
         Ok(count)
     }
@@ -110,7 +104,7 @@ impl<R: Source> Draft<R> {
 
     /// How many bytes of it are in memory, or are to come there.
     pub(crate) fn weight(&self) -> usize {
-        if self.spilled {
+        if self.spool.is_some() {
             self.kept.len()
         } else {
             self.kept.len().max(self.size)
@@ -119,12 +113,12 @@ impl<R: Source> Draft<R> {
 
     /// How many bytes it may have in a file.
     pub(crate) fn spread(&self) -> usize {
-        if self.spilled { self.size } else { 0 }
+        if self.spool.is_some() { self.size } else { 0 }
     }
 
     /// How many bytes it has, if it wants a file for them; else 0.
     pub(crate) fn wants(&self) -> usize {
-        if self.spilled { 0 } else { self.wanted }
+        if self.spool.is_some() { 0 } else { self.wanted }
     }
 
     /// Whether its head is still to come.
@@ -150,10 +144,12 @@ impl<R: Source> Draft<R> {
     pub fn look(&mut self, limits: &Limits, most: usize) -> Look
         ensures whole { result ≡ Look.Whole → IsWhole limits.now self.new.door (bytes_of self.new.inlet.given.items) }
         ensures ended { result ≡ Look.Ended → is_ended self.new.inlet.given.items ≡ true }
-        ensures spilled { result ≡ Look.Spilled → self.new.spilled ≡ true }
+        ensures whole_kept { result ≡ Look.Whole → is_some self.new.spool ≡ false }
+        ensures spilled { result ≡ Look.Spilled → is_some self.new.spool ≡ true }
         ensures lost { self.new.lost ≡ true → result ≡ Look.Lost }
         ensures inlet { self.new.inlet ≡ self.old.inlet }
         ensures kept { self.new.kept ≡ self.old.kept }
+        ensures spool { self.new.spool ≡ self.old.spool }
         ensures door { self.new.door ≡ self.old.door }
         ensures number { self.new.number ≡ self.old.number }
     {
@@ -164,7 +160,7 @@ impl<R: Source> Draft<R> {
         if came < self.size && !self.ended {
             return Look::Coming;
         }
-        if self.spilled {
+        if self.spool.is_some() {
             return Look::Spilled;
         }
         let extent = extent_of(limits, self.door, self.kept.as_slice());
@@ -184,10 +180,12 @@ impl<R: Spools> Draft<R> {
         ensures door { self.new.door ≡ self.old.door }
         ensures number { self.new.number ≡ self.old.number }
     {
+        if self.spool.is_some() {
+            return Ok(());
+        }
         let spool = self.inlet.spool()?;
         self.spool = Some(spool);
         self.size = self.wanted;
-        self.spilled = true;
         Ok(())
     }
 }

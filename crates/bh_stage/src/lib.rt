@@ -10,6 +10,7 @@ pub mod order;
 pub mod outbox;
 pub mod record;
 pub mod spool;
+mod spooled;
 pub mod stage;
 pub mod waiting;
 pub mod whole;

@@ -5,14 +5,15 @@ ghost use Rattle.std.specs.Prelude.{◌≡◌, ◌<◌, ◌≤◌, ◌-◌, ◌+
 ghost use Rattle.std.specs.Io.{WritesAtMost};
 ghost use Rattle.std.specs.Io.KnownBytes.{WriteAppends};
 ghost use Rattle.bh_stage.specs.Records.{bytes_of};
+ghost use Rattle.bh_stage.specs.Spools.{rest_in, ReturnsAll};
 
-use crate::copying::{copy_front, copy_rest};
+use crate::copying::{append, copy_front, copy_rest};
 use crate::record::{Outlet, ROOM};
 use crate::spool::{Spool, Spools, get, left_in, put, written_in};
 use crate::waiting::{Patient, Shut, too_late, would_wait};
 use bh_link::ends::Sink;
 use http_server::Log;
-use std::alloc::{AllocError, Global};
+use std::alloc::Global;
 use std::io;
 use std::io::ErrorKind;
 
@@ -29,7 +30,8 @@ pub struct Allowance {
     pub milliseconds: u64,
 }
 
-/// An answer, of which the first bytes went out and the others wait.
+/// An answer, of which the first bytes went out and the others wait. If its file returns what was
+/// written to it, its socket takes the bytes that it took, in order.
 #[derive(Drop)]
 pub struct Outbox<W> {
     alloc: Global,
@@ -41,13 +43,14 @@ pub struct Outbox<W> {
     sent: usize,
     /// The file of the bytes that wait after these.
     spool: Option<Spool>,
-    /// Whether bytes of it may be in that file.
-    spilled: bool,
+    /// Whether memory for bytes of the file ran out. Nothing is sent after that.
+    lost: bool,
     /// How many bytes went out in all.
     went: u64,
     allowance: Allowance,
     ghost within: { sent ≤ vec_len held },
-    ghost all: { spilled ≡ false → bytes_of told.items ≡ bytes_of outlet.taken.items ++ drop sent held.items },
+    ghost all: { lost ≡ false → ReturnsAll spool → bytes_of told.items
+        ≡ bytes_of outlet.taken.items ++ (drop sent held.items ++ rest_in spool) },
 }
 
 impl<W: Sink> Outbox<W> {
@@ -62,7 +65,7 @@ impl<W: Sink> Outbox<W> {
             held: Vec::new(alloc),
             sent: 0,
             spool: None,
-            spilled: false,
+            lost: false,
             went: 0,
             allowance,
         }
@@ -70,7 +73,8 @@ impl<W: Sink> Outbox<W> {
 
     /// Whether all that it took went out.
     pub fn is_empty(&self) -> bool
-        ensures { self.now.spilled ≡ false → result ≡ true → bytes_of self.now.told.items ≡ bytes_of self.now.outlet.taken.items }
+        ensures held { result ≡ true → vec_len self.now.held ≤ self.now.sent }
+        ensures rest { result ≡ true → rest_in self.now.spool ≡ [] }
     {
         self.sent == self.held.len() && left_in(&self.spool) == 0
     }
@@ -115,12 +119,15 @@ impl<W: Sink> Outbox<W> {
     fn refill(&mut self) -> io::Result<()>
         ensures { self.new.told ≡ self.old.told }
     {
-        if !self.spilled || self.sent < self.held.len() {
+        if self.spool.is_none() || self.sent < self.held.len() {
             return Ok(());
         }
         let mut piece = [0u8; ROOM];
-        let count = get(&mut self.spool, &mut piece)?;
+        let was_lost = self.lost;
+        let count = get(&mut self.spool, &mut piece, ROOM)?;
+        self.lost = true;
         append(&mut self.held, &piece, count)?;
+        self.lost = was_lost;
         Ok(())
     }
 
@@ -136,6 +143,7 @@ impl<W: Sink> Outbox<W> {
     /// Takes the first of these bytes, which wait. Returns how many.
     #[tactic(auto, using(crate::proofs::RecordLemmas::bytes_of_append))]
     fn keep(&mut self, bytes: &[u8]) -> io::Result<usize>
+        requires { rest_in self.old.spool ≡ [] }
         ensures within { WritesAtMost result bytes.now }
         ensures bytes { WriteAppends (Some (bytes_of self.old.told.items)) (Some (bytes_of self.new.told.items)) result bytes.now }
     {
@@ -151,6 +159,7 @@ impl<W: Sink> Outbox<W> {
     fn pass(&mut self, bytes: &[u8]) -> io::Result<usize>
         requires some { 0 < length bytes.now }
         requires none { vec_len self.old.held ≤ self.old.sent }
+        requires rest { rest_in self.old.spool ≡ [] }
         ensures within { WritesAtMost result bytes.now }
         ensures bytes { WriteAppends (Some (bytes_of self.old.told.items)) (Some (bytes_of self.new.told.items)) result bytes.now }
     {
@@ -189,7 +198,8 @@ impl<W: Shut> Outbox<W> {
 impl<W: Sink + Patient + Spools> Outbox<W> {
     /// Sends all that waits, and waits for the socket.
     fn send_all(&mut self) -> io::Result<()>
-        ensures { self.new.told ≡ self.old.told }
+        ensures told { self.new.told ≡ self.old.told }
+        ensures rest { OnOk result (rest_in self.new.spool ≡ []) }
     {
         for tried in 0..u64::MAX {
             if self.is_empty() {
@@ -228,12 +238,14 @@ impl<W: Sink + Patient + Spools> Outbox<W> {
     fn spill(&mut self) -> io::Result<()>
         ensures { self.new.told ≡ self.old.told }
     {
+        if self.spool.is_some() {
+            return Ok(());
+        }
         if self.allowance.file == 0 {
             return Err(io::Error::from(ErrorKind::OutOfMemory));
         }
         let spool = self.outlet.spool()?;
         self.spool = Some(spool);
-        self.spilled = true;
         Ok(())
     }
 
@@ -242,7 +254,7 @@ impl<W: Sink + Patient + Spools> Outbox<W> {
     fn make_room(&mut self) -> io::Result<()>
         ensures { self.new.told ≡ self.old.told }
     {
-        if self.spilled || self.waiting() < self.allowance.memory {
+        if self.spool.is_some() || self.waiting() < self.allowance.memory {
             return Ok(());
         }
         self.send_ready()?;
@@ -253,46 +265,45 @@ impl<W: Sink + Patient + Spools> Outbox<W> {
     }
 
     /// Writes the first bytes of a piece to the file. Returns whether that was done.
+    #[tactic(auto, using(crate::proofs::RecordLemmas::bytes_of_append))]
     fn put_away(&mut self, piece: &[u8; ROOM], count: usize) -> bool
         requires { count ≤ 16384 }
-        ensures told { self.new.told ≡ self.old.told }
-        ensures spilled { self.new.spilled ≡ self.old.spilled }
+        ensures yes { result ≡ true → bytes_of self.new.told.items ≡ bytes_of self.old.told.items ++ take count piece.now }
+        ensures no { result ≡ false → self.new.told ≡ self.old.told }
     {
         let waits = left_in(&self.spool).saturating_add(count as u64);
-        waits <= self.allowance.file && put(&mut self.spool, &piece[..count]).is_ok()
+        if waits > self.allowance.file {
+            return false;
+        }
+        let Ok(()) = put(&mut self.spool, piece, count) else {
+            return false;
+        };
+        self.told = self.told.and(&count, piece);
+        true
     }
 
-    /// Takes the first of these bytes, which wait in the file. If it takes none, all others are sent
+    /// Takes the first of these bytes, which wait in the file. If that takes none, all others are sent
     /// first. Returns how many.
-    #[tactic(auto, using(crate::proofs::RecordLemmas::bytes_of_append))]
     fn keep_away(&mut self, bytes: &[u8]) -> io::Result<usize>
-        requires { self.old.spilled ≡ true }
         ensures within { WritesAtMost result bytes.now }
         ensures bytes { WriteAppends (Some (bytes_of self.old.told.items)) (Some (bytes_of self.new.told.items)) result bytes.now }
     {
         let mut piece = [0u8; ROOM];
         let count = copy_front(&mut piece, bytes);
-        if !self.put_away(&piece, count) {
-            self.send_all()?;
-            return self.keep(bytes);
+        if self.put_away(&piece, count) {
+            return Ok(count);
         }
-        self.told = self.told.and(&count, &piece);
-        Ok(count)
+        self.send_all()?;
+        self.keep(bytes)
     }
-}
 
-impl<W: Sink + Patient + Spools> Sink for Outbox<W> {
-    ghost contents = { λ it. Some (bytes_of it.told.items) };
-
-    fn take(&mut self, bytes: &[u8]) -> io::Result<usize> {
-        if !self.spilled && self.waiting() == 0 {
-            match self.pass(bytes) {
-                Err(error) if would_wait(&error) => {}
-                result => return result,
-            }
-        }
+    /// Takes the first of these bytes, which wait. Returns how many.
+    fn hold(&mut self, bytes: &[u8]) -> io::Result<usize>
+        ensures within { WritesAtMost result bytes.now }
+        ensures bytes { WriteAppends (Some (bytes_of self.old.told.items)) (Some (bytes_of self.new.told.items)) result bytes.now }
+    {
         self.make_room()?;
-        if self.spilled {
+        if self.spool.is_some() {
             self.keep_away(bytes)
         } else {
             self.keep(bytes)
@@ -300,13 +311,16 @@ impl<W: Sink + Patient + Spools> Sink for Outbox<W> {
     }
 }
 
-/// Appends the first bytes of a piece, so many. If memory runs out, nothing is appended.
-fn append(held: &mut Vec<u8>, piece: &[u8; ROOM], count: usize) -> Result<(), AllocError>
-    requires { count ≤ 16384 }
-    ensures ok { OnOk result (held.new.items ≡ held.old.items ++ take count piece.now) }
-    ensures err { OnErr result (held.new.items ≡ held.old.items) }
-    ensures len { vec_len held.old ≤ vec_len held.new }
-{
-    held.extend_from_slice(&piece[..count])?;
-    Ok(())
+impl<W: Sink + Patient + Spools> Sink for Outbox<W> {
+    ghost contents = { λ it. Some (bytes_of it.told.items) };
+
+    fn take(&mut self, bytes: &[u8]) -> io::Result<usize> {
+        if self.is_empty() {
+            match self.pass(bytes) {
+                Err(error) if would_wait(&error) => {}
+                result => return result,
+            }
+        }
+        self.hold(bytes)
+    }
 }

@@ -4,6 +4,7 @@
 ghost use Rattle.std.specs.Prelude.{◌≡◌, ◌≤◌, ◌<◌, ◌++◌, ◌==◌, ◌∷◌, [], take, IfOk, OnErr};
 ghost use Rattle.bh_http.specs.Transfers.{transfer_of, Logs};
 ghost use Rattle.bh_stage.specs.Records.{bytes_of, is_ended};
+ghost use Rattle.bh_stage.specs.Spools.{rest_of};
 
 use crate::spool::{Spool, Spools};
 use crate::waiting::{Patient, Shut, too_late, would_wait};
@@ -86,7 +87,8 @@ impl<W: Sink> Outlet<W> {
 impl<R: Spools> Inlet<R> {
     /// A file for bytes of this connection.
     pub fn spool(&mut self) -> io::Result<Spool>
-        ensures { self.new.given ≡ self.old.given }
+        ensures given { self.new.given ≡ self.old.given }
+        ensures rest { IfOk result (λ spool. rest_of spool ≡ []) }
     {
         self.source.spool()
     }
@@ -95,7 +97,8 @@ impl<R: Spools> Inlet<R> {
 impl<W: Spools> Outlet<W> {
     /// A file for bytes of this connection.
     pub fn spool(&mut self) -> io::Result<Spool>
-        ensures { self.new.taken ≡ self.old.taken }
+        ensures taken { self.new.taken ≡ self.old.taken }
+        ensures rest { IfOk result (λ spool. rest_of spool ≡ []) }
     {
         self.sink.spool()
     }
