@@ -12,7 +12,7 @@ use Rattle.bh_types.specs.Limits.{HostLimits, HostTuning}
 use Rattle.bh_types.specs.declared.block_digest.BlockDigest.{BlockDigest}
 use Rattle.bh_words.specs.declared.lines.ClockGiven.{ClockGiven}
 use Rattle.bh_words.specs.declared.lines.Leap.{Leap}
-use Rattle.bh_words.specs.declared.lines.SecretGiven.{SecretGiven}
+use Rattle.bh_operator.specs.Orders.{ToDo, order_told, backup_told}
 use Rattle.bh_maintenance.specs.Backups.{IsBackedUp}
 use Rattle.bh_maintenance.specs.Checks.{IsChecked}
 use Rattle.bh_maintenance.specs.Moves.{IsExported, IsImported}
@@ -25,6 +25,12 @@ use Rattle.bh_commands.specs.declared.asked.OperatorServing.{OperatorServing}
 use Rattle.bh_commands.specs.declared.asked.Serving.{Serving}
 use Rattle.bh_commands.specs.declared.asked.Work.{Work}
 use Rattle.bh_commands.specs.declared.asked.Work.TheVariants as the_work
+use Rattle.bh_words.specs.declared.lines.Line.{Line}
+use Rattle.bh_task.specs.Messages.{message_of, ordered_at}
+use Rattle.bh_task.specs.Tasks.{task_of}
+use Rattle.bh_task.specs.declared.places.Environment.{Environment}
+use Rattle.bh_task.specs.declared.line_task.Asked.{Asked}
+use Rattle.bh_task.specs.declared.line_task.Asked.TheVariants as the_order
 use Rattle.bh_task.specs.declared.line_task.HostTask.{HostTask}
 use Rattle.bh_task.specs.declared.line_task.HostTask.TheVariants as asked
 use Rattle.bh_task.specs.declared.line_task.LineTask.{LineTask}
@@ -34,8 +40,12 @@ use Rattle.bh_task.specs.declared.line_task.Maintenance.TheVariants as maintenan
 use Rattle.bh_task.specs.declared.line_task.OperatorGiven.{OperatorGiven}
 use Rattle.bh_task.specs.declared.line_task.Starts.{Starts}
 use Rattle.bh_task.specs.declared.line_task.ServeTask.{ServeTask}
+use Rattle.bh_task.specs.declared.line_task.Told.{Told}
+use Rattle.bh_task.specs.declared.line_task.Told.TheVariants as told
 use Rattle.bh_task.specs.declared.misfit.Misfit.{Misfit}
+use Rattle.bh_task.specs.declared.task.Task.{Task}
 use Rattle.bh_task.specs.declared.task.Task.TheVariants as order
+use Rattle.bh_telling.specs.Servers.{IsServerText}
 
 -- ---- work, once its secrets were read
 
@@ -62,14 +72,24 @@ pub record IsServing (path : List ℕ) (asked : ServeTask) (serving : Serving) :
   pub spool : string_bytes serving.spool ≡ spool_name path asked.spool
   pub clock_step : serving.clock_step ≡ asked.clock_step
 
-abbrev pub IsKeyFor : String Global → String Global → SecretGiven → Work → Type 0
-IsKeyFor tenant name given work =
-    (secret : String Global) × IsSecretGiven given secret × (work ≡ the_work.Command (order.Command (command.KeyAdd tenant name secret)))
+-- the task of an order, once its secret was read
+abbrev pub IsTaskFor : Asked → Task → Type 0
+IsTaskFor (the_order.Task given) task = task ≡ given
+IsTaskFor (the_order.KeyAdd tenant name given) task =
+    (secret : String Global) × IsSecretGiven given secret × (task ≡ order.Command (command.KeyAdd tenant name secret))
+
+-- what a server reads in a text, by its own clock, is the order, or what it is asked itself; of a
+-- line that was given nothing is said
+abbrev pub IsTextFor : Told → List ℕ → Type 0
+IsTextFor (told.Line line) text = Unit {0}
+IsTextFor (told.Order given) text =
+    (task : Task) × IsTaskFor given task × ((reading : ℕ) → order_told reading text ≡ Some (ToDo (ordered_at reading (message_of task))))
+IsTextFor (told.Backup to) text = backup_told text ≡ Some (string_bytes to)
+IsTextFor (told.Server it) text = IsServerText it text
 
 -- the work that is asked of the host of the file of a path
 abbrev pub IsWorkFor : List ℕ → HostTask → Work → Type 0
-IsWorkFor path (asked.Order task) work = work ≡ the_work.Command task
-IsWorkFor path (asked.KeyAdd tenant name given) work = IsKeyFor tenant name given work
+IsWorkFor path (asked.Order given) work = (task : Task) × IsTaskFor given task × (work ≡ the_work.Command task)
 IsWorkFor path (asked.Serve it) work = (serving : Serving) × IsServing path it serving × (work ≡ the_work.Serve serving)
 
 -- ---- on files with these first contents
@@ -121,9 +141,13 @@ module _ {D E M : Type 0} (g : disk.Ghosts D) (e : disk.Ghosts E) (m : disk.Ghos
   IsCarriedOut (task.Init file limits digest) printed = IsMadeIn g image limits digest printed
   IsCarriedOut (task.OnHost file tuning clock asked) printed = IsWorkedIn g image (string_bytes file.path) tuning clock asked printed
   IsCarriedOut (task.Maintain asked) printed = IsMaintained asked printed
-  IsCarriedOut (task.Tell door secret_file order) printed = Unit {0}
+  IsCarriedOut (task.Tell door secret_file it) printed = Unit {0}
 
   -- nothing is done where options don't fit together
   abbrev pub IsLineDone : {S T U : Type 0} → Result (LineTask S T U) Misfit → Printed → Type 0
   IsLineDone (Ok task) printed = IsCarriedOut task printed
   IsLineDone (Err misfit) printed = ⊥
+
+  -- a line is carried out in some environment; the program names `Wary` for each file
+  abbrev pub IsDoneSomewhere : Line → Printed → Type 0
+  IsDoneSomewhere line printed = (environment : Environment) × IsLineDone (task_of wary environment line) printed

@@ -1,6 +1,7 @@
 //! Carries out the command lines of `bucketd`.
 #![tactic(auto)]
 
+mod environment;
 mod failure;
 mod files;
 mod input;

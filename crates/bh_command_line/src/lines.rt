@@ -3,9 +3,9 @@
 ghost use Rattle.std.specs.Prelude.{IfOk};
 ghost use Rattle.sqlite_wal.specs.Files.{image_at};
 ghost use Rattle.bh_maintenance.specs.Files.{HoldsSoundHost};
-ghost use Rattle.bh_task.specs.Tasks as tasks;
-ghost use Rattle.bh_command_line.specs.Carrying.{IsMaintained, IsCarriedOut, IsLineDone, wary};
+ghost use Rattle.bh_command_line.specs.Carrying.{IsMaintained, IsCarriedOut, IsDoneSomewhere};
 
+use crate::environment::environment_of;
 use crate::failure::Failure;
 use crate::files::{back_up_in, check_in, export_in, import_in, known, make_in, work_in};
 use crate::input::answer_input;
@@ -71,8 +71,8 @@ pub fn carry_task<S: Start, T: Start, U: Start>(
         LineTask::Tell {
             door,
             secret_file,
-            order,
-        } => tell(rt, &door, secret_file, order),
+            told,
+        } => tell(rt, &door, secret_file, told),
     }
 }
 
@@ -82,15 +82,16 @@ pub fn carry_task<S: Start, T: Start, U: Start>(
 /// can't be opened. It has no host (`47 NotAHostFile`), or for `init` isn't empty. The clock can't
 /// be read, or is too far ahead. The event is refused.
 pub fn carry_out(rt: &HostRuntime, line: Line) -> Result<Printed, Failure>
-    ensures { IfOk result (IsLineDone ⟦<FileFrom<Wary> as Disk>⟧ ⟦<FileFrom<Wary> as Disk>⟧ ⟦<FileFrom<Wary> as Disk>⟧
-        (image_at ⟦<Wary as Start>⟧) (image_at ⟦<Wary as Start>⟧) (tasks.task_of wary line)) }
+    ensures { IfOk result (IsDoneSomewhere ⟦<FileFrom<Wary> as Disk>⟧ ⟦<FileFrom<Wary> as Disk>⟧ ⟦<FileFrom<Wary> as Disk>⟧
+        (image_at ⟦<Wary as Start>⟧) (image_at ⟦<Wary as Start>⟧) line) }
 {
     let starts = Starts {
         host: Wary,
         other: Wary,
         made: Wary,
     };
-    let task = task_of(line, starts)?;
+    let environment = environment_of(rt)?;
+    let task = task_of(line, environment, starts)?;
     let printed = carry_task(rt, task)?;
     Ok(printed)
 }

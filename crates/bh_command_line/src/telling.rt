@@ -1,10 +1,16 @@
 //! Sends an operator's line to a running server.
 
+ghost use Rattle.std.specs.Prelude.{IfOk};
+ghost use Rattle.std.specs.String.{string_bytes};
+ghost use Rattle.bh_command_line.specs.Carrying.{IsTextFor};
+
 use crate::input::secret_of;
 use crate::secrets::operator_secret;
+use crate::works::task_in;
 use bh_maintenance::fault::Fault;
 use bh_maintenance::printed::Printed;
-use bh_task::Door;
+use bh_task::{Door, Told};
+use bh_telling::{backup_text, order_text, server_text};
 use bh_words::SecretGiven;
 use std::alloc::{AllocError, Global};
 use std::io;
@@ -12,16 +18,15 @@ use std::io::{Read, Write};
 use std::net::{Ipv4Addr, TcpStream};
 use std::os::unix::net::UnixStream;
 
-/// Sends a line to an operators' door, after a file's secret if one is named, and prints the reply.
-/// It waits for the reply without a time limit. The line `-` means the first line of standard
-/// input.
+/// Sends an order to an operators' door, after a file's secret if one is named, and prints the
+/// reply. It waits for the reply without a time limit.
 pub fn tell(
     rt: &HostRuntime,
     door: &Door,
     secret_file: Option<String>,
-    order: String,
+    told: Told,
 ) -> Result<Printed, Fault> {
-    let order = order_of(rt, order)?;
+    let order = text_of(rt, told)?;
     let line = match secret_file {
         Some(path) => {
             let secret = operator_secret(rt, path.as_str())?;
@@ -36,8 +41,23 @@ pub fn tell(
     }
 }
 
-/// An order may contain a secret, so it may come from standard input, as a secret may.
-fn order_of(rt: &HostRuntime, order: String) -> Result<String, Fault> {
+/// The text of what a server is told.
+fn text_of(rt: &HostRuntime, told: Told) -> Result<String, Fault>
+    ensures { IfOk result (λ text. IsTextFor told (string_bytes text)) }
+{
+    match told {
+        Told::Line(line) => given_line(rt, line),
+        Told::Order(asked) => {
+            let task = task_in(rt, asked)?;
+            Ok(order_text(rt.alloc(), &task)?)
+        }
+        Told::Backup(to) => Ok(backup_text(rt.alloc(), to.as_str())?),
+        Told::Server(asked) => Ok(server_text(rt.alloc(), asked)?),
+    }
+}
+
+/// A line as it was given, or `-` for the first line of standard input: it may contain a secret.
+fn given_line(rt: &HostRuntime, order: String) -> Result<String, Fault> {
     if order.as_str() == "-" {
         return secret_of(rt, SecretGiven::StandardInput);
     }

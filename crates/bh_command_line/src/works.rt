@@ -3,7 +3,7 @@
 
 ghost use Rattle.std.specs.Prelude.{◌≡◌, IfOk, is_some};
 ghost use Rattle.std.specs.String.{string_bytes};
-ghost use Rattle.bh_command_line.specs.Carrying.{AreServed, IsServing, IsKeyFor, IsWorkFor, spool_name};
+ghost use Rattle.bh_command_line.specs.Carrying.{AreServed, IsServing, IsTaskFor, IsWorkFor, spool_name};
 
 use crate::input::secret_of;
 use crate::secrets::operator_secret;
@@ -11,9 +11,8 @@ use bh_commands::{OperatorServing, Serving, Work};
 use bh_connection::Manner;
 use bh_event::event::Command;
 use bh_maintenance::fault::Fault;
-use bh_task::{HostTask, OperatorGiven, ServeTask, Task};
+use bh_task::{Asked, HostTask, OperatorGiven, ServeTask, Task};
 use bh_types::names::Secret;
-use bh_words::SecretGiven;
 use std::alloc::{AllocError, Global};
 
 /// How the names of files begin that are made while a host serves: in a directory if one is named,
@@ -89,21 +88,25 @@ fn serving_of(rt: &HostRuntime, path: &str, asked: ServeTask) -> Result<Serving,
     })
 }
 
-/// Adds an access key.
-fn key_add(
-    rt: &HostRuntime,
-    tenant: String,
-    name: String,
-    secret: SecretGiven,
-) -> Result<Work, Fault>
-    ensures { IfOk result (IsKeyFor tenant name secret) }
+/// The task of an order, once its secret was read.
+pub(crate) fn task_in(rt: &HostRuntime, asked: Asked) -> Result<Task, Fault>
+    ensures { IfOk result (IsTaskFor asked) }
 {
-    let secret = secret_of(rt, secret)?;
-    Ok(Work::Command(Task::Command(Command::KeyAdd {
-        tenant,
-        name,
-        secret,
-    })))
+    match asked {
+        Asked::Task(task) => Ok(task),
+        Asked::KeyAdd {
+            tenant,
+            name,
+            secret,
+        } => {
+            let secret = secret_of(rt, secret)?;
+            Ok(Task::Command(Command::KeyAdd {
+                tenant,
+                name,
+                secret,
+            }))
+        }
+    }
 }
 
 /// The work on the host of a file, once its secrets were read.
@@ -111,12 +114,7 @@ pub(crate) fn work_of(rt: &HostRuntime, path: &str, asked: HostTask) -> Result<W
     ensures { IfOk result (IsWorkFor path.now asked) }
 {
     match asked {
-        HostTask::Order(task) => Ok(Work::Command(task)),
-        HostTask::KeyAdd {
-            tenant,
-            name,
-            secret,
-        } => key_add(rt, tenant, name, secret),
+        HostTask::Order(asked) => Ok(Work::Command(task_in(rt, asked)?)),
         HostTask::Serve(asked) => Ok(Work::Serve(serving_of(rt, path, asked)?)),
     }
 }

@@ -18,10 +18,10 @@ use Rattle.bh_host.specs.declared.reply.Caller.TheVariants.{Request, Operator}
 use Rattle.bh_connection.specs.Connections.{Ends}
 use Rattle.bh_connection.specs.declared.served.End.TheVariants.{ReadFailed}
 use Rattle.bh_connection.specs.declared.served.Served.{Served}
-use Rattle.bh_connection.specs.Operators.{Heard, CutOff, NotHeard, NoOrder, Obeyed, Copied, Obeys}
-use Rattle.bh_connection.specs.Visits.{Visit, OfClient, OfOperator, CameBy, AllCame, IsAdmitted, AllAdmitted, DidBy, DidFor, RanFor, event_of, told_of, event_heard, told_heard}
-use Rattle.bh_storage.specs.declared.error.Trouble.{Trouble}
-use Rattle.bh_connection.specs.Listening.{Call, calls_for, calls_of, AllOpen, HasListened, HasServedAll, IsServed, VisitedAs, WereCounted, is_shut, trouble_of}
+use Rattle.bh_connection.specs.declared.served.Visited.{Visited}
+use Rattle.bh_connection.specs.Operators.{Heard, CutOff, NotHeard, NoOrder, Obeyed, Copied, Stopping, Notes, Obeys, is_stopping}
+use Rattle.bh_connection.specs.Visits.{Visit, OfClient, OfOperator, CameBy, AllCame, IsAdmitted, AllAdmitted, DidBy, DidFor, NotedBy, NoneStops, RanFor, event_of, told_of, event_heard, told_heard, is_stop}
+use Rattle.bh_connection.specs.Listening.{Call, calls_for, calls_of, AllOpen, HasListened, HasServedAll, HasStopped, IsServed, VisitedAs, WereCounted, is_shut, trouble_of}
 use Rattle.bh_connection.proofs.EachLemmas.{ran_stays, ran_applied, ran_back, ran_with, run_alone, ran_no_request, ran_request}
 
 -- one connection more
@@ -45,6 +45,26 @@ pub open_more : (visits : List Visit) (visit : Visit) → AllOpen visits → is_
 open_more [] visit all one = (one, tt)
 open_more (v ∷ visits) visit (first, rest) one = (first, open_more visits visit rest one)
 
+pub none_more : (visits : List Visit) (visit : Visit) → NoneStops visits → is_stop visit ≡ false → NoneStops (visits ++ visit ∷ [])
+none_more [] visit all one = (one, tt)
+none_more (v ∷ visits) visit (first, rest) one = (first, none_more visits visit rest one)
+
+pub stopped_by : (visits : List Visit) (visit : Visit) → NoneStops visits → is_stop visit ≡ true → HasStopped (visits ++ visit ∷ [])
+stopped_by visits visit none is = record { before = visits; last = visit; all = refl; going = none; why = is }
+
+-- nothing fails behind the reply to a stop
+pub stop_is_open : (visit : Visit) → NotedBy visit → is_stop visit ≡ true → is_shut (trouble_of visit) ≡ false
+stop_is_open (OfClient row) noted is = absurd (false≢true is)
+stop_is_open (OfOperator row) noted is = heard row.heard noted is
+  where
+    heard : (heard : Heard) → Notes heard row.served.trouble → is_stopping heard ≡ true → is_shut row.served.trouble ≡ false
+    heard CutOff noted is = absurd (false≢true is)
+    heard NotHeard noted is = absurd (false≢true is)
+    heard NoOrder noted is = absurd (false≢true is)
+    heard (Obeyed event told) noted is = absurd (false≢true is)
+    heard (Copied to reply) noted is = absurd (false≢true is)
+    heard Stopping noted is = ap is_shut noted
+
 -- ---- runs
 
 module _ {H C : Type 0} (IsIntact IsOpen : H → Type 0) (seen : H → Seen) (left : H → Tables → Type 0) (shows : C → Tables → Type 0) where
@@ -58,6 +78,7 @@ module _ {H C : Type 0} (IsIntact IsOpen : H → Type 0) (seen : H → Seen) (le
   ran_heard events tolds (Obeyed event told) old mid new intact ran did = ran_applied IsIntact IsOpen seen left events tolds event told old mid new intact ran did
   ran_heard events tolds (Copied to reply) old mid new intact ran did =
       ran_stays IsIntact IsOpen seen left events tolds old new new (ran_back IsIntact IsOpen seen left events tolds old mid new intact ran did.stays) refl
+  ran_heard events tolds Stopping old mid new intact ran same = ran_stays IsIntact IsOpen seen left events tolds old mid new ran same
 
   -- a run, and a visit more
   ran_visit : (events : List Event) (tolds : List Told) (visit : Visit) (old mid new : H) → IsIntact new → RanOn IsOpen seen left events tolds old mid
@@ -85,20 +106,28 @@ module _ {H C : Type 0} (IsIntact IsOpen : H → Type 0) (seen : H → Seen) (le
       let served : Served = record { stamp = None; sent = 0; ended = ReadFailed; trouble = None } in
       (OfClient (record { before = none; after = none; served = served; outcome = None }), tt, record { same = λ intact opened. (opened, refl); survives = λ intact x leaves. leaves })
 
-  pub did_as : (secret : Option (List ℕ)) (operated : Bool) (caller : Caller) (before after : Ends) (served : Served) (old new : H)
-      → (caller ≡ Operator → operated ≡ true) → VisitedAs IsIntact IsOpen seen left shows secret caller before after served old new → DidFor IsIntact IsOpen seen left shows operated old new
-  did_as secret operated Request before after served old new admitted came =
-      (OfClient (record { before = before; after = after; served = served; outcome = came.outcome }), tt, came.did)
-  did_as secret operated Operator before after served old new admitted came =
-      (OfOperator (record { before = before; after = after; served = served; heard = came.heard }), admitted refl, came.obeys)
+  pub did_as : (secret : Option (List ℕ)) (operated : Bool) (caller : Caller) (before after : Ends) (visited : Visited) (old new : H)
+      → (caller ≡ Operator → operated ≡ true) → VisitedAs IsIntact IsOpen seen left shows secret caller before after visited old new → DidFor IsIntact IsOpen seen left shows operated old new
+  did_as secret operated Request before after visited old new admitted (came, going) =
+      (OfClient (record { before = before; after = after; served = visited.served; outcome = came.outcome }), tt, came.did)
+  did_as secret operated Operator before after visited old new admitted came =
+      (OfOperator (record { before = before; after = after; served = visited.served; heard = came.heard }), admitted refl, came.obeys)
 
-  pub visited_as : (secret : Option (List ℕ)) (operated : Bool) (a b : Option (List Call)) (caller : Caller) (before after : Ends) (served : Served) (old new : H)
-      → (caller ≡ Operator → operated ≡ true) → Logs a b (calls_for caller before after served) → VisitedAs IsIntact IsOpen seen left shows secret caller before after served old new
-      → (visit : Visit) × IsServed IsIntact IsOpen seen left shows secret operated a b old new visit × (trouble_of visit ≡ served.trouble)
-  visited_as secret operated a b Request before after served old new admitted calls came =
-      (OfClient (record { before = before; after = after; served = served; outcome = came.outcome }), record { admitted = tt; calls = calls; came = came.came; did = came.did }, refl)
-  visited_as secret operated a b Operator before after served old new admitted calls came =
-      (OfOperator (record { before = before; after = after; served = served; heard = came.heard }), record { admitted = admitted refl; calls = calls; came = came.hears; did = came.obeys }, refl)
+  pub visited_as : (secret : Option (List ℕ)) (operated : Bool) (a b : Option (List Call)) (caller : Caller) (before after : Ends) (visited : Visited) (old new : H)
+      → (caller ≡ Operator → operated ≡ true) → Logs a b (calls_for caller before after visited.served) → VisitedAs IsIntact IsOpen seen left shows secret caller before after visited old new
+      → (visit : Visit) × IsServed IsIntact IsOpen seen left shows secret operated a b old new visit × (trouble_of visit ≡ visited.served.trouble) × (is_stop visit ≡ visited.stops)
+  visited_as secret operated a b Request before after visited old new admitted calls (came, going) = (
+    OfClient (record { before = before; after = after; served = visited.served; outcome = came.outcome }),
+    record { admitted = tt; calls = calls; came = came.came; did = came.did; noted = tt },
+    refl,
+    sym going,
+  )
+  visited_as secret operated a b Operator before after visited old new admitted calls came = (
+    OfOperator (record { before = before; after = after; served = visited.served; heard = came.heard }),
+    record { admitted = admitted refl; calls = calls; came = came.hears; did = came.obeys; noted = came.notes },
+    refl,
+    sym came.told,
+  )
 
   -- ---- and what each tenant is told in them
 
@@ -134,12 +163,9 @@ module _ {H : Type 0} (IsIntact IsOpen : H → Type 0) (seen : H → Seen) (left
   pub counted_of : {X E : Type 0} (operated : Bool) (lost : H → Bool) (before after : Option (List Call)) (count : ℕ) (result : Result X E) (old new : H)
       → HasListened IsIntact IsOpen seen left secret operated lost before after count result old new → WereCounted IsIntact IsOpen seen left secret operated count result old new
   counted_of operated lost before after count (Ok x) old new (visits, served, admitted, told) = (visits, served, admitted, told.0)
-  counted_of operated lost before after count (Err e) old new (visits, served, admitted, told) = (
+  counted_of operated lost before after count (Err e) old new (visits, served, admitted, (none, told)) = (
     visits,
     served,
     admitted,
-    elim told [
-      | inl failed ↦ (let few = failed.0 in omega (arith, few))
-      | inr ended ↦ ended.1
-    ],
+    (elim told [ inl failed ↦ (let few = failed.0 in omega (arith, few)) | inr ended ↦ ended.1 ], none),
   )

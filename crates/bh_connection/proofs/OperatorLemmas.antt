@@ -15,10 +15,10 @@ use Rattle.bh_host.specs.declared.reply.Caller.TheVariants.{Operator}
 use Rattle.bh_http.specs.Transfers.{Transfer, Moved, Failed, Logs, MovesThen, Gives, Takes}
 use Rattle.bh_http.proofs.TransferLemmas.{logs_nothing, logs_then}
 use Rattle.bh_operator.specs.Lines.{TookPart}
-use Rattle.bh_operator.specs.Orders.{ToDo, ToCopy, TookOrder}
+use Rattle.bh_operator.specs.Orders.{ToDo, ToCopy, ToStop, TookOrder}
 use Rattle.bh_connection.specs.Backups.{IsBackedUp}
 use Rattle.bh_connection.specs.Connections.{Ends, EndsAs, IsApplied}
-use Rattle.bh_connection.specs.Operators.{bad_line, line_text, CutOff, NotHeard, NoOrder, Obeyed, Copied, IsReplied, WasOrdered}
+use Rattle.bh_connection.specs.Operators.{bad_line, line_text, stop_text, CutOff, NotHeard, NoOrder, Obeyed, Copied, Stopping, IsReplied, WasOrdered}
 use Rattle.bh_connection.specs.declared.served.End.TheVariants.{ReadFailed}
 use Rattle.bh_connection.specs.declared.served.Served.{Served}
 
@@ -68,14 +68,14 @@ gives_as a b taken was failed is given = let P : Bool → Type 0 = λ f. Gives a
 
 module _ {H C : Type 0} (IsIntact IsOpen : H → Type 0) (seen : H → Seen) (left : H → Tables → Type 0) (shows : C → Tables → Type 0) (secret : Option (List ℕ)) where
   -- an order was applied
-  pub obeyed : (before after : Ends) (served : Served) (taken reply : List ℕ) (event : Event) (stamp : Option ℕ) (old new : H)
+  pub obeyed : (before after : Ends) (served : Served) (stops : Bool) (taken reply : List ℕ) (event : Event) (stamp : Option ℕ) (old new : H)
       → TookOrder secret before.reading before.left after.left taken (Some (ToDo event)) → Gives before.gave after.gave taken false → after.reader_failed ≡ false
       → IsApplied IsIntact IsOpen seen left event (stamp, reply) old new
       → served.stamp ≡ stamp → Appends before.held after.held (take served.sent (line_text reply))
       → Takes before.took after.took (take served.sent (line_text reply)) after.writer_failed
       → EndsAs served.ended served.sent (line_text reply) after.writer_failed → is_some served.trouble ≡ is_wanting event.reading stamp
-      → WasOrdered IsIntact IsOpen seen left shows secret before after served old new
-  obeyed before after served taken reply event stamp old new took gave going did is out took_out ended noted = record {
+      → stops ≡ false → WasOrdered IsIntact IsOpen seen left shows secret before after served stops old new
+  obeyed before after served stops taken reply event stamp old new took gave going did is out took_out ended noted flag = record {
     heard = Obeyed event (stamp, reply);
     hears = record {
       taken = taken;
@@ -83,18 +83,19 @@ module _ {H C : Type 0} (IsIntact IsOpen : H → Type 0) (seen : H → Seen) (le
       is = took.is;
     };
     notes = noted;
+    told = flag;
     obeys = did;
   }
 
   -- a copy was ordered
-  pub copied : (before after : Ends) (served : Served) (taken reply to : List ℕ) (old new : H)
+  pub copied : (before after : Ends) (served : Served) (stops : Bool) (taken reply to : List ℕ) (old new : H)
       → TookOrder secret before.reading before.left after.left taken (Some (ToCopy to)) → Gives before.gave after.gave taken false → after.reader_failed ≡ false
       → IsBackedUp IsIntact IsOpen seen left shows reply old new
       → served.stamp ≡ None → Appends before.held after.held (take served.sent (line_text reply))
       → Takes before.took after.took (take served.sent (line_text reply)) after.writer_failed
       → EndsAs served.ended served.sent (line_text reply) after.writer_failed → served.trouble ≡ None
-      → WasOrdered IsIntact IsOpen seen left shows secret before after served old new
-  copied before after served taken reply to old new took gave going did is out took_out ended noted = record {
+      → stops ≡ false → WasOrdered IsIntact IsOpen seen left shows secret before after served stops old new
+  copied before after served stops taken reply to old new took gave going did is out took_out ended noted flag = record {
     heard = Copied to reply;
     hears = record {
       taken = taken;
@@ -102,41 +103,61 @@ module _ {H C : Type 0} (IsIntact IsOpen : H → Type 0) (seen : H → Seen) (le
       is = took.is;
     };
     notes = noted;
+    told = flag;
     obeys = did;
   }
 
+  -- a stop was ordered
+  pub stopping : (before after : Ends) (served : Served) (stops : Bool) (taken : List ℕ) (old new : H)
+      → TookOrder secret before.reading before.left after.left taken (Some ToStop) → Gives before.gave after.gave taken false → after.reader_failed ≡ false → new ≡ old
+      → served.stamp ≡ None → Appends before.held after.held (take served.sent (line_text stop_text))
+      → Takes before.took after.took (take served.sent (line_text stop_text)) after.writer_failed
+      → EndsAs served.ended served.sent (line_text stop_text) after.writer_failed → served.trouble ≡ None
+      → stops ≡ true → WasOrdered IsIntact IsOpen seen left shows secret before after served stops old new
+  stopping before after served stops taken old new took gave going same is out took_out ended noted flag = record {
+    heard = Stopping;
+    hears = record {
+      taken = taken;
+      replied = record { consumed = took.consumed; short = took.short; stamp = is; out = out; ended = ended; gave = gave; took = took_out; reader = going };
+      is = took.is;
+    };
+    notes = noted;
+    told = flag;
+    obeys = same;
+  }
+
   -- nothing was ordered
-  pub not_ordered : (before after : Ends) (served : Served) (taken reply : List ℕ) (old new : H)
+  pub not_ordered : (before after : Ends) (served : Served) (stops : Bool) (taken reply : List ℕ) (old new : H)
       → TookOrder secret before.reading before.left after.left taken None → Gives before.gave after.gave taken false → after.reader_failed ≡ false → new ≡ old → reply ≡ bad_line
       → served.stamp ≡ None → Appends before.held after.held (take served.sent (line_text reply))
       → Takes before.took after.took (take served.sent (line_text reply)) after.writer_failed
       → EndsAs served.ended served.sent (line_text reply) after.writer_failed → served.trouble ≡ None
-      → WasOrdered IsIntact IsOpen seen left shows secret before after served old new
-  not_ordered before after served taken reply old new took gave going same text is out took_out ended noted =
+      → stops ≡ false → WasOrdered IsIntact IsOpen seen left shows secret before after served stops old new
+  not_ordered before after served stops taken reply old new took gave going same text is out took_out ended noted flag =
       let P : List ℕ → Type 0 = λ r. IsReplied before after served taken (None, r) in
       let replied : P reply = record { consumed = took.consumed; short = took.short; stamp = is; out = out; ended = ended; gave = gave; took = took_out; reader = going } in
-      record { heard = NoOrder; hears = record { taken = taken; replied = subst P text replied; is = took.is }; notes = noted; obeys = same }
+      record { heard = NoOrder; hears = record { taken = taken; replied = subst P text replied; is = took.is }; notes = noted; told = flag; obeys = same }
 
   -- memory was wanting before it was known what is ordered
-  pub not_heard : (before after : Ends) (served : Served) (taken reply : List ℕ) (old new : H)
+  pub not_heard : (before after : Ends) (served : Served) (stops : Bool) (taken reply : List ℕ) (old new : H)
       → TookPart before.left after.left taken → Gives before.gave after.gave taken after.reader_failed → after.reader_failed ≡ false → new ≡ old → reply ≡ wanting_text Operator
       → served.stamp ≡ None → Appends before.held after.held (take served.sent (line_text reply))
       → Takes before.took after.took (take served.sent (line_text reply)) after.writer_failed
       → EndsAs served.ended served.sent (line_text reply) after.writer_failed → served.trouble ≡ Some Memory
-      → WasOrdered IsIntact IsOpen seen left shows secret before after served old new
-  not_heard before after served taken reply old new took given going same text is out took_out ended noted =
+      → stops ≡ false → WasOrdered IsIntact IsOpen seen left shows secret before after served stops old new
+  not_heard before after served stops taken reply old new took given going same text is out took_out ended noted flag =
       let gave : Gives before.gave after.gave taken false = gives_as before.gave after.gave taken after.reader_failed false going given in
       let P : List ℕ → Type 0 = λ r. IsReplied before after served taken (None, r) in
       let replied : P reply = record { consumed = took.consumed; short = took.short; stamp = is; out = out; ended = ended; gave = gave; took = took_out; reader = going } in
-      record { heard = NotHeard; hears = (taken, subst P text replied); notes = noted; obeys = same }
+      record { heard = NotHeard; hears = (taken, subst P text replied); notes = noted; told = flag; obeys = same }
 
   -- the reader failed
-  pub cut_off : (before after : Ends) (served : Served) (taken : List ℕ) (old new : H)
+  pub cut_off : (before after : Ends) (served : Served) (stops : Bool) (taken : List ℕ) (old new : H)
       → TookPart before.left after.left taken → Gives before.gave after.gave taken after.reader_failed → after.reader_failed ≡ true → after.writer_failed ≡ false
       → after.held ≡ before.held → after.took ≡ before.took → new ≡ old
       → served.ended ≡ ReadFailed → served.stamp ≡ None → served.sent ≡ 0 → served.trouble ≡ None
-      → WasOrdered IsIntact IsOpen seen left shows secret before after served old new
-  cut_off before after served taken old new took given failed going kept untaken same ended stamp sent noted =
+      → stops ≡ false → WasOrdered IsIntact IsOpen seen left shows secret before after served stops old new
+  cut_off before after served stops taken old new took given failed going kept untaken same ended stamp sent noted flag =
       let gave : Gives before.gave after.gave taken true = gives_as before.gave after.gave taken after.reader_failed true failed given in
       let K : Option (List ℕ) → Type 0 = λ h. Keeps before.held h in
       record {
@@ -155,6 +176,7 @@ module _ {H C : Type 0} (IsIntact IsOpen : H → Type 0) (seen : H → Seen) (le
           writer = going;
         };
         notes = noted;
+        told = flag;
         obeys = same;
       }
     where

@@ -13,9 +13,11 @@ use Rattle.bh_host.specs.declared.reply.Caller.TheVariants.{Request, Operator}
 use Rattle.bh_http.specs.Transfers.{Logs}
 use Rattle.bh_connection.specs.Connections.{Ends, CameTo}
 use Rattle.bh_connection.specs.Operators.{WasOrdered}
-use Rattle.bh_connection.specs.Visits.{Visit, OfClient, OfOperator, CameBy, AllCame, IsAdmitted, AllAdmitted, DidBy, event_of, told_of}
+use Rattle.bh_connection.specs.Visits.{Visit, OfClient, OfOperator, CameBy, AllCame, IsAdmitted, AllAdmitted, DidBy, NotedBy}
+use Rattle.bh_connection.specs.Visits.{NoneStops, is_stop, event_of, told_of}
 use Rattle.bh_connection.specs.declared.listener.Ports.{Ports}
 use Rattle.bh_connection.specs.declared.served.Served.{Served}
+use Rattle.bh_connection.specs.declared.served.Visited.{Visited}
 
 -- ---- the calls of an acceptor, with their results
 
@@ -67,14 +69,32 @@ pub record HasEnded {H : Type 0} (lost : H → Bool) (new : H) (visits : List Vi
   pub going : AllOpen before
   pub why : (lost new ≡ true) ⊎ (is_shut (trouble_of last) ≡ true)
 
+-- ---- a stop
+
+-- serving ended with the last of these, an operator's line whose order is to stop. None before it
+-- was such a line
+pub record HasStopped (visits : List Visit) : Type 0 where
+  pub before : List Visit
+  pub last : Visit
+  pub all : visits ≡ before ++ last ∷ []
+  pub going : NoneStops before
+  pub why : is_stop last ≡ true
+
+-- these are `count`, and none is a stop; or they are at most as many, and the last one is the first
+-- stop
+abbrev pub WereEnough : ℕ → List Visit → Type 0
+WereEnough count visits = ((length visits ≡ count) × NoneStops visits) ⊎ ((length visits ≤ count) × HasStopped visits)
+
 -- ---- one connection
 
 module _ {H C : Type 0} (IsIntact IsOpen : H → Type 0) (seen : H → Seen) (left : H → Tables → Type 0) (shows : C → Tables → Type 0)
     (secret : Option (List ℕ)) where
-  -- one was served by its caller's kind
-  abbrev pub VisitedAs : Caller → Ends → Ends → Served → H → H → Type 0
-  VisitedAs Request before after served old new = CameTo IsIntact IsOpen seen left before after served old new
-  VisitedAs Operator before after served old new = WasOrdered IsIntact IsOpen seen left shows secret before after served old new
+  -- one was served by its caller's kind; a client's is no stop
+  abbrev pub VisitedAs : Caller → Ends → Ends → Visited → H → H → Type 0
+  VisitedAs Request before after visited old new =
+      CameTo IsIntact IsOpen seen left before after visited.served old new × (visited.stops ≡ false)
+  VisitedAs Operator before after visited old new =
+      WasOrdered IsIntact IsOpen seen left shows secret before after visited.served visited.stops old new
 
   -- one was accepted and served
   pub record IsServed (operated : Bool) (before after : Option (List Call)) (old new : H) (visit : Visit) : Type 0 where
@@ -82,6 +102,7 @@ module _ {H C : Type 0} (IsIntact IsOpen : H → Type 0) (seen : H → Seen) (le
     pub calls : Logs before after (calls_of visit)
     pub came : CameBy secret (seen old).limits visit
     pub did : DidBy IsIntact IsOpen seen left shows visit old new
+    pub noted : NotedBy visit
 
   -- there are no calls after a fault
   pub record HasFailed (before after : Option (List Call)) (old new : H) (fault : List Call) : Type 0 where
@@ -89,10 +110,12 @@ module _ {H C : Type 0} (IsIntact IsOpen : H → Type 0) (seen : H → Seen) (le
     pub calls : Logs before after fault
     pub same : new ≡ old
 
-  -- one came and was served, with that failure behind its reply, if any; or there was a fault
-  abbrev pub ComesOne : {E : Type 0} → Bool → Option (List Call) → Option (List Call) → Result (Option Trouble) E → H → H → Type 0
+  -- one came and was served, with that failure behind its reply, if any, and was a stop or not; or
+  -- there was a fault
+  abbrev pub ComesOne : {E : Type 0} → Bool → Option (List Call) → Option (List Call) → Result Visited E → H → H → Type 0
   ComesOne operated before after result old new =
-      MatchResult result (λ trouble. (visit : Visit) × IsServed operated before after old new visit × (trouble_of visit ≡ trouble))
+      MatchResult result (λ visited. (visit : Visit) × IsServed operated before after old new visit
+      × (trouble_of visit ≡ visited.served.trouble) × (is_stop visit ≡ visited.stops))
       (λ _. (fault : List Call) × HasFailed before after old new fault)
 
 -- ---- connections in turn
@@ -108,22 +131,22 @@ module _ {H : Type 0} (IsIntact IsOpen : H → Type 0) (seen : H → Seen) (left
   abbrev pub WasVisited : H → H → Type 0
   WasVisited old new = (visits : List Visit) × HasServedAll visits old new
 
-  -- `count` connections were served, or at most as many if serving ended with an error. All are
-  -- clients' unless operators connect too
+  -- `count` connections were served, or at most as many if serving ended with a stop or an error.
+  -- With an error none was a stop. All are clients' unless operators connect too
   abbrev pub WereCounted : {X E : Type 0} → Bool → ℕ → Result X E → H → H → Type 0
   WereCounted operated count result old new = (visits : List Visit) × HasServedAll visits old new × AllAdmitted operated visits
-      × MatchResult result (λ _. length visits ≡ count) (λ _. length visits ≤ count)
+      × MatchResult result (λ _. WereEnough count visits) (λ _. (length visits ≤ count) × NoneStops visits)
 
-  -- `count` connections were served, each that was accepted; or fewer, and then a fault ended it,
-  -- or a backup over which the host was lost, or the first reply for which the store was found
-  -- shut. No other call was made
+  -- `count` connections were served, each that was accepted, or the last one was the first stop; or
+  -- fewer, and then a fault ended it, or a backup over which the host was lost, or the first reply
+  -- for which the store was found shut, and none was a stop. No other call was made
   abbrev pub HasListened : {X E : Type 0} → Bool → (H → Bool) → Option (List Call) → Option (List Call) → ℕ → Result X E → H → H → Type 0
   HasListened operated lost before after count result old new =
       (visits : List Visit) × HasServedAll visits old new × AllAdmitted operated visits × MatchResult result
-      (λ _. (length visits ≡ count) × AllOpen visits × Logs before after (flat_map calls_of visits))
-      (λ _. ((length visits < count) × AllOpen visits
+      (λ _. WereEnough count visits × AllOpen visits × Logs before after (flat_map calls_of visits))
+      (λ _. NoneStops visits × (((length visits < count) × AllOpen visits
       × ((fault : List Call) × IsFault fault × Logs before after (flat_map calls_of visits ++ fault)))
-      ⊎ (HasEnded lost new visits × (length visits ≤ count) × Logs before after (flat_map calls_of visits)))
+      ⊎ (HasEnded lost new visits × (length visits ≤ count) × Logs before after (flat_map calls_of visits))))
 
   -- a host that was lost was served up to some visit
   abbrev pub WasLost : {C : Type 0} → (C → Tables → Type 0) → (H → Bool) → H → H → Type 0

@@ -1,5 +1,5 @@
 -- The results of an operator's connection, and its effect on the host.
-use Rattle.std.specs.Prelude.{◌≡◌, ◌≤◌, ℕ, true, false, List, [], ◌∷◌, ◌++◌, codes, is_some, length, take, Option, Some, None}
+use Rattle.std.specs.Prelude.{◌≡◌, ◌≤◌, ℕ, Bool, true, false, List, [], ◌∷◌, ◌++◌, codes, is_some, length, take, Option, Some, None}
 use Rattle.std.specs.Io.KnownBytes.{Appends, Consumes, Keeps}
 use Rattle.bh_event.specs.Events.{Arrival as Event}
 use Rattle.bh_tables.specs.Typed.{Tables}
@@ -12,7 +12,7 @@ use Rattle.bh_host.specs.Runs.{Told}
 use Rattle.bh_host.specs.declared.reply.Caller.TheVariants.{Operator}
 use Rattle.bh_link.specs.Taking.{all_of}
 use Rattle.bh_http.specs.Transfers.{Logs, Gives, Takes}
-use Rattle.bh_operator.specs.Orders.{Order, ToDo, ToCopy, ordered_by}
+use Rattle.bh_operator.specs.Orders.{Order, ToDo, ToCopy, ToStop, ordered_by}
 use Rattle.bh_connection.specs.Backups.{IsBackedUp}
 use Rattle.bh_connection.specs.Connections.{Ends, EndsAs, IsApplied}
 use Rattle.bh_connection.specs.declared.served.End.TheVariants.{ReadFailed}
@@ -22,19 +22,33 @@ use Rattle.bh_connection.specs.declared.served.Served.{Served}
 abbrev pub bad_line : List ℕ
 bad_line = codes "bad line"
 
+-- the reply to a stop
+abbrev pub stop_text : List ℕ
+stop_text = codes "stop"
+
 -- a reply is sent with a line feed
 abbrev pub line_text : List ℕ → List ℕ
 line_text reply = reply ++ 10 ∷ []
 
 -- the result of an operator's line: its reader failed, or memory ran out before its order was
--- known. Otherwise it has no order, its order was applied, or it orders a copy under this name,
--- with this reply
+-- known. Otherwise it has no order, its order was applied, it orders a copy under this name, with
+-- this reply, or it orders a stop
 pub data Heard : Type 0 where
   CutOff : Heard
   NotHeard : Heard
   NoOrder : Heard
   Obeyed : (event : Event) (told : Told) → Heard
   Copied : (to : List ℕ) (reply : List ℕ) → Heard
+  Stopping : Heard
+
+-- whether serving is to end
+abbrev pub is_stopping : Heard → Bool
+is_stopping CutOff = false
+is_stopping NotHeard = false
+is_stopping NoOrder = false
+is_stopping (Obeyed event told) = false
+is_stopping (Copied to reply) = false
+is_stopping Stopping = true
 
 -- ---- its ends
 
@@ -77,6 +91,7 @@ Hears secret before after served NotHeard = (taken : List ℕ) × IsReplied befo
 Hears secret before after served NoOrder = IsHeard secret before after served None (None, bad_line)
 Hears secret before after served (Obeyed event told) = IsHeard secret before after served (Some (ToDo event)) told
 Hears secret before after served (Copied to reply) = IsHeard secret before after served (Some (ToCopy to)) (None, reply)
+Hears secret before after served Stopping = IsHeard secret before after served (Some ToStop) (None, stop_text)
 
 -- ---- the failure that is noted for the log
 
@@ -88,6 +103,7 @@ Notes NotHeard trouble = trouble ≡ Some Memory
 Notes NoOrder trouble = trouble ≡ None
 Notes (Obeyed event told) trouble = is_some trouble ≡ is_wanting event.reading told.0
 Notes (Copied to reply) trouble = trouble ≡ None
+Notes Stopping trouble = trouble ≡ None
 
 -- ---- its host
 
@@ -99,10 +115,14 @@ Obeys IsIntact IsOpen seen left shows NotHeard old new = new ≡ old
 Obeys IsIntact IsOpen seen left shows NoOrder old new = new ≡ old
 Obeys IsIntact IsOpen seen left shows (Obeyed event told) old new = IsApplied IsIntact IsOpen seen left event told old new
 Obeys IsIntact IsOpen seen left shows (Copied to reply) old new = IsBackedUp IsIntact IsOpen seen left shows reply old new
+Obeys IsIntact IsOpen seen left shows Stopping old new = new ≡ old
 
+-- `stops` tells whether serving is to end
 pub record WasOrdered {H C : Type 0} (IsIntact IsOpen : H → Type 0) (seen : H → Seen) (left : H → Tables → Type 0)
-    (shows : C → Tables → Type 0) (secret : Option (List ℕ)) (before after : Ends) (served : Served) (old new : H) : Type 0 where
+    (shows : C → Tables → Type 0) (secret : Option (List ℕ)) (before after : Ends) (served : Served) (stops : Bool)
+    (old new : H) : Type 0 where
   pub heard : Heard
   pub hears : Hears secret before after served heard
   pub notes : Notes heard served.trouble
+  pub told : stops ≡ is_stopping heard
   pub obeys : Obeys IsIntact IsOpen seen left shows heard old new

@@ -8,7 +8,7 @@ use Rattle.bh_host.specs.Runs.{Told, RanOn}
 use Rattle.bh_connection.specs.Connections.{Ends, Came, Did}
 use Rattle.bh_connection.specs.Each as each
 use Rattle.bh_connection.specs.Each.{Row, RanSome}
-use Rattle.bh_connection.specs.Operators.{Heard, CutOff, NotHeard, NoOrder, Obeyed, Copied, Hears, Obeys}
+use Rattle.bh_connection.specs.Operators.{Heard, CutOff, NotHeard, NoOrder, Obeyed, Copied, Stopping, Hears, Notes, Obeys, is_stopping}
 use Rattle.bh_connection.specs.declared.doors.Operators.{Operators}
 use Rattle.bh_connection.specs.declared.served.Served.{Served}
 
@@ -23,13 +23,14 @@ pub data Visit : Type 0 where
   OfClient : (row : Row) → Visit
   OfOperator : (row : LineRow) → Visit
 
--- the event of the line, and its reply; a copy is not an event
+-- the event of the line, and its reply; a copy is not an event, nor is a stop
 abbrev pub event_heard : Heard → Option Event
 event_heard CutOff = None
 event_heard NotHeard = None
 event_heard NoOrder = None
 event_heard (Obeyed event told) = Some event
 event_heard (Copied to reply) = None
+event_heard Stopping = None
 
 abbrev pub told_heard : Heard → Option Told
 told_heard CutOff = None
@@ -37,6 +38,7 @@ told_heard NotHeard = None
 told_heard NoOrder = None
 told_heard (Obeyed event told) = Some told
 told_heard (Copied to reply) = None
+told_heard Stopping = None
 
 abbrev pub event_of : Visit → Option Event
 event_of (OfClient row) = each.event_of row
@@ -54,6 +56,21 @@ CameBy secret limits (OfOperator row) = Hears secret row.before row.after row.se
 abbrev pub AllCame : Option (List ℕ) → HostLimits → List Visit → Type 0
 AllCame secret limits [] = Unit {0}
 AllCame secret limits (visit ∷ visits) = CameBy secret limits visit × AllCame secret limits visits
+
+-- the failure that is noted of an operator's line
+abbrev pub NotedBy : Visit → Type 0
+NotedBy (OfClient row) = Unit {0}
+NotedBy (OfOperator row) = Notes row.heard row.served.trouble
+
+-- an operator's line whose order is to stop
+abbrev pub is_stop : Visit → Bool
+is_stop (OfClient row) = false
+is_stop (OfOperator row) = is_stopping row.heard
+
+-- none of these is such a line
+abbrev pub NoneStops : List Visit → Type 0
+NoneStops [] = Unit {0}
+NoneStops (visit ∷ visits) = (is_stop visit ≡ false) × NoneStops visits
 
 -- the operators' secret, if there is a port for them and they have one
 abbrev pub secret_at : Option Operators → Option (List ℕ)

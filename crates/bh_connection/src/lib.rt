@@ -25,5 +25,5 @@ pub use doors::{Doors, Operators};
 pub use each::{Arrival, serve_each};
 pub use listener::{OperatorPort, Ports, serve_from, serve_listener, serve_port};
 pub use operator::serve_line;
-pub use served::{End, Served};
+pub use served::{End, Served, Visited};
 pub use sockets::Manner;

@@ -13,7 +13,7 @@ use crate::clock::Clock;
 use crate::doors::{Doors, Operators};
 use crate::each::{Arrival, serve_arrival};
 use crate::operator::serve_line;
-use crate::served::Served;
+use crate::served::Visited;
 use crate::sockets::{Manner, Sockets};
 use bh_host::Caller;
 use bh_link::ends::{Sink, Source};
@@ -170,7 +170,8 @@ pub fn serve_listener<E: Eprint + AllocGlobal, H: BackUp, C: Clock>(
 /// each accept, and each connection is closed before the next accept. A fault of an accept or of
 /// the clock ends it, and nothing is done after it. So does a backup over which the host is lost,
 /// once it was answered, and the first reply for which the store is found shut: whoever opens the
-/// host again has all that was acknowledged.
+/// host again has all that was acknowledged. An operator's stop ends it too, once it was answered,
+/// and that is no error.
 pub fn serve_from<H: BackUp, A: Acceptor>(
     alloc: Global,
     routes: &Routes,
@@ -187,11 +188,14 @@ pub fn serve_from<H: BackUp, A: Acceptor>(
         (A.operated acceptor.old) H.lost (A.calls acceptor.old) (A.calls acceptor.new) count result host.old host.new }
 {
     for served in 0..count {
-        let trouble = serve_next(alloc, routes, host, acceptor, secret)?;
+        let visited = serve_next(alloc, routes, host, acceptor, secret)?;
+        if visited.stops {
+            return Ok(());
+        }
         if host.is_lost() {
             return Err(io::Error::new(ErrorKind::Other, LOST));
         }
-        if is_shut(trouble) {
+        if is_shut(visited.served.trouble) {
             return Err(io::Error::new(ErrorKind::Other, SHUT));
         }
     }
@@ -205,15 +209,14 @@ fn is_shut(trouble: Option<Trouble>) -> bool
     matches!(trouble, Some(Trouble::StoreRefused(ErrorCode::Closed)))
 }
 
-/// Serves the next connection of an acceptor. Returns the failure behind its reply, if memory or
-/// the store failed.
+/// Serves the next connection of an acceptor.
 fn serve_next<H: BackUp, A: Acceptor>(
     alloc: Global,
     routes: &Routes,
     host: &mut H,
     acceptor: &mut A,
     secret: Option<&[u8]>,
-) -> io::Result<Option<Trouble>>
+) -> io::Result<Visited>
     requires { Clean H.IsIntact H.IsOpen host.old → IsAtRest H.IsSoundStore (H.seen host.old) }
     ensures stays { StaysAtRest H.IsIntact H.IsOpen H.IsSoundStore H.seen H.left host.old host.new }
     ensures operated { A.operated acceptor.new ≡ A.operated acceptor.old }
@@ -224,10 +227,9 @@ fn serve_next<H: BackUp, A: Acceptor>(
     let caller = acceptor.accept()?;
     let reading = acceptor.seconds()?;
     let mut arrival = acceptor.open(reading);
-    let served = serve_visit(alloc, routes, host, secret, caller, &mut arrival);
-    let trouble = served.trouble;
-    acceptor.close(arrival, served);
-    Ok(trouble)
+    let visited = serve_visit(alloc, routes, host, secret, caller, &mut arrival);
+    acceptor.close(arrival, visited.served);
+    Ok(visited)
 }
 
 /// Serves one connection, as a client's or an operator's.
@@ -238,7 +240,7 @@ fn serve_visit<H: BackUp, R: Source, W: Sink>(
     secret: Option<&[u8]>,
     caller: Caller,
     arrival: &mut Arrival<R, W>,
-) -> Served
+) -> Visited
     requires rest { Clean H.IsIntact H.IsOpen host.old → IsAtRest H.IsSoundStore (H.seen host.old) }
     requires going { IsGoing arrival.old }
     ensures stays { StaysAtRest H.IsIntact H.IsOpen H.IsSoundStore H.seen H.left host.old host.new }
@@ -247,7 +249,7 @@ fn serve_visit<H: BackUp, R: Source, W: Sink>(
         (ends R.remaining R.transfers W.contents W.transfers arrival.new) result host.old host.new }
 {
     match caller {
-        Caller::Request => serve_arrival(alloc, routes, host, arrival),
+        Caller::Request => Visited::going_on(serve_arrival(alloc, routes, host, arrival)),
         Caller::Operator => {
             let reading = arrival.reading;
             serve_line(

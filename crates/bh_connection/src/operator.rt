@@ -8,7 +8,7 @@ ghost use Rattle.bh_connection.specs.Connections.{ends_of, EndsAs};
 ghost use Rattle.bh_connection.specs.Operators.{line_text, WasOrdered};
 
 use crate::backup::{BackUp, backup_reply};
-use crate::served::{End, Served};
+use crate::served::{End, Served, Visited};
 use bh_host::{Caller, Reply, apply};
 use bh_link::ends::{Sink, Source};
 use bh_link::link::Link;
@@ -22,6 +22,9 @@ use std::alloc::Global;
 /// The reply to a line without an order.
 const BAD_LINE: &[u8] = b"bad line";
 
+/// The reply to a stop.
+const STOP: &[u8] = b"stop";
+
 /// Serves one connection of an operator: reads its line, carries out its order, and writes the
 /// reply and a line feed.
 ///
@@ -29,7 +32,7 @@ const BAD_LINE: &[u8] = b"bad line";
 /// [`bh_operator::order::order_of_line`], at the reading, and must begin with the secret if there
 /// is one. A line without an order changes nothing and is answered `bad line`. An event is applied
 /// and answered as by [`apply`]. A backup is answered `backup` once the copy is complete and
-/// synced, or `fault`.
+/// synced, or `fault`. A stop is answered `stop` and changes nothing: the caller ends serving.
 pub fn serve_line<H: BackUp, R: Source, W: Sink>(
     alloc: Global,
     routes: &Routes,
@@ -38,38 +41,48 @@ pub fn serve_line<H: BackUp, R: Source, W: Sink>(
     reading: u64,
     reader: &mut Link<R>,
     writer: &mut Link<W>,
-) -> Served
+) -> Visited
     requires rest { Clean H.IsIntact H.IsOpen host.old → IsAtRest H.IsSoundStore (H.seen host.old) }
     requires reads { reader.old.failed ≡ false }
     requires writes { writer.old.failed ≡ false }
     ensures stays { StaysAtRest H.IsIntact H.IsOpen H.IsSoundStore H.seen H.left host.old host.new }
     ensures ordered { WasOrdered H.IsIntact H.IsOpen H.seen H.left H.shows (option_map (λ s. s.now) secret.entry)
         (ends_of R.remaining R.transfers W.contents W.transfers reading reader.old writer.old)
-        (ends_of R.remaining R.transfers W.contents W.transfers reading reader.new writer.new) result host.old host.new }
-    ensures untouched { result.ended ≡ End.ReadFailed → host.new ≡ host.old }
-    ensures acknowledged { IfSome result.stamp (λ _. H.IsIntact host.new
+        (ends_of R.remaining R.transfers W.contents W.transfers reading reader.new writer.new) result.served result.stops
+        host.old host.new }
+    ensures untouched { result.served.ended ≡ End.ReadFailed → host.new ≡ host.old }
+    ensures acknowledged { IfSome result.served.stamp (λ _. H.IsIntact host.new
         → (x : Tables) → H.left host.new x → x ≡ (H.seen host.new).now) }
 {
     match take_order(alloc, secret, reading, reader) {
         Ok(Some(Order::Event(event))) => {
             let told = apply(alloc, routes, host, &event);
-            answer_line(writer, told.stamp, told.reply.bytes(), told.reply.trouble())
+            Visited::going_on(answer_line(
+                writer,
+                told.stamp,
+                told.reply.bytes(),
+                told.reply.trouble(),
+            ))
         }
         Ok(Some(Order::Backup { to })) => {
             let reply = backup_reply(host, to.as_str());
-            answer_line(writer, None, reply, None)
+            Visited::going_on(answer_line(writer, None, reply, None))
         }
-        Ok(None) => answer_line(writer, None, BAD_LINE, None),
+        Ok(Some(Order::Stop)) => Visited {
+            served: answer_line(writer, None, STOP, None),
+            stops: true,
+        },
+        Ok(None) => Visited::going_on(answer_line(writer, None, BAD_LINE, None)),
         Err(TakeError::OutOfMemory) => {
             let reply = Reply::Wanting(Caller::Operator, Trouble::Memory);
-            answer_line(writer, None, reply.bytes(), reply.trouble())
+            Visited::going_on(answer_line(writer, None, reply.bytes(), reply.trouble()))
         }
-        Err(TakeError::ReadFailed) => Served {
+        Err(TakeError::ReadFailed) => Visited::going_on(Served {
             stamp: None,
             sent: 0,
             ended: End::ReadFailed,
             trouble: None,
-        },
+        }),
     }
 }
 

@@ -1,5 +1,5 @@
--- The order in an operator's line: a JSON object as in a script's line, of an order or a backup.
--- Its `at` is optional and ignored.
+-- The order in an operator's line: a JSON object as in a script's line, of an order, a backup or a
+-- stop. Its `at` is optional and ignored.
 use Rattle.std.specs.Prelude.{◌≡◌, ◌≤◌, ℕ, ◌+◌, Bool, false, ◌&&◌, is_some, unwrap_or, List, [], ◌∷◌, ◌++◌, ◌==◌, codes, length, take, drop}
 use Rattle.std.specs.Prelude.{position, Option, Some, None, option_map, option_and_then, if◌then◌else◌}
 use Rattle.std.specs.Option.{option_or}
@@ -31,14 +31,16 @@ admitted (Some secret) line = after_word secret line
 
 -- ---- the order
 
--- an event of the host, or a copy of it under a name, which is not an event
+-- an event of the host; or a copy of it under a name, or the end of serving, which are not events
 pub data Order : Type 0 where
   ToDo : (event : Arrival) → Order
   ToCopy : (to : List ℕ) → Order
+  ToStop : Order
 
 abbrev pub order_view : Given → Order
 order_view (given.Event event) = ToDo (arrival event)
 order_view (given.Backup to) = ToCopy (string_bytes to)
+order_view given.Stop = ToStop
 
 -- an object with an `at` inserted first
 abbrev pub with_at : List ℕ → Option (List ℕ)
@@ -83,8 +85,26 @@ backup_told line = option_and_then backup_in (value_in line)
 abbrev pub backup_with_at : List ℕ → Option (List ℕ)
 backup_with_at line = option_or (backup_told line) (option_and_then backup_told (with_at line))
 
+-- {"at":n,"op":"stop"}
+abbrev pub is_named_stop : List ℕ → Bool
+is_named_stop op = bytes_eq op (codes "stop")
+
+abbrev pub is_stop : Data → Bool
+is_stop d = has_members 2 d && has_at d && unwrap_or (option_map is_named_stop (text_at (codes "op") d)) false
+
+abbrev pub stop_in : Data → Option Order
+stop_in d = if is_stop d then Some ToStop else None
+
+abbrev pub stop_told : List ℕ → Option Order
+stop_told line = option_and_then stop_in (value_in line)
+
+-- a stop in a line, with its own `at` or an inserted one
+abbrev pub stop_with_at : List ℕ → Option Order
+stop_with_at line = option_or (stop_told line) (option_and_then stop_told (with_at line))
+
 abbrev pub order_told : ℕ → List ℕ → Option Order
-order_told reading line = option_or (option_map ToDo (event_told reading line)) (option_map ToCopy (backup_with_at line))
+order_told reading line =
+    option_or (option_map ToDo (event_told reading line)) (option_or (option_map ToCopy (backup_with_at line)) (stop_with_at line))
 
 -- the order in a connection's bytes, under a secret if there is one
 abbrev pub ordered_by : Option (List ℕ) → ℕ → List ℕ → Option Order

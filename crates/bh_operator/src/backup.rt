@@ -1,11 +1,10 @@
 //! The line that orders a backup.
 ghost use Rattle.std.specs.Prelude.{◌≡◌, IfOk, option_map};
-ghost use Rattle.std.specs.Option.{option_copied};
 ghost use Rattle.std.specs.String.{string_bytes};
 ghost use Rattle.serde_json.specs.View.{view};
-ghost use Rattle.bh_event.specs.Lines as event;
 ghost use Rattle.bh_operator.specs.Orders as spec;
 
+use crate::object::{has_at, has_members, text_at, value_of};
 use serde_json::Value;
 use std::alloc::{AllocError, Global};
 
@@ -13,13 +12,9 @@ use std::alloc::{AllocError, Global};
 pub(crate) fn backup_told(alloc: Global, line: &[u8]) -> Result<Option<String>, AllocError>
     ensures { IfOk result (λ to. option_map string_bytes to ≡ spec.backup_told line.now) }
 {
-    let Ok(text) = str::from_utf8(line) else {
-        return Ok(None);
-    };
-    match Value::from_str(alloc, text) {
-        Ok(document) => backup_in(alloc, &document),
-        Err(error) if error.is_memory() => Err(AllocError),
-        Err(_) => Ok(None),
+    match value_of(alloc, line)? {
+        Some(document) => backup_in(alloc, &document),
+        None => Ok(None),
     }
 }
 
@@ -40,28 +35,4 @@ fn is_backup(document: &Value) -> bool
     ensures { result ≡ spec.is_backup (view document.now) }
 {
     has_members(document, 3) && has_at(document) && text_at(document, "op") == Some("backup")
-}
-
-fn has_members(document: &Value, count: usize) -> bool
-    ensures { result ≡ event.has_members count (view document.now) }
-{
-    match document.as_object() {
-        Some(members) => members.len() == count,
-        None => false,
-    }
-}
-
-fn has_at(document: &Value) -> bool
-    ensures { result ≡ spec.has_at (view document.now) }
-{
-    match document.get("at") {
-        Some(at) => at.as_u64().is_some(),
-        None => false,
-    }
-}
-
-fn text_at<'a>(document: &'a Value, key: &str) -> Option<&'a str>
-    ensures { option_copied result ≡ event.text_at key.now (view document.now) }
-{
-    document.get(key)?.as_str()
 }

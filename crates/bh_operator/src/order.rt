@@ -10,6 +10,7 @@ ghost use Rattle.bh_operator.specs.Orders as spec;
 
 use crate::backup::backup_told;
 use crate::line::take_line;
+use crate::stop::stop_told;
 use bh_event::event::Event;
 use bh_event::line::read_line;
 use bh_link::ends::Source;
@@ -24,6 +25,8 @@ pub enum Order {
     Event(Event),
     /// A copy of the host in a new file of this name, which is not an event.
     Backup { to: String },
+    /// The end of serving, which is not an event.
+    Stop,
 }
 
 /// The `at` that is inserted into an object without one. Its value is ignored.
@@ -56,8 +59,8 @@ pub fn take_order<R: Source>(
 
 /// A line's order at a reading of the clock, in seconds since 1970; `None` if it isn't an order. If
 /// there is a secret, the line begins with it and a space. Then comes a JSON object (RFC 8259) with
-/// an `op`, as in a script's line, or the one of a backup, `{"op":"backup","to":".."}`. Its `at` is
-/// optional and ignored.
+/// an `op`, as in a script's line, or the one of a backup, `{"op":"backup","to":".."}`, or of a stop,
+/// `{"op":"stop"}`. Its `at` is optional and ignored.
 pub fn order_of_line(
     alloc: Global,
     secret: Option<&[u8]>,
@@ -82,7 +85,7 @@ fn order_told(alloc: Global, reading: u64, line: &[u8]) -> Result<Option<Order>,
     }
     match backup_with_at(alloc, line)? {
         Some(to) => Ok(Some(Order::Backup { to })),
-        None => Ok(None),
+        None => stop_with_at(alloc, line),
     }
 }
 
@@ -109,8 +112,21 @@ fn backup_with_at(alloc: Global, line: &[u8]) -> Result<Option<String>, AllocErr
     }
 }
 
+/// A stop in a line, with its own `at` or an inserted one.
+fn stop_with_at(alloc: Global, line: &[u8]) -> Result<Option<Order>, AllocError>
+    ensures { IfOk result (λ found. option_map spec.order_view found ≡ spec.stop_with_at line.now) }
+{
+    if let Some(stop) = stop_told(alloc, line)? {
+        return Ok(Some(stop));
+    }
+    match with_at(alloc, line)? {
+        Some(text) => stop_told(alloc, text.as_slice()),
+        None => Ok(None),
+    }
+}
+
 /// The text after the secret, if there is one.
-fn admitted<'a>(secret: Option<&[u8]>, line: &'a [u8]) -> Option<&'a [u8]>
+pub(crate) fn admitted<'a>(secret: Option<&[u8]>, line: &'a [u8]) -> Option<&'a [u8]>
     ensures { option_map (λ s. s.now) result ≡ spec.admitted (option_map (λ s. s.now) secret.entry) line.now }
 {
     match secret {
@@ -147,7 +163,7 @@ fn told_with_at(alloc: Global, line: &[u8]) -> Result<Option<Event>, AllocError>
 }
 
 /// A line with an `at` inserted after its first brace, if it has one.
-fn with_at(alloc: Global, line: &[u8]) -> Result<Option<Vec<u8>>, AllocError>
+pub(crate) fn with_at(alloc: Global, line: &[u8]) -> Result<Option<Vec<u8>>, AllocError>
     ensures { IfOk result (λ text. option_map vec_items text ≡ spec.with_at line.now) }
 {
     let Some(brace) = brace_in(line) else {

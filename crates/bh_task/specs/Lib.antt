@@ -1,3 +1,4 @@
 pub mod Doors
 pub mod Messages
+pub mod Places
 pub mod Tasks

@@ -1,15 +1,23 @@
 -- What a command line asks for: a line for each command.
-use Rattle.std.specs.Prelude.{ℕ, Bool, true, false, ◌||◌, Option, Some, None, Result, Ok, Err}
+use Rattle.std.specs.Prelude.{ℕ, Bool, true, false, not, ◌&&◌, is_some, if◌then◌else◌, Option, Some, None, Result, Ok, Err}
 use Rattle.std.specs.declared.alloc.Global.{Global}
 use Rattle.std.specs.declared.string.String.{String}
 use Rattle.bh_event.specs.declared.event.Command.{Command}
 use Rattle.bh_event.specs.declared.event.Command.TheVariants as command
 use Rattle.bh_types.specs.Limits.{default_tuning}
+use Rattle.bh_words.specs.Readings.{leap_of}
 use Rattle.bh_words.specs.declared.lines.ClockGiven.{ClockGiven}
+use Rattle.bh_words.specs.declared.lines.ClockTyped.{ClockTyped}
 use Rattle.bh_words.specs.declared.lines.DoorGiven.{DoorGiven}
 use Rattle.bh_words.specs.declared.lines.Line.{Line}
 use Rattle.bh_words.specs.declared.lines.Line.TheVariants as line
+use Rattle.bh_words.specs.declared.lines.OrderGiven.{OrderGiven}
+use Rattle.bh_words.specs.declared.lines.OrderGiven.TheVariants as ordered
 use Rattle.bh_words.specs.declared.lines.ServeGiven.{ServeGiven}
+use Rattle.bh_words.specs.declared.lines.ServerAsked.{ServerAsked}
+use Rattle.bh_task.specs.Places.{operators_at, place_of}
+use Rattle.bh_task.specs.declared.line_task.Asked.{Asked}
+use Rattle.bh_task.specs.declared.line_task.Asked.TheVariants.{Task, KeyAdd}
 use Rattle.bh_task.specs.declared.line_task.Door.{Door}
 use Rattle.bh_task.specs.declared.line_task.Door.TheVariants.{Port, Socket}
 use Rattle.bh_task.specs.declared.line_task.FileAt.{FileAt}
@@ -22,9 +30,12 @@ use Rattle.bh_task.specs.declared.line_task.Maintenance.TheVariants as maintenan
 use Rattle.bh_task.specs.declared.line_task.OperatorGiven.{OperatorGiven}
 use Rattle.bh_task.specs.declared.line_task.ServeTask.{ServeTask}
 use Rattle.bh_task.specs.declared.line_task.Starts.{Starts}
+use Rattle.bh_task.specs.declared.line_task.Told.TheVariants as told
+use Rattle.bh_task.specs.declared.places.Environment.{Environment}
+use Rattle.bh_task.specs.declared.places.Place.{Place}
+use Rattle.bh_task.specs.declared.places.Place.TheVariants.{File, Server}
 use Rattle.bh_task.specs.declared.misfit.Misfit.{Misfit}
-use Rattle.bh_task.specs.declared.misfit.Misfit.TheVariants.{NoDoor, TwoDoors, NoSocket, NoOperatorDoor, TwoOperatorDoors}
-use Rattle.bh_task.specs.declared.task.Task.{Task}
+use Rattle.bh_task.specs.declared.misfit.Misfit.TheVariants.{NoDoor, TwoDoors, NoSocket, NoOperatorDoor, TwoOperatorDoors, NoClock}
 use Rattle.bh_task.specs.declared.task.Task.TheVariants as order
 
 -- ---- doors
@@ -78,7 +89,35 @@ serving_of given = do
     clock_step = given.clock_step;
   })
 
+-- ---- orders
+
+abbrev pub commanded : Command → Asked
+commanded it = Task (order.Command it)
+
+-- before any secret is read
+abbrev pub asked_of : OrderGiven → Asked
+asked_of (ordered.TenantAdd tenant quota) = commanded (command.TenantAdd tenant quota)
+asked_of (ordered.Quota tenant quota) = commanded (command.Quota tenant quota)
+asked_of (ordered.KeyAdd tenant name secret) = KeyAdd tenant name secret
+asked_of (ordered.KeyRemove tenant name) = commanded (command.KeyRemove tenant name)
+asked_of (ordered.Keys tenant) = commanded (command.Keys tenant)
+asked_of (ordered.Usage tenant) = commanded (command.Usage tenant)
+asked_of ordered.Tenants = Task order.Tenants
+asked_of ordered.Report = Task order.Report
+asked_of (ordered.Sweep limit) = Task (order.Sweep limit)
+
+abbrev pub clock_of : ClockTyped → ClockGiven
+clock_of clock = record { at = clock.at; leap = leap_of clock.force clock.days }
+
+-- nothing is given of it
+abbrev pub is_free : ClockTyped → Bool
+is_free clock = not (is_some clock.at) && (not (is_some clock.days) && not clock.force)
+
 -- ---- tasks
+
+-- what a server does itself, after its secret
+abbrev pub asked_at : {S T U : Type 0} → OperatorGiven → ServerAsked → LineTask S T U
+asked_at server it = task.Tell server.door server.secret_file (told.Server it)
 
 module _ {S T U : Type 0} (starts : Starts S T U) where
   -- the host's file, and the other one that a command names
@@ -92,43 +131,44 @@ module _ {S T U : Type 0} (starts : Starts S T U) where
   abbrev pub on_host : String Global → ClockGiven → HostTask → LineTask S T U
   on_host path clock it = task.OnHost (own path) default_tuning clock it
 
-  abbrev pub ordered : String Global → ClockGiven → Task → LineTask S T U
-  ordered path clock given = on_host path clock (asked.Order given)
-
-  abbrev pub commanded : String Global → ClockGiven → Command → LineTask S T U
-  commanded path clock given = ordered path clock (order.Command given)
+  -- an order on the host of a file, by its clock, or to a server
+  abbrev pub ordered_at : ClockTyped → Asked → Place → Result (LineTask S T U) Misfit
+  ordered_at clock it (File path) = Ok (on_host path (clock_of clock) (asked.Order it))
+  ordered_at clock it (Server door secret_file) = if is_free clock then Ok (task.Tell door secret_file (told.Order it)) else Err NoClock
 
   abbrev pub maintained : Maintenance S T U → LineTask S T U
   maintained asked = task.Maintain asked
 
+  abbrev pub backed_up_at : String Global → Place → LineTask S T U
+  backed_up_at to (File path) = maintained (maintenance.Backup (own path) (other to))
+  backed_up_at to (Server door secret_file) = task.Tell door secret_file (told.Backup to)
+
   -- the task of a command line
-  abbrev pub task_of : Line → Result (LineTask S T U) Misfit
-  task_of (line.Script limits tuning digest) = Ok (task.Script limits tuning digest)
-  task_of (line.Init file limits digest) = Ok (task.Init (own file) limits digest)
-  task_of (line.TenantAdd file tenant quota clock) = Ok (commanded file clock (command.TenantAdd tenant quota))
-  task_of (line.Quota file tenant quota clock) = Ok (commanded file clock (command.Quota tenant quota))
-  task_of (line.KeyAdd file tenant name secret clock) = Ok (on_host file clock (asked.KeyAdd tenant name secret))
-  task_of (line.KeyRemove file tenant name clock) = Ok (commanded file clock (command.KeyRemove tenant name))
-  task_of (line.Keys file tenant clock) = Ok (commanded file clock (command.Keys tenant))
-  task_of (line.Usage file tenant clock) = Ok (commanded file clock (command.Usage tenant))
-  task_of (line.Tenants file clock) = Ok (ordered file clock order.Tenants)
-  task_of (line.Report file clock) = Ok (ordered file clock order.Report)
-  task_of (line.Sweep file limit clock) = Ok (ordered file clock (order.Sweep limit))
-  task_of (line.Check file) = Ok (maintained (maintenance.Check (own file)))
-  task_of (line.Backup file to) = Ok (maintained (maintenance.Backup (own file) (other to)))
-  task_of (line.Export file tenant to) = Ok (maintained (maintenance.Export (own file) tenant (other to) starts.made))
-  task_of (line.Import file given leap) = Ok (maintained (maintenance.Import (own file) (other given) leap))
-  task_of (line.Serve file leap tuning given) = do
+  abbrev pub task_of : Environment → Line → Result (LineTask S T U) Misfit
+  task_of environment (line.Script limits tuning digest) = Ok (task.Script limits tuning digest)
+  task_of environment (line.Init file limits digest) = Ok (task.Init (own file) limits digest)
+  task_of environment (line.Order given clock order) = do
+    place ← place_of given environment
+    ordered_at clock (asked_of order) place
+  task_of environment (line.Check file) = Ok (maintained (maintenance.Check (own file)))
+  task_of environment (line.Backup given to) = do
+    place ← place_of given environment
+    Ok (backed_up_at to place)
+  task_of environment (line.Export file tenant to) = Ok (maintained (maintenance.Export (own file) tenant (other to) starts.made))
+  task_of environment (line.Import file given leap) = Ok (maintained (maintenance.Import (own file) (other given) leap))
+  task_of environment (line.Serve file leap tuning given) = do
     serving ← serving_of given
     Ok (task.OnHost (own file) tuning (record { at = None; leap = leap }) (asked.Serve serving))
-  task_of (line.Tell door secret_file order) = do
+  task_of environment (line.Tell door secret_file order) = do
     met ← door_of door
-    Ok (task.Tell met secret_file order)
+    Ok (task.Tell met secret_file (told.Line order))
+  task_of environment (line.AtServer given secret_file it) = do
+    server ← operators_at given secret_file environment
+    Ok (asked_at server it)
 
 -- the lines on files whose host isn't being served
 abbrev pub is_maintenance : Line → Bool
 is_maintenance (line.Check file) = true
-is_maintenance (line.Backup file to) = true
 is_maintenance (line.Export file tenant to) = true
 is_maintenance (line.Import file given leap) = true
 is_maintenance other = false
@@ -139,22 +179,9 @@ is_of_server (line.Serve file leap tuning given) = true
 is_of_server (line.Tell door secret_file order) = true
 is_of_server other = false
 
--- the lines with a command on a tenant, but for a new key, whose secret may still have to be read
-abbrev pub is_command : Line → Bool
-is_command (line.TenantAdd file tenant quota clock) = true
-is_command (line.Quota file tenant quota clock) = true
-is_command (line.KeyRemove file tenant name clock) = true
-is_command (line.Keys file tenant clock) = true
-is_command (line.Usage file tenant clock) = true
-is_command other = false
-
--- the lines with a new key, or an order on the whole host
+-- the lines with an order, or a backup, and those of what a server alone does
 abbrev pub is_order : Line → Bool
-is_order (line.KeyAdd file tenant name secret clock) = true
-is_order (line.Tenants file clock) = true
-is_order (line.Report file clock) = true
-is_order (line.Sweep file limit clock) = true
+is_order (line.Order place clock order) = true
+is_order (line.Backup place to) = true
+is_order (line.AtServer door secret_file it) = true
 is_order other = false
-
-abbrev pub is_on_host : Line → Bool
-is_on_host line = is_order line || is_command line

@@ -6,7 +6,7 @@ ghost use Rattle.bh_task.specs.Doors.{port_in, socket_in};
 use crate::task::Task;
 use bh_types::block_digest::BlockDigest;
 use bh_types::limits::{Limits, Tuning};
-use bh_words::{ClockGiven, Leap, SecretGiven};
+use bh_words::{ClockGiven, Leap, SecretGiven, ServerAsked};
 use sqlite_disk::Start;
 
 /// A file's path, and what is supposed of its contents when it is opened.
@@ -84,17 +84,37 @@ pub struct ServeTask {
     pub operator: Option<OperatorGiven>,
 }
 
-/// Work on a host, before any secret is read.
+/// An operator's order, before any secret is read.
 #[derive(Drop)]
-pub enum HostTask {
+pub enum Asked {
     /// An operator's task.
-    Order(Task),
+    Task(Task),
     /// Adds an access key to a tenant.
     KeyAdd {
         tenant: String,
         name: String,
         secret: SecretGiven,
     },
+}
+
+/// What a server is told.
+#[derive(Drop)]
+pub enum Told {
+    /// A line as it was given; `-` means the first line of standard input.
+    Line(String),
+    /// An operator's order.
+    Order(Asked),
+    /// To copy its host to a new file.
+    Backup(String),
+    /// What it does itself, and not its host.
+    Server(ServerAsked),
+}
+
+/// Work on a host, before any secret is read.
+#[derive(Drop)]
+pub enum HostTask {
+    /// An operator's order.
+    Order(Asked),
     /// Serves connections.
     Serve(ServeTask),
 }
@@ -154,6 +174,6 @@ pub enum LineTask<S: Start, T: Start, U: Start> {
     Tell {
         door: Door,
         secret_file: Option<String>,
-        order: String,
+        told: Told,
     },
 }

@@ -2,16 +2,19 @@
 
 ghost use Rattle.std.specs.Prelude.{◌≡◌, true, Ok};
 ghost use Rattle.bh_task.specs.Tasks as spec;
-ghost use Rattle.bh_task.specs.declared.line_task.HostTask.TheVariants as the_task;
+ghost use Rattle.bh_task.specs.declared.places.Environment.{Environment};
 
 use crate::line_task::{
-    Door, FileAt, HostTask, LineTask, Maintenance, OperatorGiven, ServeTask, Starts,
+    Asked, Door, FileAt, HostTask, LineTask, Maintenance, OperatorGiven, ServeTask, Starts, Told,
 };
 use crate::misfit::Misfit;
+use crate::places::{Environment, Place, operators_at, place_of};
 use crate::task::Task;
 use bh_event::event::Command;
 use bh_types::limits::Tuning;
-use bh_words::{ClockGiven, DoorGiven, DoorsGiven, Line, SecretGiven, ServeGiven};
+use bh_words::{
+    ClockGiven, ClockTyped, DoorGiven, DoorsGiven, Line, OrderGiven, ServeGiven, ServerAsked,
+};
 use sqlite_disk::Start;
 
 /// Work on a file's host.
@@ -34,97 +37,131 @@ fn on_host<S: Start, T: Start, U: Start>(
     }
 }
 
-/// An operator's task on a file's host.
-fn ordered<S: Start, T: Start, U: Start>(
-    path: String,
-    starts: Starts<S, T, U>,
-    clock: ClockGiven,
-    task: Task,
-) -> LineTask<S, T, U>
-    ensures { result ≡ spec.ordered starts path clock task }
+/// What is asked by an order, before any secret is read.
+fn asked_of(order: OrderGiven) -> Asked
+    ensures { result ≡ spec.asked_of order }
 {
-    on_host(path, starts, clock, HostTask::Order(task))
-}
-
-/// An operator's command on a tenant of a file's host.
-fn commanded<S: Start, T: Start, U: Start>(
-    path: String,
-    starts: Starts<S, T, U>,
-    clock: ClockGiven,
-    command: Command,
-) -> LineTask<S, T, U>
-    ensures { result ≡ spec.commanded starts path clock command }
-{
-    ordered(path, starts, clock, Task::Command(command))
-}
-
-/// The task of a line with a command on a tenant, but for a new key.
-fn command_of<S: Start, T: Start, U: Start>(
-    line: Line,
-    starts: Starts<S, T, U>,
-) -> LineTask<S, T, U>
-    requires { spec.is_command line ≡ true }
-    ensures { Ok result ≡ spec.task_of starts line }
-{
-    match line {
-        Line::TenantAdd {
-            file,
-            tenant,
-            quota,
-            clock,
-        } => commanded(file, starts, clock, Command::TenantAdd { tenant, quota }),
-        Line::Quota {
-            file,
-            tenant,
-            quota,
-            clock,
-        } => commanded(file, starts, clock, Command::Quota { tenant, quota }),
-        Line::KeyRemove {
-            file,
-            tenant,
-            name,
-            clock,
-        } => commanded(file, starts, clock, Command::KeyRemove { tenant, name }),
-        Line::Keys {
-            file,
-            tenant,
-            clock,
-        } => commanded(file, starts, clock, Command::Keys { tenant }),
-        Line::Usage {
-            file,
-            tenant,
-            clock,
-        } => commanded(file, starts, clock, Command::Usage { tenant }),
-        _ => unreachable!(),
-    }
-}
-
-fn key_add(tenant: String, name: String, secret: SecretGiven) -> HostTask
-    ensures { result ≡ the_task.KeyAdd tenant name secret }
-{
-    HostTask::KeyAdd {
-        tenant,
-        name,
-        secret,
-    }
-}
-
-/// The task of a line that adds a key, or orders something of a whole host.
-fn order_of<S: Start, T: Start, U: Start>(line: Line, starts: Starts<S, T, U>) -> LineTask<S, T, U>
-    requires { spec.is_order line ≡ true }
-    ensures { Ok result ≡ spec.task_of starts line }
-{
-    match line {
-        Line::KeyAdd {
-            file,
+    match order {
+        OrderGiven::TenantAdd { tenant, quota } => commanded(Command::TenantAdd { tenant, quota }),
+        OrderGiven::Quota { tenant, quota } => commanded(Command::Quota { tenant, quota }),
+        OrderGiven::KeyAdd {
             tenant,
             name,
             secret,
+        } => Asked::KeyAdd {
+            tenant,
+            name,
+            secret,
+        },
+        OrderGiven::KeyRemove { tenant, name } => commanded(Command::KeyRemove { tenant, name }),
+        OrderGiven::Keys { tenant } => commanded(Command::Keys { tenant }),
+        OrderGiven::Usage { tenant } => commanded(Command::Usage { tenant }),
+        OrderGiven::Tenants => Asked::Task(Task::Tenants),
+        OrderGiven::Report => Asked::Task(Task::Report),
+        OrderGiven::Sweep { limit } => Asked::Task(Task::Sweep { limit }),
+    }
+}
+
+fn commanded(command: Command) -> Asked
+    ensures { result ≡ spec.commanded command }
+{
+    Asked::Task(Task::Command(command))
+}
+
+/// Whether nothing is given of a clock.
+fn is_free(clock: ClockTyped) -> bool
+    ensures { result ≡ spec.is_free clock }
+{
+    clock.at.is_none() && clock.days.is_none() && !clock.force
+}
+
+/// The task of an order at its place.
+fn ordered_at<S: Start, T: Start, U: Start>(
+    place: Place,
+    starts: Starts<S, T, U>,
+    clock: ClockTyped,
+    asked: Asked,
+) -> Result<LineTask<S, T, U>, Misfit>
+    ensures { result ≡ spec.ordered_at starts clock asked place }
+{
+    match place {
+        Place::File(path) => {
+            let given = ClockGiven {
+                at: clock.at,
+                leap: clock.leap(),
+            };
+            Ok(on_host(path, starts, given, HostTask::Order(asked)))
+        }
+        Place::Server { .. } if !is_free(clock) => Err(Misfit::NoClock),
+        Place::Server { door, secret_file } => Ok(LineTask::Tell {
+            door,
+            secret_file,
+            told: Told::Order(asked),
+        }),
+    }
+}
+
+/// The task of a backup at its place.
+fn backed_up_at<S: Start, T: Start, U: Start>(
+    place: Place,
+    starts: Starts<S, T, U>,
+    to: String,
+) -> LineTask<S, T, U>
+    ensures { result ≡ spec.backed_up_at starts to place }
+{
+    match place {
+        Place::File(path) => LineTask::Maintain(Maintenance::Backup {
+            of: at(path, starts.host),
+            to: at(to, starts.other),
+        }),
+        Place::Server { door, secret_file } => LineTask::Tell {
+            door,
+            secret_file,
+            told: Told::Backup(to),
+        },
+    }
+}
+
+/// The task of what a server does itself.
+fn asked_at<S: Start, T: Start, U: Start>(
+    server: OperatorGiven,
+    asked: ServerAsked,
+) -> LineTask<S, T, U>
+    ensures { result ≡ spec.asked_at server asked }
+{
+    LineTask::Tell {
+        door: server.door,
+        secret_file: server.secret_file,
+        told: Told::Server(asked),
+    }
+}
+
+/// The task of a line with an operator's order, or a backup, or of what a server does itself.
+fn order_task_of<S: Start, T: Start, U: Start>(
+    line: Line,
+    environment: Environment,
+    starts: Starts<S, T, U>,
+) -> Result<LineTask<S, T, U>, Misfit>
+    requires { spec.is_order line ≡ true }
+    ensures { result ≡ spec.task_of starts environment line }
+{
+    match line {
+        Line::Order {
+            place,
             clock,
-        } => on_host(file, starts, clock, key_add(tenant, name, secret)),
-        Line::Tenants { file, clock } => ordered(file, starts, clock, Task::Tenants),
-        Line::Report { file, clock } => ordered(file, starts, clock, Task::Report),
-        Line::Sweep { file, limit, clock } => ordered(file, starts, clock, Task::Sweep { limit }),
+            order,
+        } => ordered_at(
+            place_of(place, environment)?,
+            starts,
+            clock,
+            asked_of(order),
+        ),
+        Line::Backup { place, to } => Ok(backed_up_at(place_of(place, environment)?, starts, to)),
+        Line::AtServer {
+            door,
+            secret_file,
+            asked,
+        } => Ok(asked_at(operators_at(door, secret_file, environment)?, asked)),
         _ => unreachable!(),
     }
 }
@@ -141,16 +178,12 @@ fn maintenance_of<S: Start, T: Start, U: Start>(
     starts: Starts<S, T, U>,
 ) -> LineTask<S, T, U>
     requires { spec.is_maintenance line ≡ true }
-    ensures { Ok result ≡ spec.task_of starts line }
+    ensures { (environment : Environment) → Ok result ≡ spec.task_of starts environment line }
 {
     let Starts { host, other, made } = starts;
     LineTask::Maintain(match line {
         Line::Check { file } => Maintenance::Check {
             file: at(file, host),
-        },
-        Line::Backup { file, to } => Maintenance::Backup {
-            of: at(file, host),
-            to: at(to, other),
         },
         Line::Export { file, tenant, to } => Maintenance::Export {
             of: at(file, host),
@@ -239,7 +272,7 @@ fn server_task_of<S: Start, T: Start, U: Start>(
     starts: Starts<S, T, U>,
 ) -> Result<LineTask<S, T, U>, Misfit>
     requires { spec.is_of_server line ≡ true }
-    ensures { result ≡ spec.task_of starts line }
+    ensures { (environment : Environment) → result ≡ spec.task_of starts environment line }
 {
     match line {
         Line::Serve {
@@ -260,35 +293,20 @@ fn server_task_of<S: Start, T: Start, U: Start>(
         } => Ok(LineTask::Tell {
             door: door_of(door)?,
             secret_file,
-            order,
+            told: Told::Line(order),
         }),
         _ => unreachable!(),
     }
 }
 
-/// The task of a line with an operator's order on a file's host.
-fn host_task_of<S: Start, T: Start, U: Start>(
-    line: Line,
-    starts: Starts<S, T, U>,
-) -> LineTask<S, T, U>
-    requires { spec.is_on_host line ≡ true }
-    ensures { Ok result ≡ spec.task_of starts line }
-{
-    match line {
-        Line::KeyAdd { .. } | Line::Tenants { .. } | Line::Report { .. } | Line::Sweep { .. } => {
-            order_of(line, starts)
-        }
-        _ => command_of(line, starts),
-    }
-}
-
-/// What a command line asks for, with what is supposed of its files. Fails if options don't fit
-/// together.
+/// What a command line asks for in an environment, with what is supposed of its files. Fails if
+/// options don't fit together.
 pub fn task_of<S: Start, T: Start, U: Start>(
     line: Line,
+    environment: Environment,
     starts: Starts<S, T, U>,
 ) -> Result<LineTask<S, T, U>, Misfit>
-    ensures { result ≡ spec.task_of starts line }
+    ensures { result ≡ spec.task_of starts environment line }
 {
     match line {
         Line::Script {
@@ -309,10 +327,12 @@ pub fn task_of<S: Start, T: Start, U: Start>(
             limits,
             digest,
         }),
-        Line::Check { .. } | Line::Backup { .. } | Line::Export { .. } | Line::Import { .. } => {
+        Line::Check { .. } | Line::Export { .. } | Line::Import { .. } => {
             Ok(maintenance_of(line, starts))
         }
         Line::Serve { .. } | Line::Tell { .. } => server_task_of(line, starts),
-        _ => Ok(host_task_of(line, starts)),
+        Line::Order { .. } | Line::Backup { .. } | Line::AtServer { .. } => {
+            order_task_of(line, environment, starts)
+        }
     }
 }

@@ -13,6 +13,16 @@ pub enum Misfit {
     NoSocket,
     /// A file of an operators' secret without a door for operators.
     NoOperatorDoor,
+    /// Neither a file nor a server.
+    NoPlace,
+    /// No server.
+    NoServer,
+    /// Both a file and a server.
+    TwoPlaces,
+    /// A port in the environment that is none.
+    NoPort,
+    /// A clock for an order that a server carries out.
+    NoClock,
 }
 
 impl Misfit {
@@ -24,6 +34,19 @@ impl Misfit {
             }
             Misfit::TwoOperatorDoors => {
                 "the argument '--operator-port <operator-port>' cannot be used with '--operator-socket <operator-socket>'"
+            }
+            Misfit::NoPlace => {
+                "one of '--file <file>', '--operator-port <operator-port>' and '--operator-socket <operator-socket>' is required"
+            }
+            Misfit::NoServer => {
+                "one of '--operator-port <operator-port>' and '--operator-socket <operator-socket>' is required"
+            }
+            Misfit::TwoPlaces => {
+                "a file (--file, BUCKETD_FILE) cannot be used with a server (--operator-port, --operator-socket, BUCKETD_OPERATOR_PORT)"
+            }
+            Misfit::NoPort => "BUCKETD_OPERATOR_PORT is not a port",
+            Misfit::NoClock => {
+                "'--at', '--clock-leap' and '--force' need '--file <file>': a server has its own clock"
             }
             Misfit::NoSocket => { "'--socket-group <socket-group>' needs '--socket <socket>'" }
             Misfit::NoOperatorDoor => {

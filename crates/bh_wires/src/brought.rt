@@ -4,7 +4,6 @@
 ghost use Rattle.std.specs.Prelude.{◌≡◌};
 ghost use Rattle.bh_wires.specs.Ends.{remaining_in, contents_in};
 
-use crate::sweeping::OwnLine;
 use bh_link::ends::{Sink, Source};
 use bh_stage::kept::Kept;
 use bh_stage::outbox::Outbox;
@@ -12,13 +11,15 @@ use bh_stage::spool::Spools;
 use bh_stage::waiting::Patient;
 use std::alloc::Global;
 use std::io;
+use std::io::{Cursor, Read};
 
 /// What is read.
 #[derive(Drop)]
 pub enum Brought<R> {
     /// The request that was kept.
     Request(Kept<R>),
-    Own(OwnLine),
+    /// The host's own line.
+    Own(Cursor<Vec<u8>>),
     Nobody,
 }
 
@@ -73,7 +74,7 @@ impl<R: Source> Source for Brought<R> {
     fn give(&mut self, room: &mut [u8]) -> io::Result<usize> {
         match self {
             Brought::Request(kept) => kept.give(room),
-            Brought::Own(line) => Ok(line.give(room)),
+            Brought::Own(line) => line.read(room),
             Brought::Nobody => Ok(0),
         }
     }

@@ -1,5 +1,8 @@
 //! The files of a server's long requests and answers.
 
+ghost use Rattle.std.specs.Prelude.{◌≡◌, [], IfOk};
+ghost use Rattle.bh_stage.specs.Spools.{rest_of};
+
 use bh_stage::spool::Spool;
 use std::fs::{File, Files, OpenOptions};
 use std::io::ErrorKind;
@@ -20,7 +23,9 @@ pub(crate) struct Site<'a, N, C> {
 impl<'a, N: Files<File = File> + AllocGlobal, C> Site<'a, N, C> {
     /// An empty file with mode 0600, since requests have secrets. Its name is removed at once. No
     /// file is removed that was there.
-    pub(crate) fn spool(&self) -> io::Result<Spool> {
+    pub(crate) fn spool(&self) -> io::Result<Spool>
+        ensures { IfOk result (λ spool. rest_of spool ≡ []) }
+    {
         for tried in 0..TRIES {
             let name = format!(in self.net.alloc(); "{}.{tried}", self.path)?;
             match made(self.net, name.as_str()) {

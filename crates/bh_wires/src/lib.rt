@@ -4,6 +4,7 @@
 
 mod brought;
 mod ends;
+pub mod figures;
 mod files;
 mod front;
 mod group;

@@ -28,14 +28,19 @@ pub(crate) struct Entry<'a> {
     pub(crate) response: &'a [u8],
 }
 
-/// The beginning of a connection's line, until its answer went out.
+/// What is logged of a connection once its answer went out.
 #[derive(Drop)]
-pub struct Note {
-    begun: String,
-    /// The number of bytes received.
-    taken: u64,
-    /// The failure, if memory or the store failed.
-    trouble: Option<Trouble>,
+pub enum Note {
+    /// The beginning of its line.
+    Line {
+        begun: String,
+        /// The number of bytes received.
+        taken: u64,
+        /// The failure, if memory or the store failed.
+        trouble: Option<Trouble>,
+    },
+    /// It isn't logged: it asked the server about itself.
+    Nothing,
 }
 
 /// The beginning of the log's line: time (RFC 3339, UTC), tenant, method, target, status and refusal.
@@ -55,30 +60,34 @@ pub(crate) fn note_of(
         Caller::Request => answered_text(alloc, entry.response)?,
         Caller::Operator => replied_text(alloc, entry.response)?,
     };
-    Ok(Note {
+    Ok(Note::Line {
         begun: format!(in alloc; "{time} {asked} {answered}")?,
         taken,
         trouble,
     })
 }
 
-/// The log's line: its beginning, bytes received and sent, and milliseconds. If memory or the store
-/// failed, the failure follows.
+/// The log's line, if there is one: its beginning, bytes received and sent, and milliseconds. If
+/// memory or the store failed, the failure follows.
 pub(crate) fn line_of(
     alloc: Global,
     note: &Note,
     sent: u64,
     took: u64,
-) -> Result<String, AllocError> {
-    let Note {
+) -> Result<Option<String>, AllocError> {
+    let Note::Line {
         begun,
         taken,
         trouble,
-    } = note;
-    match trouble {
+    } = note
+    else {
+        return Ok(None);
+    };
+    let line = match trouble {
         Some(trouble) => format!(in alloc; "{begun} {taken} {sent} {took} {trouble}"),
         None => format!(in alloc; "{begun} {taken} {sent} {took}"),
-    }
+    };
+    Ok(Some(line?))
 }
 
 /// What is told of a clock that is too far ahead, or back.

@@ -1,16 +1,17 @@
-ghost use Rattle.std.specs.Prelude.{◌≡◌, is_some, option_map, IfOk};
+ghost use Rattle.std.specs.Prelude.{◌≡◌, is_some, option_map, IfOk, IsSomeAnd};
 ghost use Rattle.bh_storage.specs.Calls.{Clean, IsAtRest};
 ghost use Rattle.bh_host.specs.Resting.{StaysAtRest};
 ghost use Rattle.bh_connection.specs.Listening.{WasLost, WasVisited, WereCounted, secret_of};
 ghost use Rattle.bh_connection.specs.Visits.{RanFor};
+ghost use Rattle.bh_wires.specs.Sweeping.{IsOwnLine};
 
 use crate::files::Site;
-use crate::front::{Backing, Front};
+use crate::front::{Backing, Front, Terms};
 use crate::group::group_number;
 use crate::listener::Listener;
 use crate::socket_file::listen_at;
 use crate::sockets::{Bound, Sockets};
-use crate::sweeping::OwnLine;
+use crate::sweeping::own_line;
 use bh_connection::{BackUp, Clock, Manner, Ports, serve_from};
 use bh_operation::routes::Routes;
 use bh_stage::stage::{Measures, Stage};
@@ -53,9 +54,10 @@ pub struct Places<'a> {
 
 /// Serves `count` requests and lines on ports of 127.0.0.1, or on Unix sockets in their place, from
 /// many connections at once: each is served as [`bh_connection::serve_from`] does once it is whole,
-/// and answered while others come. Once it listens, it logs each port or path to standard error. If
-/// a path can't be listened on, or a group isn't known, the error says which one. The sockets' files
-/// are removed when it ends.
+/// and answered while others come. An operator's stop ends it sooner: in each case the answers that
+/// are due go out first. Once it listens, it logs each port or path to standard error. If a path
+/// can't be listened on, or a group isn't known, the error says which one. The sockets' files are
+/// removed when it ends.
 pub fn serve_many<N: Net + Files<File = File> + AllocGlobal + Eprint, H: BackUp, C: Clock>(
     net: &N,
     routes: &Routes,
@@ -90,11 +92,12 @@ pub fn serve_many<N: Net + Files<File = File> + AllocGlobal + Eprint, H: BackUp,
 fn front_on<'a, N: Net + Files<File = File> + AllocGlobal + Eprint, C: Clock>(
     site: &'a Site<'a, N, C>,
     limits: Limits,
-    ports: Ports<'_>,
+    ports: Ports<'a>,
     manner: Manner,
     places: Places<'a>,
 ) -> io::Result<Front<'a, Sockets<'a, N, C>, C>>
-    ensures { IfOk result (λ front. front.has_operators ≡ is_some ports.entry.operator) }
+    ensures operated { IfOk result (λ front. front.has_operators ≡ is_some ports.entry.operator) }
+    ensures sweep { IfOk result (λ front. IsSomeAnd front.sweep (IsOwnLine (secret_of ports.entry))) }
 {
     let alloc = site.net.alloc();
     let measures = measures_for(site.net, manner, places.connections);
@@ -103,23 +106,21 @@ fn front_on<'a, N: Net + Files<File = File> + AllocGlobal + Eprint, C: Clock>(
     } else {
         0
     };
-    let sweep = OwnLine::new(alloc, secret(ports))?;
+    let sweep = own_line(alloc, secret(ports))?;
     let mut stage = Stage::new(alloc, Sockets::new(alloc, site, logged)?, measures)?;
     if let Err(error) = listen(site.net, ports, places, stage.wires()) {
         stage.wires().leave();
         return Err(error);
     }
-    let has_operators = ports.operator.is_some();
-    Ok(Front::new(
-        alloc,
-        stage,
+    let terms = Terms {
         limits,
-        site.clock,
-        places.clock_step,
-        has_operators,
-        manner.is_logged,
-        Some(sweep),
-    ))
+        clock: site.clock,
+        clock_step: places.clock_step,
+        has_operators: ports.operator.is_some(),
+        secret: secret(ports),
+        is_logged: manner.is_logged,
+    };
+    Ok(Front::new(alloc, stage, terms, Some(sweep)))
 }
 
 /// How connections are served, of which at most so many are asked for.

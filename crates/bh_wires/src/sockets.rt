@@ -229,8 +229,8 @@ impl<'a, N, C: Clock> Sockets<'a, N, C> {
         }
     }
 
-    /// The line of a connection.
-    fn line(&mut self, ended: &Ended<'_>) -> Result<String, AllocError> {
+    /// The line of a connection, if it is logged.
+    fn line(&mut self, ended: &Ended<'_>) -> Result<Option<String>, AllocError> {
         let note = match self.notes.get_mut(ended.key) {
             Some(note) => note.take(),
             None => None,
@@ -333,7 +333,7 @@ impl<'a, N: Files<File = File> + AllocGlobal + Eprint, C: Clock> Wires for Socke
         if self.notes.is_empty() {
             return;
         }
-        if let Ok(line) = self.line(ended) {
+        if let Ok(Some(line)) = self.line(ended) {
             let _ = eprintln!(self.site.net; "{line}");
         }
     }

@@ -1,10 +1,11 @@
 //! When a host that is served sweeps by itself: a step at a time, between requests. A sweep may come
 //! anywhere, so no tenant's answers depend on when one does.
 
-ghost use Rattle.std.specs.Prelude.{◌≡◌, ◌+◌, ◌≤◌, nat_lt, not, length};
+ghost use Rattle.std.specs.Prelude.{◌≡◌, ◌+◌, nat_lt, not, IfOk, option_map};
 ghost use Rattle.bh_wires.specs.Sweeping as spec;
 
 use std::alloc::{AllocError, Global};
+use std::io::Cursor;
 
 /// The order of a step, which removes at most 256 expired uploads and blocks that nobody needs.
 const STEP: &[u8] = b"{\"op\":\"sweep\",\"limit\":256}\n";
@@ -47,7 +48,9 @@ pub struct Sweeping {
 
 impl Sweeping {
     /// Of a host that is served from now on. What an earlier server left is swept in a minute.
-    pub fn new(now: u64) -> Sweeping {
+    pub fn new(now: u64) -> Sweeping
+        ensures { result ≡ spec.begun now }
+    {
         Sweeping {
             came: 0,
             has_changed: true,
@@ -81,7 +84,9 @@ impl Sweeping {
     }
 
     /// A request was served, of which these are the first bytes, and so many came.
-    pub fn count(&mut self, first: &[u8], bytes: u64) {
+    pub fn count(&mut self, first: &[u8], bytes: u64)
+        ensures { self.new ≡ spec.counted self.old first.now bytes }
+    {
         if !first.starts_with(b"GET ") && !first.starts_with(b"HEAD ") {
             self.has_changed = true;
             self.came = self.came.saturating_add(bytes);
@@ -89,7 +94,9 @@ impl Sweeping {
     }
 
     /// A step was carried out between these times, and was answered so.
-    pub fn step(&mut self, began: u64, now: u64, reply: &[u8]) {
+    pub fn step(&mut self, began: u64, now: u64, reply: &[u8])
+        ensures { self.new ≡ spec.stepped self.old began now reply.now }
+    {
         self.ended = now;
         self.took = now.saturating_sub(began);
         self.is_partial = reply.ends_with(PARTIAL);
@@ -110,42 +117,23 @@ fn is_past(since: u64, span: u64, now: u64) -> bool
     }
 }
 
-/// A line of the host's own, that is read like an operator's.
-#[derive(Drop)]
-pub struct OwnLine {
-    bytes: Vec<u8>,
-    /// How many of its bytes were read.
-    at: usize,
+/// The host's own line, which orders a step, after the operators' secret, if they have one.
+pub(crate) fn own_line(alloc: Global, secret: Option<&[u8]>) -> Result<Cursor<Vec<u8>>, AllocError>
+    ensures { IfOk result (spec.IsOwnLine (option_map (λ s. s.now) secret.entry)) }
+{
+    let mut bytes = opening(alloc, secret)?;
+    bytes.extend_from_slice(STEP)?;
+    Ok(Cursor::new(bytes))
 }
 
-impl OwnLine {
-    /// The order of a step, after the operators' secret, if they have one.
-    pub fn new(alloc: Global, secret: Option<&[u8]>) -> Result<OwnLine, AllocError> {
-        let mut bytes = Vec::new(alloc);
-        if let Some(secret) = secret {
-            bytes.extend_from_slice(secret)?;
-            bytes.extend_from_slice(b" ")?;
-        }
-        bytes.extend_from_slice(STEP)?;
-        Ok(OwnLine { bytes, at: 0 })
-    }
-
-    /// The same line, of which nothing was read.
-    pub fn again(self) -> OwnLine {
-        OwnLine {
-            bytes: self.bytes,
-            at: 0,
-        }
-    }
-
-    /// Copies its next bytes to the front of the room. Returns how many; 0 at its end.
-    pub fn give(&mut self, room: &mut [u8]) -> usize
-        ensures { result ≤ length room.new }
-    {
-        let rest = self.bytes.get(self.at..).unwrap_or(&[]);
-        let count = rest.len().min(room.len());
-        room[..count].copy_from_slice(&rest[..count]);
-        self.at = self.at.saturating_add(count);
-        count
-    }
+/// The operators' secret and a space, if they have one.
+fn opening(alloc: Global, secret: Option<&[u8]>) -> Result<Vec<u8>, AllocError>
+    ensures { IfOk result (λ bytes. bytes.items ≡ spec.opening (option_map (λ s. s.now) secret.entry)) }
+{
+    let Some(secret) = secret else {
+        return Ok(Vec::new(alloc));
+    };
+    let mut bytes = Vec::from_slice(alloc, secret)?;
+    bytes.extend_from_slice(b" ")?;
+    Ok(bytes)
 }

@@ -8,10 +8,9 @@ use Rattle.clap.specs.Walk.{Row, Text, first_of, rows_after}
 use Rattle.bh_words.proofs.Valued.{IsLeaf, IsTaken, default-value, number_in, required-value}
 use Rattle.bh_words.specs.Commands.{options, shape, word}
 use Rattle.bh_words.specs.Options.{rule}
-use Rattle.bh_words.specs.Readings.{at, cache_of, clock_at, doors_at, is_given, leap_at, leap_of, limits_at, line_at, number_at, number_of}
-use Rattle.bh_words.specs.Readings.{serving_at, text_at, tuning_at}
-use Rattle.bh_words.specs.declared.lines.Leap.{Leap}
-use Rattle.bh_words.specs.declared.options.OptionName.TheVariants.{CacheBytes, Count, Force, Log, Spool}
+use Rattle.bh_words.specs.Readings.{cache_of, doors_at, is_given, limits_at, line_at, number_at, number_of, serving_at, text_at}
+use Rattle.bh_words.specs.Readings.{tuning_at}
+use Rattle.bh_words.specs.declared.options.OptionName.TheVariants.{CacheBytes, Count, Log, Spool}
 use Rattle.bh_words.specs.declared.subcommands.Subcommand.{Subcommand}
 use Rattle.bh_words.specs.declared.subcommands.Subcommand.TheVariants as subcommand
 
@@ -29,21 +28,24 @@ rows_of_words s words = rows_after (leaf s).rules [] words
 pub leaf-fine : (s : Subcommand) → IsLeaf (leaf s)
 leaf-fine subcommand.Script = record { fine = ((refl, inl (refl, refl), tt), ((refl, inl (refl, refl), tt), ((refl, inl (refl, refl), tt), ((refl, inl (refl, refl), tt), ((refl, inl (refl, refl), tt), ((refl, inl (refl, refl), tt), ((refl, inr (inr refl), tt), tt))))))); once = refl; negates = refl }
 leaf-fine subcommand.Init = record { fine = ((refl, inl (refl, refl), tt), ((refl, inl (refl, refl), tt), ((refl, inl (refl, refl), tt), ((refl, inl (refl, refl), tt), ((refl, inr (inr refl), tt), tt))))); once = refl; negates = refl }
-leaf-fine subcommand.TenantAdd = record { fine = ((refl, inl (refl, refl), tt), ((refl, inl (refl, refl), tt), ((refl, inl (refl, refl), tt), ((refl, inl (refl, refl), tt), ((refl, inl (refl, refl), tt), ((refl, inr (inl (refl, refl, refl)), tt), ((refl, inr (inr refl), tt), tt))))))); once = refl; negates = refl }
-leaf-fine subcommand.Quota = record { fine = ((refl, inl (refl, refl), tt), ((refl, inl (refl, refl), tt), ((refl, inl (refl, refl), tt), ((refl, inl (refl, refl), tt), ((refl, inl (refl, refl), tt), ((refl, inr (inl (refl, refl, refl)), tt), ((refl, inr (inr refl), tt), tt))))))); once = refl; negates = refl }
-leaf-fine subcommand.KeyAdd = record { fine = ((refl, inl (refl, refl), tt), ((refl, inl (refl, refl), tt), ((refl, inl (refl, refl), tt), ((refl, inl (refl, refl), tt), ((refl, inl (refl, refl), tt), ((refl, inl (refl, refl), tt), ((refl, inr (inl (refl, refl, refl)), tt), ((refl, inr (inr refl), tt), tt)))))))); once = refl; negates = refl }
-leaf-fine subcommand.KeyRemove = record { fine = ((refl, inl (refl, refl), tt), ((refl, inl (refl, refl), tt), ((refl, inl (refl, refl), tt), ((refl, inl (refl, refl), tt), ((refl, inl (refl, refl), tt), ((refl, inr (inl (refl, refl, refl)), tt), ((refl, inr (inr refl), tt), tt))))))); once = refl; negates = refl }
-leaf-fine subcommand.Keys = record { fine = ((refl, inl (refl, refl), tt), ((refl, inl (refl, refl), tt), ((refl, inl (refl, refl), tt), ((refl, inl (refl, refl), tt), ((refl, inr (inl (refl, refl, refl)), tt), ((refl, inr (inr refl), tt), tt)))))); once = refl; negates = refl }
-leaf-fine subcommand.Usage = record { fine = ((refl, inl (refl, refl), tt), ((refl, inl (refl, refl), tt), ((refl, inl (refl, refl), tt), ((refl, inl (refl, refl), tt), ((refl, inr (inl (refl, refl, refl)), tt), ((refl, inr (inr refl), tt), tt)))))); once = refl; negates = refl }
-leaf-fine subcommand.Tenants = record { fine = ((refl, inl (refl, refl), tt), ((refl, inl (refl, refl), tt), ((refl, inl (refl, refl), tt), ((refl, inr (inl (refl, refl, refl)), tt), ((refl, inr (inr refl), tt), tt))))); once = refl; negates = refl }
-leaf-fine subcommand.Report = record { fine = ((refl, inl (refl, refl), tt), ((refl, inl (refl, refl), tt), ((refl, inl (refl, refl), tt), ((refl, inr (inl (refl, refl, refl)), tt), ((refl, inr (inr refl), tt), tt))))); once = refl; negates = refl }
+leaf-fine subcommand.TenantAdd = record { fine = ((refl, inl (refl, refl), tt), ((refl, inl (refl, refl), tt), ((refl, inl (refl, refl), tt), ((refl, inl (refl, refl), tt), ((refl, inl (refl, refl), tt), ((refl, inl (refl, refl), tt), ((refl, inl (refl, refl), tt), ((refl, inl (refl, refl), tt), ((refl, inr (inl (refl, refl, refl)), tt), ((refl, inr (inr refl), tt), tt)))))))))); once = refl; negates = refl }
+leaf-fine subcommand.Quota = record { fine = ((refl, inl (refl, refl), tt), ((refl, inl (refl, refl), tt), ((refl, inl (refl, refl), tt), ((refl, inl (refl, refl), tt), ((refl, inl (refl, refl), tt), ((refl, inl (refl, refl), tt), ((refl, inl (refl, refl), tt), ((refl, inl (refl, refl), tt), ((refl, inr (inl (refl, refl, refl)), tt), ((refl, inr (inr refl), tt), tt)))))))))); once = refl; negates = refl }
+leaf-fine subcommand.KeyAdd = record { fine = ((refl, inl (refl, refl), tt), ((refl, inl (refl, refl), tt), ((refl, inl (refl, refl), tt), ((refl, inl (refl, refl), tt), ((refl, inl (refl, refl), tt), ((refl, inl (refl, refl), tt), ((refl, inl (refl, refl), tt), ((refl, inl (refl, refl), tt), ((refl, inl (refl, refl), tt), ((refl, inr (inl (refl, refl, refl)), tt), ((refl, inr (inr refl), tt), tt))))))))))); once = refl; negates = refl }
+leaf-fine subcommand.KeyRemove = record { fine = ((refl, inl (refl, refl), tt), ((refl, inl (refl, refl), tt), ((refl, inl (refl, refl), tt), ((refl, inl (refl, refl), tt), ((refl, inl (refl, refl), tt), ((refl, inl (refl, refl), tt), ((refl, inl (refl, refl), tt), ((refl, inl (refl, refl), tt), ((refl, inr (inl (refl, refl, refl)), tt), ((refl, inr (inr refl), tt), tt)))))))))); once = refl; negates = refl }
+leaf-fine subcommand.Keys = record { fine = ((refl, inl (refl, refl), tt), ((refl, inl (refl, refl), tt), ((refl, inl (refl, refl), tt), ((refl, inl (refl, refl), tt), ((refl, inl (refl, refl), tt), ((refl, inl (refl, refl), tt), ((refl, inl (refl, refl), tt), ((refl, inr (inl (refl, refl, refl)), tt), ((refl, inr (inr refl), tt), tt))))))))); once = refl; negates = refl }
+leaf-fine subcommand.Usage = record { fine = ((refl, inl (refl, refl), tt), ((refl, inl (refl, refl), tt), ((refl, inl (refl, refl), tt), ((refl, inl (refl, refl), tt), ((refl, inl (refl, refl), tt), ((refl, inl (refl, refl), tt), ((refl, inl (refl, refl), tt), ((refl, inr (inl (refl, refl, refl)), tt), ((refl, inr (inr refl), tt), tt))))))))); once = refl; negates = refl }
+leaf-fine subcommand.Tenants = record { fine = ((refl, inl (refl, refl), tt), ((refl, inl (refl, refl), tt), ((refl, inl (refl, refl), tt), ((refl, inl (refl, refl), tt), ((refl, inl (refl, refl), tt), ((refl, inl (refl, refl), tt), ((refl, inr (inl (refl, refl, refl)), tt), ((refl, inr (inr refl), tt), tt)))))))); once = refl; negates = refl }
+leaf-fine subcommand.Report = record { fine = ((refl, inl (refl, refl), tt), ((refl, inl (refl, refl), tt), ((refl, inl (refl, refl), tt), ((refl, inl (refl, refl), tt), ((refl, inl (refl, refl), tt), ((refl, inl (refl, refl), tt), ((refl, inr (inl (refl, refl, refl)), tt), ((refl, inr (inr refl), tt), tt)))))))); once = refl; negates = refl }
 leaf-fine subcommand.Check = record { fine = ((refl, inl (refl, refl), tt), ((refl, inr (inr refl), tt), tt)); once = refl; negates = refl }
-leaf-fine subcommand.Sweep = record { fine = ((refl, inl (refl, refl), tt), ((refl, inl (refl, refl), tt), ((refl, inl (refl, refl), tt), ((refl, inl (refl, refl), tt), ((refl, inr (inl (refl, refl, refl)), tt), ((refl, inr (inr refl), tt), tt)))))); once = refl; negates = refl }
-leaf-fine subcommand.Backup = record { fine = ((refl, inl (refl, refl), tt), ((refl, inl (refl, refl), tt), ((refl, inr (inr refl), tt), tt))); once = refl; negates = refl }
+leaf-fine subcommand.Sweep = record { fine = ((refl, inl (refl, refl), tt), ((refl, inl (refl, refl), tt), ((refl, inl (refl, refl), tt), ((refl, inl (refl, refl), tt), ((refl, inl (refl, refl), tt), ((refl, inl (refl, refl), tt), ((refl, inl (refl, refl), tt), ((refl, inr (inl (refl, refl, refl)), tt), ((refl, inr (inr refl), tt), tt))))))))); once = refl; negates = refl }
+leaf-fine subcommand.Backup = record { fine = ((refl, inl (refl, refl), tt), ((refl, inl (refl, refl), tt), ((refl, inl (refl, refl), tt), ((refl, inl (refl, refl), tt), ((refl, inl (refl, refl), tt), ((refl, inr (inr refl), tt), tt)))))); once = refl; negates = refl }
 leaf-fine subcommand.Export = record { fine = ((refl, inl (refl, refl), tt), ((refl, inl (refl, refl), tt), ((refl, inl (refl, refl), tt), ((refl, inr (inr refl), tt), tt)))); once = refl; negates = refl }
 leaf-fine subcommand.Import = record { fine = ((refl, inl (refl, refl), tt), ((refl, inl (refl, refl), tt), ((refl, inl (refl, refl), tt), ((refl, inr (inl (refl, refl, refl)), tt), ((refl, inr (inr refl), tt), tt))))); once = refl; negates = refl }
 leaf-fine subcommand.Serve = record { fine = ((refl, inl (refl, refl), tt), ((refl, inl (refl, refl), tt), ((refl, inl (refl, refl), tt), ((refl, inl (refl, refl), tt), ((refl, inl (refl, refl), tt), ((refl, inr (inl (refl, refl, refl)), tt), ((refl, inl (refl, refl), tt), ((refl, inl (refl, refl), tt), ((refl, inl (refl, refl), tt), ((refl, inl (refl, refl), tt), ((refl, inl (refl, refl), tt), ((refl, inr (inl (refl, refl, refl)), tt), ((refl, inl (refl, refl), tt), ((refl, inl (refl, refl), tt), ((refl, inl (refl, refl), tt), ((refl, inl (refl, refl), tt), ((refl, inl (refl, refl), tt), ((refl, inl (refl, refl), tt), ((refl, inr (inr refl), tt), tt))))))))))))))))))); once = refl; negates = refl }
 leaf-fine subcommand.Tell = record { fine = ((refl, inl (refl, refl), tt), ((refl, inl (refl, refl), tt), ((refl, inl (refl, refl), tt), ((refl, inl (refl, refl), tt), ((refl, inr (inr refl), tt), tt))))); once = refl; negates = refl }
+leaf-fine subcommand.Stop = record { fine = ((refl, inl (refl, refl), tt), ((refl, inl (refl, refl), tt), ((refl, inl (refl, refl), tt), ((refl, inr (inr refl), tt), tt)))); once = refl; negates = refl }
+leaf-fine subcommand.Health = record { fine = ((refl, inl (refl, refl), tt), ((refl, inl (refl, refl), tt), ((refl, inl (refl, refl), tt), ((refl, inr (inr refl), tt), tt)))); once = refl; negates = refl }
+leaf-fine subcommand.Metrics = record { fine = ((refl, inl (refl, refl), tt), ((refl, inl (refl, refl), tt), ((refl, inl (refl, refl), tt), ((refl, inr (inr refl), tt), tt)))); once = refl; negates = refl }
 
 limits-given : (rows : List Row) (v w : Text) (n m : ℕ) → first_of (codes "min-part") rows ≡ Some v → number_of 64 v ≡ Some n
     → first_of (codes "max-body") rows ≡ Some w → number_of 64 w ≡ Some m → n ≤ 2 ^ 30 → 1 ≤ m → m ≤ 2 ^ 30
@@ -62,15 +64,6 @@ unfolding tuning_at
 tuning-given rows v w n m a b c d e f g =
     let few = few-cached n m (number_at 64 CacheBytes rows) g in
     rw (a, b, c, d, le-leb 1 n e, le-leb n 1_048_576 f, le-leb _ 65_536 few) refl
-
-leap-given : (rows : List Row) (v : Text) (n : ℕ) → first_of (codes "clock-leap") rows ≡ Some v → number_of 32 v ≡ Some n
-    → leap_at rows ≡ Some (leap_of (is_given Force rows) n)
-unfolding leap_at
-leap-given rows v n a b = rw (a, b) refl
-
-clock-given : (rows : List Row) (leap : Leap) → leap_at rows ≡ Some leap → clock_at rows ≡ Some (record { at = at rows; leap = leap })
-unfolding clock_at
-clock-given rows leap a = rw a refl
 
 serving-given : (rows : List Row) (u v w : Text) (l n m : ℕ) → first_of (codes "timeout") rows ≡ Some u → number_of 64 u ≡ Some l
     → first_of (codes "connections") rows ≡ Some v → number_of 32 v ≡ Some n → first_of (codes "clock-step") rows ≡ Some w
@@ -117,88 +110,42 @@ leaf-told subcommand.Init words e =
 leaf-told subcommand.TenantAdd words e =
     let fine = leaf-fine subcommand.TenantAdd in
     let s = leaf subcommand.TenantAdd in
-    let file = required-value s words (codes "file") _ fine e refl refl in
     let tenant = required-value s words (codes "tenant") _ fine e refl refl in
     let quota = required-value s words (codes "quota") _ fine e refl refl in
     let quota_n = number_in 64 0 (2 ^ 64 - 1) quota.0 (omega arith) quota.2 in
-    let days = default-value s words (codes "clock-leap") _ fine e refl refl in
-    let days_n = number_in 32 0 3_000_000 days.0 (omega arith) days.2 in
-    let leap = leap-given (rows_of_words subcommand.TenantAdd words) _ _ days.1 days_n.1 in
-    let clock = clock-given (rows_of_words subcommand.TenantAdd words) _ leap in
-    rw (file.1, tenant.1, quota.1, quota_n.1, clock) refl
+    rw (tenant.1, quota.1, quota_n.1) refl
 leaf-told subcommand.Quota words e =
     let fine = leaf-fine subcommand.Quota in
     let s = leaf subcommand.Quota in
-    let file = required-value s words (codes "file") _ fine e refl refl in
     let tenant = required-value s words (codes "tenant") _ fine e refl refl in
     let quota = required-value s words (codes "quota") _ fine e refl refl in
     let quota_n = number_in 64 0 (2 ^ 64 - 1) quota.0 (omega arith) quota.2 in
-    let days = default-value s words (codes "clock-leap") _ fine e refl refl in
-    let days_n = number_in 32 0 3_000_000 days.0 (omega arith) days.2 in
-    let leap = leap-given (rows_of_words subcommand.Quota words) _ _ days.1 days_n.1 in
-    let clock = clock-given (rows_of_words subcommand.Quota words) _ leap in
-    rw (file.1, tenant.1, quota.1, quota_n.1, clock) refl
+    rw (tenant.1, quota.1, quota_n.1) refl
 leaf-told subcommand.KeyAdd words e =
     let fine = leaf-fine subcommand.KeyAdd in
     let s = leaf subcommand.KeyAdd in
-    let file = required-value s words (codes "file") _ fine e refl refl in
     let tenant = required-value s words (codes "tenant") _ fine e refl refl in
     let name = required-value s words (codes "name") _ fine e refl refl in
     let secret = required-value s words (codes "secret") _ fine e refl refl in
-    let days = default-value s words (codes "clock-leap") _ fine e refl refl in
-    let days_n = number_in 32 0 3_000_000 days.0 (omega arith) days.2 in
-    let leap = leap-given (rows_of_words subcommand.KeyAdd words) _ _ days.1 days_n.1 in
-    let clock = clock-given (rows_of_words subcommand.KeyAdd words) _ leap in
-    rw (file.1, tenant.1, name.1, secret.1, clock) refl
+    rw (tenant.1, name.1, secret.1) refl
 leaf-told subcommand.KeyRemove words e =
     let fine = leaf-fine subcommand.KeyRemove in
     let s = leaf subcommand.KeyRemove in
-    let file = required-value s words (codes "file") _ fine e refl refl in
     let tenant = required-value s words (codes "tenant") _ fine e refl refl in
     let name = required-value s words (codes "name") _ fine e refl refl in
-    let days = default-value s words (codes "clock-leap") _ fine e refl refl in
-    let days_n = number_in 32 0 3_000_000 days.0 (omega arith) days.2 in
-    let leap = leap-given (rows_of_words subcommand.KeyRemove words) _ _ days.1 days_n.1 in
-    let clock = clock-given (rows_of_words subcommand.KeyRemove words) _ leap in
-    rw (file.1, tenant.1, name.1, clock) refl
+    rw (tenant.1, name.1) refl
 leaf-told subcommand.Keys words e =
     let fine = leaf-fine subcommand.Keys in
     let s = leaf subcommand.Keys in
-    let file = required-value s words (codes "file") _ fine e refl refl in
     let tenant = required-value s words (codes "tenant") _ fine e refl refl in
-    let days = default-value s words (codes "clock-leap") _ fine e refl refl in
-    let days_n = number_in 32 0 3_000_000 days.0 (omega arith) days.2 in
-    let leap = leap-given (rows_of_words subcommand.Keys words) _ _ days.1 days_n.1 in
-    let clock = clock-given (rows_of_words subcommand.Keys words) _ leap in
-    rw (file.1, tenant.1, clock) refl
+    rw tenant.1 refl
 leaf-told subcommand.Usage words e =
     let fine = leaf-fine subcommand.Usage in
     let s = leaf subcommand.Usage in
-    let file = required-value s words (codes "file") _ fine e refl refl in
     let tenant = required-value s words (codes "tenant") _ fine e refl refl in
-    let days = default-value s words (codes "clock-leap") _ fine e refl refl in
-    let days_n = number_in 32 0 3_000_000 days.0 (omega arith) days.2 in
-    let leap = leap-given (rows_of_words subcommand.Usage words) _ _ days.1 days_n.1 in
-    let clock = clock-given (rows_of_words subcommand.Usage words) _ leap in
-    rw (file.1, tenant.1, clock) refl
-leaf-told subcommand.Tenants words e =
-    let fine = leaf-fine subcommand.Tenants in
-    let s = leaf subcommand.Tenants in
-    let file = required-value s words (codes "file") _ fine e refl refl in
-    let days = default-value s words (codes "clock-leap") _ fine e refl refl in
-    let days_n = number_in 32 0 3_000_000 days.0 (omega arith) days.2 in
-    let leap = leap-given (rows_of_words subcommand.Tenants words) _ _ days.1 days_n.1 in
-    let clock = clock-given (rows_of_words subcommand.Tenants words) _ leap in
-    rw (file.1, clock) refl
-leaf-told subcommand.Report words e =
-    let fine = leaf-fine subcommand.Report in
-    let s = leaf subcommand.Report in
-    let file = required-value s words (codes "file") _ fine e refl refl in
-    let days = default-value s words (codes "clock-leap") _ fine e refl refl in
-    let days_n = number_in 32 0 3_000_000 days.0 (omega arith) days.2 in
-    let leap = leap-given (rows_of_words subcommand.Report words) _ _ days.1 days_n.1 in
-    let clock = clock-given (rows_of_words subcommand.Report words) _ leap in
-    rw (file.1, clock) refl
+    rw tenant.1 refl
+leaf-told subcommand.Tenants words e = refl
+leaf-told subcommand.Report words e = refl
 leaf-told subcommand.Check words e =
     let fine = leaf-fine subcommand.Check in
     let s = leaf subcommand.Check in
@@ -207,20 +154,14 @@ leaf-told subcommand.Check words e =
 leaf-told subcommand.Sweep words e =
     let fine = leaf-fine subcommand.Sweep in
     let s = leaf subcommand.Sweep in
-    let file = required-value s words (codes "file") _ fine e refl refl in
     let limit = required-value s words (codes "limit") _ fine e refl refl in
     let limit_n = number_in 32 0 4_294_967_295 limit.0 (omega arith) limit.2 in
-    let days = default-value s words (codes "clock-leap") _ fine e refl refl in
-    let days_n = number_in 32 0 3_000_000 days.0 (omega arith) days.2 in
-    let leap = leap-given (rows_of_words subcommand.Sweep words) _ _ days.1 days_n.1 in
-    let clock = clock-given (rows_of_words subcommand.Sweep words) _ leap in
-    rw (file.1, limit.1, limit_n.1, clock) refl
+    rw (limit.1, limit_n.1) refl
 leaf-told subcommand.Backup words e =
     let fine = leaf-fine subcommand.Backup in
     let s = leaf subcommand.Backup in
-    let file = required-value s words (codes "file") _ fine e refl refl in
     let to = required-value s words (codes "to") _ fine e refl refl in
-    rw (file.1, to.1) refl
+    rw to.1 refl
 leaf-told subcommand.Export words e =
     let fine = leaf-fine subcommand.Export in
     let s = leaf subcommand.Export in
@@ -233,10 +174,7 @@ leaf-told subcommand.Import words e =
     let s = leaf subcommand.Import in
     let file = required-value s words (codes "file") _ fine e refl refl in
     let given = required-value s words (codes "from") _ fine e refl refl in
-    let days = default-value s words (codes "clock-leap") _ fine e refl refl in
-    let days_n = number_in 32 0 3_000_000 days.0 (omega arith) days.2 in
-    let leap = leap-given (rows_of_words subcommand.Import words) _ _ days.1 days_n.1 in
-    rw (file.1, given.1, leap) refl
+    rw (file.1, given.1) refl
 leaf-told subcommand.Serve words e =
     let fine = leaf-fine subcommand.Serve in
     let s = leaf subcommand.Serve in
@@ -252,13 +190,13 @@ leaf-told subcommand.Serve words e =
     let cache_blocks = default-value s words (codes "cache-blocks") _ fine e refl refl in
     let cache_blocks_n = number_in 64 0 65_536 cache_blocks.0 (omega arith) cache_blocks.2 in
     let tuning = tuning-given (rows_of_words subcommand.Serve words) _ _ _ _ block_size.1 block_size_n.1 cache_blocks.1 cache_blocks_n.1 block_size_n.2 block_size_n.3 cache_blocks_n.3 in
-    let days = default-value s words (codes "clock-leap") _ fine e refl refl in
-    let days_n = number_in 32 0 3_000_000 days.0 (omega arith) days.2 in
-    let leap = leap-given (rows_of_words subcommand.Serve words) _ _ days.1 days_n.1 in
     let serving = serving-given (rows_of_words subcommand.Serve words) _ _ _ _ _ _ timeout.1 timeout_n.1 connections.1 connections_n.1 clock_step.1 clock_step_n.1 in
-    rw (file.1, leap, tuning, serving) refl
+    rw (file.1, tuning, serving) refl
 leaf-told subcommand.Tell words e =
     let fine = leaf-fine subcommand.Tell in
     let s = leaf subcommand.Tell in
     let order = required-value s words (codes "LINE") _ fine e refl refl in
     rw order.1 refl
+leaf-told subcommand.Stop words e = refl
+leaf-told subcommand.Health words e = refl
+leaf-told subcommand.Metrics words e = refl

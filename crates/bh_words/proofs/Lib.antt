@@ -2,6 +2,7 @@ mod Commands
 mod Leaves
 mod Numbers
 mod Rows
+mod Sized
 mod Taken
 mod Texts
 mod Valued

@@ -8,10 +8,6 @@ use Rattle.std.specs.Str.{bytes_eq}
 pub unequal : (a b : List ℕ) → (b ≡ a → ⊥) → bytes_eq a b ≡ false
 unequal a b differ = false_from_ne_true _ (λ same. differ (sym ((bytes_eq-Decides a b).0 same)))
 
-pub digits_1 : codes "1" ≡ decimal 1
-unfolding digits
-digits_1 = refl
-
 pub digits_30 : codes "30" ≡ decimal 30
 unfolding digits
 digits_30 = refl

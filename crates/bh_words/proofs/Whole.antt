@@ -5,17 +5,17 @@ use Rattle.std.specs.List.{list_any}
 use Rattle.std.specs.Str.{bytes_eq}
 use Rattle.std.proofs.lemmas.Bool.{false≢true}
 use Rattle.std.proofs.lemmas.Slice.Eq.{bytes_eq-Decides}
-use Rattle.clap.specs.Faults.{check_fault, defaults_fault, entered_fault, other_fault, settle_fault, step_fault, turn_fault, walk_fault, word_fault}
+use Rattle.clap.specs.Faults.{check_fault, defaults_fault, entered_fault, fault_of, other_fault, settle_fault, step_fault, turn_fault, walk_fault, word_fault}
 use Rattle.clap.specs.Kinds.{check_kinds, or_else}
 use Rattle.clap.specs.Lexer.{long_of, short_of}
-use Rattle.clap.specs.Simple.{Shape, argument_words, built, entered, label_of, names_of}
+use Rattle.clap.specs.Simple.{Shape, argument_words, built, entered, label_of, names_of, subcommand_of}
 use Rattle.clap.specs.Takes.{is_given}
 use Rattle.clap.specs.Walk.{Held, Names, Outcome, Row, Rule, Step, Text, Waiting, Walk, after_flag, after_step, answers_to, arg_by_index, done, finished, idle, long_or_other, next, nothing_held, option, plain, plain_word, positional, refused, rows_after, settled, short_or_plain, subcommand, subcommand_met, subcommand_or_other, to_positional, trailing, value, waits, walk, walk_from, walked, walked_from, word_met}
 use Rattle.bh_words.proofs.Leaves.{leaf-told}
 use Rattle.bh_words.proofs.Taken.{or_none, same_some}
 use Rattle.bh_words.proofs.Valued.{IsTaken}
 use Rattle.bh_words.specs.Commands.{the_command}
-use Rattle.bh_words.specs.Readings.{faults_of, line_in, line_of, told_by}
+use Rattle.bh_words.specs.Readings.{line_in, line_of}
 use Rattle.bh_words.specs.declared.subcommands.Subcommand.TheVariants as chosen
 
 -- ---- the subcommand that is met is not `help`
@@ -144,7 +144,7 @@ subs_told = (
                   inl (leaf-told chosen.Tenants),
                   (
                     inl (leaf-told chosen.Report),
-                    (inl (leaf-told chosen.Check), (inl (leaf-told chosen.Sweep), (inl (leaf-told chosen.Backup), (inl (leaf-told chosen.Export), (inl (leaf-told chosen.Import), (inl (leaf-told chosen.Serve), (inl (leaf-told chosen.Tell), (inr (refl, refl), tt)))))))),
+                    (inl (leaf-told chosen.Check), (inl (leaf-told chosen.Sweep), (inl (leaf-told chosen.Backup), (inl (leaf-told chosen.Export), (inl (leaf-told chosen.Import), (inl (leaf-told chosen.Serve), (inl (leaf-told chosen.Tell), (inl (leaf-told chosen.Stop), (inl (leaf-told chosen.Health), (inl (leaf-told chosen.Metrics), (inr (refl, refl), tt))))))))))),
                   ),
                 ),
               ),
@@ -207,8 +207,8 @@ stop-told (Some p) rows apart e f = go (find (λ s. answers_to p.0 (label_of s))
         let found = found-told (built the_command).subs (λ (s : Shape). answers_to p.0 (label_of s)) s subs_told t in
         rw t (shape-told s p found.0 apart found.1 (rw t at e))
 
-pub told-taken : (words : List Text) → faults_of words ≡ [] → is_some (told_by words) ≡ true
-unfolding faults_of told_by NotHelp
+pub told-taken : (words : List Text) → fault_of the_command words ≡ [] → is_some (line_of (subcommand_of the_command words)) ≡ true
+unfolding NotHelp
 told-taken words e =
     let b = built the_command in
     let given = argument_words the_command words in

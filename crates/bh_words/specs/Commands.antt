@@ -1,13 +1,13 @@
 -- The program's subcommands, as `clap` describes them.
-use Rattle.std.specs.Prelude.{List, [], ◌∷◌, codes, map, fold, true, false}
+use Rattle.std.specs.Prelude.{List, [], ◌∷◌, ◌++◌, codes, map, fold, true, false}
 use Rattle.clap.specs.Words.{App, Shape, Text, with_rule, with_subcommand}
 use Rattle.clap.specs.Simple.{new_shape}
 use Rattle.bh_words.specs.Options.{rule}
 use Rattle.bh_words.specs.declared.options.OptionName.{OptionName}
-use Rattle.bh_words.specs.declared.options.OptionName.TheVariants.{File, To, From, Tenant, Name, Secret, Quota, At, ClockLeap, Force, Limit}
-use Rattle.bh_words.specs.declared.options.OptionName.TheVariants.{Port, Socket, SocketGroup, Count, Log, Timeout, Connections, Spool}
-use Rattle.bh_words.specs.declared.options.OptionName.TheVariants.{MaxBody, BlockSize, CacheBlocks, CacheBytes, Digest, OperatorPort}
-use Rattle.bh_words.specs.declared.options.OptionName.TheVariants.{ClockStep, MinPart}
+use Rattle.bh_words.specs.declared.options.OptionName.TheVariants.{File, HostFile, To, From, Tenant, Name, Secret, Quota, At}
+use Rattle.bh_words.specs.declared.options.OptionName.TheVariants.{ClockLeap, Force, Limit, Port, Socket, SocketGroup, Count, Log}
+use Rattle.bh_words.specs.declared.options.OptionName.TheVariants.{Timeout, Connections, Spool, ClockStep, MinPart, MaxBody}
+use Rattle.bh_words.specs.declared.options.OptionName.TheVariants.{BlockSize, CacheBlocks, CacheBytes, Digest, OperatorPort}
 use Rattle.bh_words.specs.declared.options.OptionName.TheVariants.{OperatorSocket, OperatorSecretFile, SecretFile, Order}
 use Rattle.bh_words.specs.declared.subcommands.Subcommand.{Subcommand}
 use Rattle.bh_words.specs.declared.subcommands.Subcommand.TheVariants as subcommand
@@ -30,33 +30,51 @@ word subcommand.Export = codes "export"
 word subcommand.Import = codes "import"
 word subcommand.Serve = codes "serve"
 word subcommand.Tell = codes "tell"
+word subcommand.Stop = codes "stop"
+word subcommand.Health = codes "health"
+word subcommand.Metrics = codes "metrics"
+
+-- where an operator's order is carried out: on a file, or by a server
+abbrev whereabouts : List OptionName
+whereabouts = HostFile ∷ OperatorPort ∷ OperatorSocket ∷ OperatorSecretFile ∷ []
+
+-- what a server alone does
+abbrev server : List OptionName
+server = OperatorPort ∷ OperatorSocket ∷ OperatorSecretFile ∷ []
+
+abbrev clock : List OptionName
+clock = At ∷ ClockLeap ∷ Force ∷ []
 
 -- each subcommand's options
 abbrev pub options : Subcommand → List OptionName
 options subcommand.Script = BlockSize ∷ MinPart ∷ MaxBody ∷ CacheBlocks ∷ CacheBytes ∷ Digest ∷ []
 options subcommand.Init = File ∷ MinPart ∷ MaxBody ∷ Digest ∷ []
-options subcommand.TenantAdd = File ∷ Tenant ∷ Quota ∷ At ∷ ClockLeap ∷ Force ∷ []
-options subcommand.Quota = File ∷ Tenant ∷ Quota ∷ At ∷ ClockLeap ∷ Force ∷ []
-options subcommand.KeyAdd = File ∷ Tenant ∷ Name ∷ Secret ∷ At ∷ ClockLeap ∷ Force ∷ []
-options subcommand.KeyRemove = File ∷ Tenant ∷ Name ∷ At ∷ ClockLeap ∷ Force ∷ []
-options subcommand.Keys = File ∷ Tenant ∷ At ∷ ClockLeap ∷ Force ∷ []
-options subcommand.Usage = File ∷ Tenant ∷ At ∷ ClockLeap ∷ Force ∷ []
-options subcommand.Tenants = File ∷ At ∷ ClockLeap ∷ Force ∷ []
-options subcommand.Report = File ∷ At ∷ ClockLeap ∷ Force ∷ []
+options subcommand.TenantAdd = Tenant ∷ Quota ∷ whereabouts ++ clock
+options subcommand.Quota = Tenant ∷ Quota ∷ whereabouts ++ clock
+options subcommand.KeyAdd = Tenant ∷ Name ∷ Secret ∷ whereabouts ++ clock
+options subcommand.KeyRemove = Tenant ∷ Name ∷ whereabouts ++ clock
+options subcommand.Keys = Tenant ∷ whereabouts ++ clock
+options subcommand.Usage = Tenant ∷ whereabouts ++ clock
+options subcommand.Tenants = whereabouts ++ clock
+options subcommand.Report = whereabouts ++ clock
 options subcommand.Check = File ∷ []
-options subcommand.Sweep = File ∷ Limit ∷ At ∷ ClockLeap ∷ Force ∷ []
-options subcommand.Backup = File ∷ To ∷ []
+options subcommand.Sweep = Limit ∷ whereabouts ++ clock
+options subcommand.Backup = To ∷ whereabouts
 options subcommand.Export = File ∷ Tenant ∷ To ∷ []
 options subcommand.Import = File ∷ From ∷ ClockLeap ∷ Force ∷ []
 options subcommand.Serve = File ∷ Port ∷ Socket ∷ SocketGroup ∷ Count ∷ Log ∷ Timeout ∷ Connections ∷ Spool ∷ ClockLeap ∷ ClockStep
     ∷ Force ∷ BlockSize ∷ CacheBlocks ∷ CacheBytes ∷ OperatorPort ∷ OperatorSocket ∷ OperatorSecretFile ∷ []
 options subcommand.Tell = Port ∷ Socket ∷ SecretFile ∷ Order ∷ []
+options subcommand.Stop = server
+options subcommand.Health = server
+options subcommand.Metrics = server
 
 abbrev pub subcommands : List Subcommand
 subcommands = subcommand.Script ∷ subcommand.Init ∷ subcommand.TenantAdd ∷ subcommand.Quota ∷ subcommand.KeyAdd
     ∷ subcommand.KeyRemove ∷ subcommand.Keys ∷ subcommand.Usage ∷ subcommand.Tenants ∷ subcommand.Report ∷ subcommand.Check
     ∷ subcommand.Sweep
-    ∷ subcommand.Backup ∷ subcommand.Export ∷ subcommand.Import ∷ subcommand.Serve ∷ subcommand.Tell ∷ []
+    ∷ subcommand.Backup ∷ subcommand.Export ∷ subcommand.Import ∷ subcommand.Serve ∷ subcommand.Tell
+    ∷ subcommand.Stop ∷ subcommand.Health ∷ subcommand.Metrics ∷ []
 
 -- a command with these options
 abbrev pub shape : Text → List OptionName → Shape

@@ -5,15 +5,16 @@ use Rattle.clap.specs.declared.builder.action.ArgAction.TheVariants.{SetTrue}
 use Rattle.clap.specs.declared.builder.value_parser.ValueParser.TheVariants.{Unsigned}
 use Rattle.bh_types.specs.Limits.{default_limits, default_tuning}
 use Rattle.bh_words.specs.declared.options.OptionName.{OptionName}
-use Rattle.bh_words.specs.declared.options.OptionName.TheVariants.{File, To, From, Tenant, Name, Secret, Quota, At, ClockLeap, Force, Limit}
-use Rattle.bh_words.specs.declared.options.OptionName.TheVariants.{Port, Socket, SocketGroup, Count, Log, Timeout, Connections, Spool}
-use Rattle.bh_words.specs.declared.options.OptionName.TheVariants.{MaxBody, BlockSize, CacheBlocks, CacheBytes, Digest, OperatorPort}
-use Rattle.bh_words.specs.declared.options.OptionName.TheVariants.{ClockStep, MinPart}
+use Rattle.bh_words.specs.declared.options.OptionName.TheVariants.{File, HostFile, To, From, Tenant, Name, Secret, Quota, At}
+use Rattle.bh_words.specs.declared.options.OptionName.TheVariants.{ClockLeap, Force, Limit, Port, Socket, SocketGroup, Count, Log}
+use Rattle.bh_words.specs.declared.options.OptionName.TheVariants.{Timeout, Connections, Spool, ClockStep, MinPart, MaxBody}
+use Rattle.bh_words.specs.declared.options.OptionName.TheVariants.{BlockSize, CacheBlocks, CacheBytes, Digest, OperatorPort}
 use Rattle.bh_words.specs.declared.options.OptionName.TheVariants.{OperatorSocket, OperatorSecretFile, SecretFile, Order}
 
 -- an option is written `--word value` or `--word=value`
 abbrev pub word : OptionName → Text
 word File = codes "file"
+word HostFile = codes "file"
 word To = codes "to"
 word From = codes "from"
 word Tenant = codes "tenant"
@@ -82,6 +83,7 @@ greatest = 2 ^ 64 - 1
 
 abbrev pub rule : OptionName → Rule
 rule File = text File
+rule HostFile = described HostFile
 rule To = text To
 rule From = text From
 rule Tenant = text Tenant
@@ -89,7 +91,7 @@ rule Name = text Name
 rule Secret = text Secret
 rule Quota = required (number Quota 0 greatest)
 rule At = number At 0 greatest
-rule ClockLeap = preset 1 (number ClockLeap 0 3_000_000)
+rule ClockLeap = number ClockLeap 0 3_000_000
 rule Force = flag Force
 rule Limit = required (number Limit 0 4_294_967_295)
 rule Port = number Port 0 65_535

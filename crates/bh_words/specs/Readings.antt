@@ -1,34 +1,31 @@
 -- A command line's meaning, by its matches.
-use Rattle.std.specs.Prelude.{◌≡◌, ℕ, Bool, false, ◌/◌, ◌^◌, ◌&&◌, List, codes, find, min, nat_le, nat_lt, Option, Some, None, Result, Ok}
-use Rattle.std.specs.Prelude.{Err, if◌then◌else◌}
+use Rattle.std.specs.Prelude.{◌≡◌, ℕ, Bool, false, ◌/◌, ◌^◌, ◌&&◌, List, codes, find, min, nat_le, unwrap_or}
+use Rattle.std.specs.Prelude.{Option, Some, None, Result, Ok, Err, if◌then◌else◌}
 use Rattle.std.specs.Option.{option_map_or}
 use Rattle.std.specs.Str.{bytes_eq}
-use Rattle.std.specs.Str.Parse.{digits_value, without_leading_plus}
 use Rattle.clap.specs.Words.{Kinds, Row, Text, fault_of, first_of, found_of, rows_of, subcommand_of}
-use Rattle.clap.specs.ValueTests.{is_numeral}
 use Rattle.clap.specs.declared.parser.matches.ArgMatches.{ArgMatches}
 use Rattle.bh_types.specs.Limits.{HostLimits, HostTuning}
 use Rattle.bh_types.specs.declared.block_digest.BlockDigest.{BlockDigest}
 use Rattle.bh_types.specs.declared.block_digest.BlockDigest.TheVariants.{Sha256, Fast}
 use Rattle.bh_words.specs.Commands.{subcommands, the_command}
 use Rattle.bh_words.specs.Commands as commands
-use Rattle.bh_words.specs.Lines.{Secret, Written, FromInput, CommandLine}
+use Rattle.bh_words.specs.Lines.{Secret, Written, FromInput, OperatorOrder, CommandLine}
 use Rattle.bh_words.specs.Lines as line
+pub use Rattle.bh_words.specs.Numbers.{◌>>=◌, number_of}
 use Rattle.bh_words.specs.Options.{word}
+use Rattle.bh_words.specs.Sizes.{sized}
 use Rattle.bh_words.specs.declared.given.GivenError.{GivenError}
 use Rattle.bh_words.specs.declared.given.GivenError.TheVariants.{NotGiven, OutOfMemory}
-use Rattle.bh_words.specs.declared.lines.ClockGiven.{ClockGiven}
+use Rattle.bh_words.specs.declared.lines.ClockTyped.{ClockTyped}
 use Rattle.bh_words.specs.declared.lines.Leap.{Leap}
 use Rattle.bh_words.specs.declared.lines.Leap.TheVariants.{Days, Any}
+use Rattle.bh_words.specs.declared.lines.ServerAsked.{ServerAsked}
+use Rattle.bh_words.specs.declared.lines.ServerAsked.TheVariants.{Stop, Health, Metrics}
 use Rattle.bh_words.specs.declared.options.OptionName.{OptionName}
 use Rattle.bh_words.specs.declared.options.OptionName.TheVariants as option
 use Rattle.bh_words.specs.declared.subcommands.Subcommand.{Subcommand}
 use Rattle.bh_words.specs.declared.subcommands.Subcommand.TheVariants as subcommand
-
-infixl 10 ◌>>=◌
-abbrev pub ◌>>=◌ : {A B : Type 0} → Option A → (A → Option B) → Option B
-None >>= f = None
-(Some a) >>= f = f a
 
 -- the result, through view, is the answer, unless memory ran out
 abbrev pub Gives : {X Y : Type 0} → (X → Y) → Result X GivenError → Option Y → Type 0
@@ -44,12 +41,6 @@ rows_in m = rows_of (found_of m)
 
 abbrev pub text_at : OptionName → List Row → Option Text
 text_at o rows = first_of (word o) rows
-
--- the decimal digits of a number of some bits, with an optional plus
-abbrev pub number_of : ℕ → Text → Option ℕ
-number_of bits text =
-    let digits = without_leading_plus text in
-    if is_numeral digits && nat_lt (digits_value 10 digits) (2 ^ bits) then Some (digits_value 10 digits) else None
 
 abbrev pub number_at : ℕ → OptionName → List Row → Option ℕ
 number_at bits o rows = text_at o rows >>= number_of bits
@@ -94,22 +85,26 @@ serving_at rows = do
     clock_step = clock_step;
   })
 
-abbrev pub at : List Row → Option ℕ
-at rows = number_at 64 option.At rows
+-- however far the clock is ahead of the last stamp, or at most some days, or one
+abbrev pub leap_of : Bool → Option ℕ → Leap
+leap_of force days = if force then Any else Days (unwrap_or days 1)
 
--- however far the clock is ahead of the last stamp, or at most some days
-abbrev pub leap_of : Bool → ℕ → Leap
-leap_of force days = if force then Any else Days days
+abbrev pub leap_at : List Row → Leap
+leap_at rows = leap_of (is_given option.Force rows) (number_at 32 option.ClockLeap rows)
 
-unfoldable pub leap_at : List Row → Option Leap
-leap_at rows = do
-  days ← number_at 32 option.ClockLeap rows
-  Some (leap_of (is_given option.Force rows) days)
+abbrev pub clock_at : List Row → ClockTyped
+clock_at rows = record {
+  at = number_at 64 option.At rows;
+  days = number_at 32 option.ClockLeap rows;
+  force = is_given option.Force rows;
+}
 
-unfoldable pub clock_at : List Row → Option ClockGiven
-clock_at rows = do
-  leap ← leap_at rows
-  Some (record { at = at rows; leap = leap })
+abbrev pub place_at : List Row → line.Place
+place_at rows = record {
+  file = text_at option.HostFile rows;
+  door = door_at option.OperatorPort option.OperatorSocket rows;
+  secret_file = text_at option.OperatorSecretFile rows;
+}
 
 abbrev pub limits_of : ℕ → ℕ → Option HostLimits
 limits_of min_part max_body =
@@ -166,82 +161,67 @@ init rows = do
   digest ← digest_at rows
   Some (line.Init file limits digest)
 
-abbrev pub tenant_add : List Row → Option CommandLine
+abbrev pub tenant_add : List Row → Option OperatorOrder
 tenant_add rows = do
-  file ← text_at option.File rows
   tenant ← text_at option.Tenant rows
   quota ← number_at 64 option.Quota rows
-  clock ← clock_at rows
-  Some (line.TenantAdd file tenant quota clock)
+  Some (line.TenantAdd tenant quota)
 
-abbrev pub quota : List Row → Option CommandLine
+abbrev pub quota : List Row → Option OperatorOrder
 quota rows = do
-  file ← text_at option.File rows
   tenant ← text_at option.Tenant rows
   quota ← number_at 64 option.Quota rows
-  clock ← clock_at rows
-  Some (line.Quota file tenant quota clock)
+  Some (line.Quota tenant quota)
 
-abbrev pub key_add : List Row → Option CommandLine
+abbrev pub key_add : List Row → Option OperatorOrder
 key_add rows = do
-  file ← text_at option.File rows
   tenant ← text_at option.Tenant rows
   name ← text_at option.Name rows
   secret ← secret_at rows
-  clock ← clock_at rows
-  Some (line.KeyAdd file tenant name secret clock)
+  Some (line.KeyAdd tenant name secret)
 
-abbrev pub key_remove : List Row → Option CommandLine
+abbrev pub key_remove : List Row → Option OperatorOrder
 key_remove rows = do
-  file ← text_at option.File rows
   tenant ← text_at option.Tenant rows
   name ← text_at option.Name rows
-  clock ← clock_at rows
-  Some (line.KeyRemove file tenant name clock)
+  Some (line.KeyRemove tenant name)
 
-abbrev pub keys : List Row → Option CommandLine
+abbrev pub keys : List Row → Option OperatorOrder
 keys rows = do
-  file ← text_at option.File rows
   tenant ← text_at option.Tenant rows
-  clock ← clock_at rows
-  Some (line.Keys file tenant clock)
+  Some (line.Keys tenant)
 
-abbrev pub usage : List Row → Option CommandLine
+abbrev pub usage : List Row → Option OperatorOrder
 usage rows = do
-  file ← text_at option.File rows
   tenant ← text_at option.Tenant rows
-  clock ← clock_at rows
-  Some (line.Usage file tenant clock)
+  Some (line.Usage tenant)
 
-abbrev pub tenants : List Row → Option CommandLine
-tenants rows = do
-  file ← text_at option.File rows
-  clock ← clock_at rows
-  Some (line.Tenants file clock)
+abbrev pub tenants : List Row → Option OperatorOrder
+tenants rows = Some line.Tenants
 
-abbrev pub report : List Row → Option CommandLine
-report rows = do
-  file ← text_at option.File rows
-  clock ← clock_at rows
-  Some (line.Report file clock)
+abbrev pub report : List Row → Option OperatorOrder
+report rows = Some line.Report
+
+abbrev pub sweep : List Row → Option OperatorOrder
+sweep rows = do
+  limit ← number_at 32 option.Limit rows
+  Some (line.Sweep limit)
+
+-- an order with its place and clock
+abbrev pub ordered : (List Row → Option OperatorOrder) → List Row → Option CommandLine
+ordered order rows = do
+  asked ← order rows
+  Some (line.Order (place_at rows) (clock_at rows) asked)
 
 abbrev pub check : List Row → Option CommandLine
 check rows = do
   file ← text_at option.File rows
   Some (line.Check file)
 
-abbrev pub sweep : List Row → Option CommandLine
-sweep rows = do
-  file ← text_at option.File rows
-  limit ← number_at 32 option.Limit rows
-  clock ← clock_at rows
-  Some (line.Sweep file limit clock)
-
 abbrev pub backup : List Row → Option CommandLine
 backup rows = do
-  file ← text_at option.File rows
   to ← text_at option.To rows
-  Some (line.Backup file to)
+  Some (line.Backup (place_at rows) to)
 
 abbrev pub export : List Row → Option CommandLine
 export rows = do
@@ -254,40 +234,46 @@ abbrev pub import_ : List Row → Option CommandLine
 import_ rows = do
   file ← text_at option.File rows
   given ← text_at option.From rows
-  leap ← leap_at rows
-  Some (line.Import file given leap)
+  Some (line.Import file given (leap_at rows))
 
 abbrev pub serve : List Row → Option CommandLine
 serve rows = do
   file ← text_at option.File rows
-  leap ← leap_at rows
   tuning ← tuning_at rows
   serving ← serving_at rows
-  Some (line.Serve file leap tuning serving)
+  Some (line.Serve file (leap_at rows) tuning serving)
 
 abbrev pub tell : List Row → Option CommandLine
 tell rows = do
   order ← text_at option.Order rows
   Some (line.Tell (door_at option.Port option.Socket rows) (text_at option.SecretFile rows) order)
 
+-- what is asked of the server at an operators' door
+abbrev pub at_server : ServerAsked → List Row → Option CommandLine
+at_server asked rows =
+    Some (line.AtServer (door_at option.OperatorPort option.OperatorSocket rows) (text_at option.OperatorSecretFile rows) asked)
+
 abbrev pub line_at : Subcommand → List Row → Option CommandLine
 line_at subcommand.Script = script
 line_at subcommand.Init = init
-line_at subcommand.TenantAdd = tenant_add
-line_at subcommand.Quota = quota
-line_at subcommand.KeyAdd = key_add
-line_at subcommand.KeyRemove = key_remove
-line_at subcommand.Keys = keys
-line_at subcommand.Usage = usage
-line_at subcommand.Tenants = tenants
-line_at subcommand.Report = report
+line_at subcommand.TenantAdd = ordered tenant_add
+line_at subcommand.Quota = ordered quota
+line_at subcommand.KeyAdd = ordered key_add
+line_at subcommand.KeyRemove = ordered key_remove
+line_at subcommand.Keys = ordered keys
+line_at subcommand.Usage = ordered usage
+line_at subcommand.Tenants = ordered tenants
+line_at subcommand.Report = ordered report
 line_at subcommand.Check = check
-line_at subcommand.Sweep = sweep
+line_at subcommand.Sweep = ordered sweep
 line_at subcommand.Backup = backup
 line_at subcommand.Export = export
 line_at subcommand.Import = import_
 line_at subcommand.Serve = serve
 line_at subcommand.Tell = tell
+line_at subcommand.Stop = at_server Stop
+line_at subcommand.Health = at_server Health
+line_at subcommand.Metrics = at_server Metrics
 
 abbrev pub subcommand_named : Text → Option Subcommand
 subcommand_named name = find (λ s. bytes_eq (commands.word s) name) subcommands
@@ -302,10 +288,10 @@ line_in met = do
 abbrev pub line_of : Option (Text × List Row) → Option CommandLine
 line_of met = met >>= line_in
 
--- the line of some words, by `clap`'s matches for the program's command
+-- the line of some words, by `clap`'s matches for the program's command; sizes may have a unit
 unfoldable pub told_by : List Text → Option CommandLine
-told_by words = line_of (subcommand_of the_command words)
+told_by words = line_of (subcommand_of the_command (sized words))
 
 -- `clap`'s first fault in some words, by its kinds; none if it accepts them
 unfoldable pub faults_of : List Text → Kinds
-faults_of words = fault_of the_command words
+faults_of words = fault_of the_command (sized words)

@@ -38,7 +38,7 @@ fn with_subcommands<'a>(
     Ok(command)
 }
 
-static SUBCOMMANDS: [Subcommand; 17] = [
+static SUBCOMMANDS: [Subcommand; 20] = [
     Subcommand::Script,
     Subcommand::Init,
     Subcommand::TenantAdd,
@@ -56,6 +56,9 @@ static SUBCOMMANDS: [Subcommand; 17] = [
     Subcommand::Import,
     Subcommand::Serve,
     Subcommand::Tell,
+    Subcommand::Stop,
+    Subcommand::Health,
+    Subcommand::Metrics,
 ];
 
 fn subcommand_command<'a>(alloc: Global, subcommand: Subcommand) -> Result<Command<'a>, AllocError>

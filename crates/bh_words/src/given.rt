@@ -4,7 +4,7 @@ ghost use Rattle.std.specs.String.{string_bytes};
 ghost use Rattle.bh_words.specs.Lines as lines;
 ghost use Rattle.bh_words.specs.Readings as spec;
 
-use crate::lines::{ClockGiven, DoorGiven, DoorsGiven, Leap, SecretGiven, ServeGiven};
+use crate::lines::{ClockTyped, DoorGiven, DoorsGiven, Leap, PlaceGiven, SecretGiven, ServeGiven};
 use crate::options::OptionName;
 use bh_types::block_digest::BlockDigest;
 use bh_types::limits::{GREATEST_CACHE_BLOCKS, Limits, Tuning};
@@ -96,8 +96,9 @@ pub(crate) fn number(given: &ArgMatches<'_>, option: OptionName) -> Option<u64>
     }
 }
 
+/// The number in a text of decimal digits.
 #[tactic(auto, using(crate::proofs::Numbers::number_parsed))]
-fn number_of(text: &str) -> Option<u64>
+pub(crate) fn number_of(text: &str) -> Option<u64>
     ensures { result ≡ spec.number_of 64 text.now }
 {
     text.parse::<u64>().ok()
@@ -113,37 +114,37 @@ pub(crate) fn is_given(given: &ArgMatches<'_>, option: OptionName) -> bool
     }
 }
 
-/// The clock's reading, if one was given.
-fn at(given: &ArgMatches<'_>) -> Option<u64>
-    ensures { result ≡ spec.at (spec.rows_in given.now) }
-{
-    number(given, OptionName::At)
-}
-
-/// How far ahead of the host's last stamp the clock may be.
-#[tactic(auto, unfolding(crate::specs::Readings::leap_at))]
-pub(crate) fn leap(given: &ArgMatches<'_>) -> Option<Leap>
+/// How far ahead of the host's last stamp the clock may be: one day if nothing is given.
+pub(crate) fn leap(given: &ArgMatches<'_>) -> Leap
     ensures { result ≡ spec.leap_at (spec.rows_in given.now) }
 {
-    let days = small_number(given, OptionName::ClockLeap)?;
-    Some(leap_of(is_given(given, OptionName::Force), days))
+    clock(given).leap()
 }
 
-fn leap_of(force: bool, days: u32) -> Leap
-    ensures { result ≡ spec.leap_of force days }
-{
-    if force { Leap::Any } else { Leap::Days(days) }
-}
-
-/// The clock of a command.
-#[tactic(auto, unfolding(crate::specs::Readings::clock_at))]
-pub(crate) fn clock(given: &ArgMatches<'_>) -> Option<ClockGiven>
+/// The clock of an order.
+pub(crate) fn clock(given: &ArgMatches<'_>) -> ClockTyped
     ensures { result ≡ spec.clock_at (spec.rows_in given.now) }
 {
-    let leap = leap(given)?;
-    Some(ClockGiven {
-        at: at(given),
-        leap,
+    ClockTyped {
+        at: number(given, OptionName::At),
+        days: small_number(given, OptionName::ClockLeap),
+        force: is_given(given, OptionName::Force),
+    }
+}
+
+/// Where an order is carried out.
+pub(crate) fn place(alloc: Global, given: &ArgMatches<'_>) -> Result<PlaceGiven, GivenError>
+    ensures { spec.Gives lines.place result (Some (spec.place_at (spec.rows_in given.now))) }
+{
+    Ok(PlaceGiven {
+        file: text_if_given(alloc, given, OptionName::HostFile)?,
+        door: door(
+            alloc,
+            given,
+            OptionName::OperatorPort,
+            OptionName::OperatorSocket,
+        )?,
+        secret_file: text_if_given(alloc, given, OptionName::OperatorSecretFile)?,
     })
 }
 
@@ -174,8 +175,9 @@ fn port(given: &ArgMatches<'_>, option: OptionName) -> Option<u16>
     }
 }
 
+/// The port in a text of decimal digits; `None` if it is none.
 #[tactic(auto, using(crate::proofs::Numbers::number_parsed))]
-fn port_of(text: &str) -> Option<u16>
+pub fn port_of(text: &str) -> Option<u16>
     ensures { result ≡ spec.number_of 16 text.now }
 {
     text.parse::<u16>().ok()

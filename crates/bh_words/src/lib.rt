@@ -8,8 +8,13 @@ mod lines;
 mod options;
 mod read;
 mod readings;
+mod sizes;
 mod subcommands;
 
 pub use fault::LineFault;
-pub use lines::{ClockGiven, DoorGiven, DoorsGiven, Leap, Line, SecretGiven, ServeGiven};
+pub use given::port_of;
+pub use lines::{
+    ClockGiven, ClockTyped, DoorGiven, DoorsGiven, Leap, Line, OrderGiven, PlaceGiven, SecretGiven,
+    ServeGiven, ServerAsked,
+};
 pub use read::read_words;

@@ -1,3 +1,6 @@
+ghost use Rattle.std.specs.Prelude.{◌≡◌};
+ghost use Rattle.bh_words.specs.Readings.{leap_of};
+
 use bh_types::block_digest::BlockDigest;
 use bh_types::limits::{Limits, Tuning};
 
@@ -25,6 +28,30 @@ pub struct ClockGiven {
     /// A reading, in seconds since 1970; `None` for the machine's clock.
     pub at: Option<u64>,
     pub leap: Leap,
+}
+
+/// What was given of an order's clock.
+#[derive(Clone, Copy)]
+pub struct ClockTyped {
+    /// A reading, in seconds since 1970.
+    pub at: Option<u64>,
+    /// By how many days the clock may be ahead of the host's last stamp.
+    pub days: Option<u32>,
+    /// Whether it may be ahead without limit.
+    pub force: bool,
+}
+
+impl ClockTyped {
+    /// How far ahead the clock may be: one day if nothing is given.
+    pub fn leap(self) -> Leap
+        ensures { result ≡ leap_of self.force self.days }
+    {
+        if self.force {
+            Leap::Any
+        } else {
+            Leap::Days(self.days.unwrap_or(1))
+        }
+    }
 }
 
 /// Where a server listens, as far as it was given: a port of 127.0.0.1, and a Unix socket's path.
@@ -62,10 +89,71 @@ pub struct ServeGiven {
     pub clock_step: u64,
 }
 
+/// What was given of where an order is carried out: on the host of a file, or by a server that
+/// listens to operators, after the secret in a file if one is named.
+#[derive(Drop)]
+pub struct PlaceGiven {
+    pub file: Option<String>,
+    pub door: DoorGiven,
+    pub secret_file: Option<String>,
+}
+
+/// What an operator asks of a running server, and not of its host.
+#[derive(Clone, Copy)]
+pub enum ServerAsked {
+    /// To end.
+    Stop,
+    /// Whether it serves requests.
+    Health,
+    /// What it has counted since its start.
+    Metrics,
+}
+
+/// An operator's order. Names, secrets and quotas are unchecked: the host checks their ranges.
+#[derive(Drop)]
+pub enum OrderGiven {
+    /// Adds a tenant with a quota in bytes.
+    TenantAdd {
+        tenant: String,
+        quota: u64,
+    },
+    /// Sets a tenant's quota, in bytes.
+    Quota {
+        tenant: String,
+        quota: u64,
+    },
+    /// Adds an access key to a tenant.
+    KeyAdd {
+        tenant: String,
+        name: String,
+        secret: SecretGiven,
+    },
+    /// Removes a tenant's access key.
+    KeyRemove {
+        tenant: String,
+        name: String,
+    },
+    /// Lists a tenant's access keys.
+    Keys {
+        tenant: String,
+    },
+    /// Prints how many bytes a tenant uses.
+    Usage {
+        tenant: String,
+    },
+    /// Lists all tenants, with the bytes that each uses.
+    Tenants,
+    /// Counts the stored blocks and the references to them.
+    Report,
+    /// Removes at most `limit` stale uploads and unreferenced blocks.
+    Sweep {
+        limit: u32,
+    },
+}
+
 /// A parsed command line: a subcommand and its options.
 ///
-/// Names, secrets and quotas are unchecked: the host checks their ranges. A `digest` is `None` if
-/// no function has the given name.
+/// A `digest` is `None` if no function has the given name.
 #[derive(Drop)]
 pub enum Line {
     /// Applies events from standard input to a new host in memory.
@@ -80,70 +168,19 @@ pub enum Line {
         limits: Limits,
         digest: Option<BlockDigest>,
     },
-    /// Adds a tenant with a quota in bytes.
-    TenantAdd {
-        file: String,
-        tenant: String,
-        quota: u64,
-        clock: ClockGiven,
-    },
-    /// Sets a tenant's quota, in bytes.
-    Quota {
-        file: String,
-        tenant: String,
-        quota: u64,
-        clock: ClockGiven,
-    },
-    /// Adds an access key to a tenant.
-    KeyAdd {
-        file: String,
-        tenant: String,
-        name: String,
-        secret: SecretGiven,
-        clock: ClockGiven,
-    },
-    /// Removes a tenant's access key.
-    KeyRemove {
-        file: String,
-        tenant: String,
-        name: String,
-        clock: ClockGiven,
-    },
-    /// Lists a tenant's access keys.
-    Keys {
-        file: String,
-        tenant: String,
-        clock: ClockGiven,
-    },
-    /// Prints how many bytes a tenant uses.
-    Usage {
-        file: String,
-        tenant: String,
-        clock: ClockGiven,
-    },
-    /// Lists all tenants, with the bytes that each uses.
-    Tenants {
-        file: String,
-        clock: ClockGiven,
-    },
-    /// Counts the stored blocks and the references to them.
-    Report {
-        file: String,
-        clock: ClockGiven,
+    /// Carries out an operator's order.
+    Order {
+        place: PlaceGiven,
+        clock: ClockTyped,
+        order: OrderGiven,
     },
     /// Checks that the file's host is sound.
     Check {
         file: String,
     },
-    /// Removes at most `limit` stale uploads and unreferenced blocks.
-    Sweep {
-        file: String,
-        limit: u32,
-        clock: ClockGiven,
-    },
-    /// Copies the host's file to a new file, `to`.
+    /// Copies a host to a new file, `to`.
     Backup {
-        file: String,
+        place: PlaceGiven,
         to: String,
     },
     /// Copies a tenant, with all its contents, to a new host in a new file, `to`.
@@ -172,5 +209,12 @@ pub enum Line {
         door: DoorGiven,
         secret_file: Option<String>,
         order: String,
+    },
+    /// Asks something of a running server, at its operators' door, after the secret in a file if one
+    /// is named.
+    AtServer {
+        door: DoorGiven,
+        secret_file: Option<String>,
+        asked: ServerAsked,
     },
 }

@@ -11,6 +11,7 @@ use std::alloc::Global;
 #[derive(Clone, Copy)]
 pub(crate) enum OptionName {
     File,
+    HostFile,
     To,
     From,
     Tenant,
@@ -49,7 +50,7 @@ impl OptionName {
         ensures { result.now ≡ spec.word self }
     {
         match self {
-            OptionName::File => "file",
+            OptionName::File | OptionName::HostFile => "file",
             OptionName::To => "to",
             OptionName::From => "from",
             OptionName::Tenant => "tenant",
@@ -85,18 +86,19 @@ impl OptionName {
 
     fn help<'a>(self) -> &'a str {
         match self {
-            OptionName::File => "Path of the host's file",
+            OptionName::File | OptionName::HostFile => "Path of the host's file",
             OptionName::To => "Path of the new file; it must not exist, and its directory must",
             OptionName::From => "Path of a file that export made",
             OptionName::Tenant => "The tenant's name: 1 to 32 of the characters a-z and 0-9",
             OptionName::Name => "The key's name: 1 to 32 of the characters a-z and 0-9",
             OptionName::Secret =>
                 "The key's secret: 8 to 64 printable ASCII characters; - reads it from standard input",
-            OptionName::Quota => "Maximum bytes that the tenant may store: 0 to 2^60",
+            OptionName::Quota =>
+                "Maximum size of what the tenant may store, in bytes, or with a unit as in 10GB or 10GiB: 0 to 2^60",
             OptionName::At =>
                 "Time of the command, in seconds since 1970; without it, the machine's clock",
             OptionName::ClockLeap =>
-                "Maximum days by which the clock may be ahead of the host's last timestamp, and an imported file's ahead of both: 0 to 3,000,000",
+                "Maximum days by which the clock may be ahead of the host's last timestamp, and an imported file's ahead of both: 0 to 3,000,000 [default: 1]",
             OptionName::Force =>
                 "Accepts any clock and any imported file, however far it is ahead of the host's last timestamp",
             OptionName::Limit =>
@@ -115,12 +117,15 @@ impl OptionName {
                 "Directory of temporary files for long requests and responses; without it, that of the host's file",
             OptionName::ClockStep =>
                 "Maximum seconds by which the clock may jump while the server runs: 1 to 2^32 - 1",
-            OptionName::MinPart => "Minimum size of each part but the last, in bytes: 0 to 2^30",
-            OptionName::MaxBody => "Maximum size of a request's body, in bytes: 1 to 2^30",
-            OptionName::BlockSize => "Size of new blocks, in bytes: 1 to 1,048,576",
+            OptionName::MinPart =>
+                "Minimum size of each part but the last, in bytes, or with a unit as in 10MB or 10MiB: 0 to 2^30",
+            OptionName::MaxBody =>
+                "Maximum size of a request's body, in bytes, or with a unit as in 10MB or 10MiB: 1 to 2^30",
+            OptionName::BlockSize =>
+                "Size of new blocks, in bytes, or with a unit as in 10kB or 10KiB: 1 to 1,048,576",
             OptionName::CacheBlocks => "Maximum number of cached blocks: 0 to 65,536",
             OptionName::CacheBytes =>
-                "Maximum bytes of cached blocks, which overrides --cache-blocks: 0 to 2^36",
+                "Maximum size of cached blocks, in bytes, or with a unit as in 10GB or 10GiB; overrides --cache-blocks: 0 to 2^36",
             OptionName::Digest => "Block digest, fixed when the host is created: sha256 or fast",
             OptionName::OperatorPort =>
                 "Port on 127.0.0.1 for operators' orders; with 0 the system chooses one",
@@ -148,7 +153,7 @@ impl OptionName {
             | OptionName::Secret => self.text(alloc),
             OptionName::Quota => self.number(alloc, 0, u64::MAX).required(true),
             OptionName::At => self.number(alloc, 0, u64::MAX),
-            OptionName::ClockLeap => self.number(alloc, 0, 3_000_000).default_value("1"),
+            OptionName::ClockLeap => self.number(alloc, 0, 3_000_000),
             OptionName::Force => self.flag(alloc),
             OptionName::Limit => self.number(alloc, 0, 4_294_967_295).required(true),
             OptionName::Port => self.number(alloc, 0, 65_535),
@@ -164,7 +169,8 @@ impl OptionName {
             OptionName::CacheBytes => self.number(alloc, 0, 1 << 36),
             OptionName::Digest => self.described(alloc).default_value("sha256"),
             OptionName::OperatorPort => self.number(alloc, 0, 65_535),
-            OptionName::Socket
+            OptionName::HostFile
+            | OptionName::Socket
             | OptionName::SocketGroup
             | OptionName::Spool
             | OptionName::OperatorSocket

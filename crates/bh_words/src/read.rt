@@ -1,6 +1,6 @@
 ghost use Rattle.std.specs.Prelude.{◌≡◌, [], IfOk, IfErr, Some, map};
 ghost use Rattle.std.specs.String.{string_bytes};
-ghost use Rattle.clap.specs.Words.{FailsBy, HasKind, subcommand_of, subcommand_rows_of};
+ghost use Rattle.clap.specs.Words.{FailsBy, HasKind, fault_of, subcommand_of, subcommand_rows_of};
 ghost use Rattle.bh_words.specs.Commands.{the_command};
 ghost use Rattle.bh_words.specs.Lines.{command_line};
 ghost use Rattle.bh_words.specs.Readings as spec;
@@ -10,6 +10,7 @@ use crate::fault::LineFault;
 use crate::given::GivenError;
 use crate::lines::Line;
 use crate::readings::line_in;
+use crate::sizes::sized;
 use clap::{ArgMatches, Error};
 use std::alloc::{AllocError, Global};
 
@@ -24,7 +25,8 @@ pub fn read_words(alloc: Global, words: &[String]) -> Result<Line, LineFault>
     ensures refused { IfErr result (λ fault.
         HasKind (spec.faults_of (map string_bytes words.now)) fault.error) }
 {
-    let matches = matches_of(alloc, words)?;
+    let plain = sized(alloc, words)?;
+    let matches = matches_of(alloc, plain.as_slice())?;
     match line_of(alloc, &matches) {
         Ok(line) => Ok(line),
         Err(GivenError::NotGiven) => unreachable!(),
@@ -35,7 +37,7 @@ pub fn read_words(alloc: Global, words: &[String]) -> Result<Line, LineFault>
 fn matches_of<'a>(alloc: Global, words: &'a [String]) -> Result<ArgMatches<'a>, Error>
     ensures rows { IfOk result (λ m.
         subcommand_rows_of m ≡ subcommand_of the_command (map string_bytes words.now)) }
-    ensures kinds { FailsBy (spec.faults_of (map string_bytes words.now)) result }
+    ensures kinds { FailsBy (fault_of the_command (map string_bytes words.now)) result }
 {
     let command = the_command(alloc)?;
     command.try_get_matches_from(words)

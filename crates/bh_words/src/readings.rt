@@ -1,12 +1,14 @@
 //! Each subcommand's line, from its values.
-ghost use Rattle.bh_words.specs.Lines.{command_line};
+ghost use Rattle.std.specs.Prelude.{Some};
+ghost use Rattle.bh_words.specs.Lines.{command_line, order};
+ghost use Rattle.bh_words.specs.Lines as lines;
 ghost use Rattle.bh_words.specs.Readings as spec;
 
 use crate::given::{
-    GivenError, clock, digest, door, leap, limits, needed, number, secret, serving, small_number,
-    text, text_if_given, tuning,
+    GivenError, clock, digest, door, leap, limits, needed, number, place, secret, serving,
+    small_number, text, text_if_given, tuning,
 };
-use crate::lines::Line;
+use crate::lines::{Line, OrderGiven, ServerAsked};
 use crate::options::OptionName;
 use crate::subcommands::Subcommand;
 use clap::ArgMatches;
@@ -30,21 +32,24 @@ fn line_of(
     match subcommand {
         Subcommand::Script => script(given),
         Subcommand::Init => init(alloc, given),
-        Subcommand::TenantAdd => tenant_add(alloc, given),
-        Subcommand::Quota => quota(alloc, given),
-        Subcommand::KeyAdd => key_add(alloc, given),
-        Subcommand::KeyRemove => key_remove(alloc, given),
-        Subcommand::Keys => keys(alloc, given),
-        Subcommand::Usage => usage(alloc, given),
-        Subcommand::Tenants => tenants(alloc, given),
-        Subcommand::Report => report(alloc, given),
+        Subcommand::TenantAdd => ordered(alloc, given, tenant_add(alloc, given)?),
+        Subcommand::Quota => ordered(alloc, given, quota(alloc, given)?),
+        Subcommand::KeyAdd => ordered(alloc, given, key_add(alloc, given)?),
+        Subcommand::KeyRemove => ordered(alloc, given, key_remove(alloc, given)?),
+        Subcommand::Keys => ordered(alloc, given, keys(alloc, given)?),
+        Subcommand::Usage => ordered(alloc, given, usage(alloc, given)?),
+        Subcommand::Tenants => ordered(alloc, given, OrderGiven::Tenants),
+        Subcommand::Report => ordered(alloc, given, OrderGiven::Report),
         Subcommand::Check => check(alloc, given),
-        Subcommand::Sweep => sweep(alloc, given),
+        Subcommand::Sweep => ordered(alloc, given, sweep(given)?),
         Subcommand::Backup => backup(alloc, given),
         Subcommand::Export => export(alloc, given),
         Subcommand::Import => import(alloc, given),
         Subcommand::Serve => serve(alloc, given),
         Subcommand::Tell => tell(alloc, given),
+        Subcommand::Stop => at_server(alloc, given, ServerAsked::Stop),
+        Subcommand::Health => at_server(alloc, given, ServerAsked::Health),
+        Subcommand::Metrics => at_server(alloc, given, ServerAsked::Metrics),
     }
 }
 
@@ -74,108 +79,74 @@ fn init(alloc: Global, given: &ArgMatches<'_>) -> Result<Line, GivenError>
     })
 }
 
-fn tenant_add(alloc: Global, given: &ArgMatches<'_>) -> Result<Line, GivenError>
-    ensures { spec.Gives command_line result (spec.tenant_add (spec.rows_in given.now)) }
+fn tenant_add(alloc: Global, given: &ArgMatches<'_>) -> Result<OrderGiven, GivenError>
+    ensures { spec.Gives order result (spec.tenant_add (spec.rows_in given.now)) }
 {
-    let file = text(alloc, given, OptionName::File)?;
     let tenant = text(alloc, given, OptionName::Tenant)?;
     let quota = needed(number(given, OptionName::Quota))?;
-    let clock = needed(clock(given))?;
-    Ok(Line::TenantAdd {
-        file,
-        tenant,
-        quota,
-        clock,
-    })
+    Ok(OrderGiven::TenantAdd { tenant, quota })
 }
 
-fn quota(alloc: Global, given: &ArgMatches<'_>) -> Result<Line, GivenError>
-    ensures { spec.Gives command_line result (spec.quota (spec.rows_in given.now)) }
+fn quota(alloc: Global, given: &ArgMatches<'_>) -> Result<OrderGiven, GivenError>
+    ensures { spec.Gives order result (spec.quota (spec.rows_in given.now)) }
 {
-    let file = text(alloc, given, OptionName::File)?;
     let tenant = text(alloc, given, OptionName::Tenant)?;
     let quota = needed(number(given, OptionName::Quota))?;
-    let clock = needed(clock(given))?;
-    Ok(Line::Quota {
-        file,
-        tenant,
-        quota,
-        clock,
-    })
+    Ok(OrderGiven::Quota { tenant, quota })
 }
 
-fn key_add(alloc: Global, given: &ArgMatches<'_>) -> Result<Line, GivenError>
-    ensures { spec.Gives command_line result (spec.key_add (spec.rows_in given.now)) }
+fn key_add(alloc: Global, given: &ArgMatches<'_>) -> Result<OrderGiven, GivenError>
+    ensures { spec.Gives order result (spec.key_add (spec.rows_in given.now)) }
 {
-    let file = text(alloc, given, OptionName::File)?;
     let tenant = text(alloc, given, OptionName::Tenant)?;
     let name = text(alloc, given, OptionName::Name)?;
     let secret = secret(alloc, given)?;
-    let clock = needed(clock(given))?;
-    Ok(Line::KeyAdd {
-        file,
+    Ok(OrderGiven::KeyAdd {
         tenant,
         name,
         secret,
-        clock,
     })
 }
 
-fn key_remove(alloc: Global, given: &ArgMatches<'_>) -> Result<Line, GivenError>
-    ensures { spec.Gives command_line result (spec.key_remove (spec.rows_in given.now)) }
+fn key_remove(alloc: Global, given: &ArgMatches<'_>) -> Result<OrderGiven, GivenError>
+    ensures { spec.Gives order result (spec.key_remove (spec.rows_in given.now)) }
 {
-    let file = text(alloc, given, OptionName::File)?;
     let tenant = text(alloc, given, OptionName::Tenant)?;
     let name = text(alloc, given, OptionName::Name)?;
-    let clock = needed(clock(given))?;
-    Ok(Line::KeyRemove {
-        file,
-        tenant,
-        name,
-        clock,
-    })
+    Ok(OrderGiven::KeyRemove { tenant, name })
 }
 
-fn keys(alloc: Global, given: &ArgMatches<'_>) -> Result<Line, GivenError>
-    ensures { spec.Gives command_line result (spec.keys (spec.rows_in given.now)) }
+fn keys(alloc: Global, given: &ArgMatches<'_>) -> Result<OrderGiven, GivenError>
+    ensures { spec.Gives order result (spec.keys (spec.rows_in given.now)) }
 {
-    let file = text(alloc, given, OptionName::File)?;
     let tenant = text(alloc, given, OptionName::Tenant)?;
-    let clock = needed(clock(given))?;
-    Ok(Line::Keys {
-        file,
-        tenant,
-        clock,
-    })
+    Ok(OrderGiven::Keys { tenant })
 }
 
-fn usage(alloc: Global, given: &ArgMatches<'_>) -> Result<Line, GivenError>
-    ensures { spec.Gives command_line result (spec.usage (spec.rows_in given.now)) }
+fn usage(alloc: Global, given: &ArgMatches<'_>) -> Result<OrderGiven, GivenError>
+    ensures { spec.Gives order result (spec.usage (spec.rows_in given.now)) }
 {
-    let file = text(alloc, given, OptionName::File)?;
     let tenant = text(alloc, given, OptionName::Tenant)?;
-    let clock = needed(clock(given))?;
-    Ok(Line::Usage {
-        file,
-        tenant,
-        clock,
+    Ok(OrderGiven::Usage { tenant })
+}
+
+fn sweep(given: &ArgMatches<'_>) -> Result<OrderGiven, GivenError>
+    ensures { spec.Gives order result (spec.sweep (spec.rows_in given.now)) }
+{
+    let limit = needed(small_number(given, OptionName::Limit))?;
+    Ok(OrderGiven::Sweep { limit })
+}
+
+/// An order with its place and clock.
+fn ordered(alloc: Global, given: &ArgMatches<'_>, order: OrderGiven) -> Result<Line, GivenError>
+    ensures { spec.Gives command_line result
+        (Some (lines.Order (spec.place_at (spec.rows_in given.now)) (spec.clock_at (spec.rows_in given.now)) (lines.order order))) }
+{
+    Ok(Line::Order {
+        place: place(alloc, given)?,
+        clock: clock(given),
+        order,
     })
-}
-
-fn tenants(alloc: Global, given: &ArgMatches<'_>) -> Result<Line, GivenError>
-    ensures { spec.Gives command_line result (spec.tenants (spec.rows_in given.now)) }
-{
-    let file = text(alloc, given, OptionName::File)?;
-    let clock = needed(clock(given))?;
-    Ok(Line::Tenants { file, clock })
-}
-
-fn report(alloc: Global, given: &ArgMatches<'_>) -> Result<Line, GivenError>
-    ensures { spec.Gives command_line result (spec.report (spec.rows_in given.now)) }
-{
-    let file = text(alloc, given, OptionName::File)?;
-    let clock = needed(clock(given))?;
-    Ok(Line::Report { file, clock })
 }
 
 fn check(alloc: Global, given: &ArgMatches<'_>) -> Result<Line, GivenError>
@@ -185,21 +156,12 @@ fn check(alloc: Global, given: &ArgMatches<'_>) -> Result<Line, GivenError>
     Ok(Line::Check { file })
 }
 
-fn sweep(alloc: Global, given: &ArgMatches<'_>) -> Result<Line, GivenError>
-    ensures { spec.Gives command_line result (spec.sweep (spec.rows_in given.now)) }
-{
-    let file = text(alloc, given, OptionName::File)?;
-    let limit = needed(small_number(given, OptionName::Limit))?;
-    let clock = needed(clock(given))?;
-    Ok(Line::Sweep { file, limit, clock })
-}
-
 fn backup(alloc: Global, given: &ArgMatches<'_>) -> Result<Line, GivenError>
     ensures { spec.Gives command_line result (spec.backup (spec.rows_in given.now)) }
 {
-    let file = text(alloc, given, OptionName::File)?;
     let to = text(alloc, given, OptionName::To)?;
-    Ok(Line::Backup { file, to })
+    let place = place(alloc, given)?;
+    Ok(Line::Backup { place, to })
 }
 
 fn export(alloc: Global, given: &ArgMatches<'_>) -> Result<Line, GivenError>
@@ -216,7 +178,7 @@ fn import(alloc: Global, given: &ArgMatches<'_>) -> Result<Line, GivenError>
 {
     let file = text(alloc, given, OptionName::File)?;
     let from = text(alloc, given, OptionName::From)?;
-    let leap = needed(leap(given))?;
+    let leap = leap(given);
     Ok(Line::Import {
         file,
         given: from,
@@ -228,7 +190,7 @@ fn serve(alloc: Global, given: &ArgMatches<'_>) -> Result<Line, GivenError>
     ensures { spec.Gives command_line result (spec.serve (spec.rows_in given.now)) }
 {
     let file = text(alloc, given, OptionName::File)?;
-    let leap = needed(leap(given))?;
+    let leap = leap(given);
     let tuning = needed(tuning(given))?;
     let serving = serving(alloc, given)?;
     Ok(Line::Serve {
@@ -249,5 +211,23 @@ fn tell(alloc: Global, given: &ArgMatches<'_>) -> Result<Line, GivenError>
         door,
         secret_file,
         order,
+    })
+}
+
+/// What is asked of the server at the operators' door.
+fn at_server(alloc: Global, given: &ArgMatches<'_>, asked: ServerAsked) -> Result<Line, GivenError>
+    ensures { spec.Gives command_line result (spec.at_server asked (spec.rows_in given.now)) }
+{
+    let door = door(
+        alloc,
+        given,
+        OptionName::OperatorPort,
+        OptionName::OperatorSocket,
+    )?;
+    let secret_file = text_if_given(alloc, given, OptionName::OperatorSecretFile)?;
+    Ok(Line::AtServer {
+        door,
+        secret_file,
+        asked,
     })
 }

@@ -6,8 +6,9 @@ ghost use Rattle.bh_words.specs.Commands as spec;
 use crate::options::OptionName;
 use crate::options::OptionName::{
     At, BlockSize, CacheBlocks, CacheBytes, ClockLeap, ClockStep, Connections, Count, Digest, File,
-    Force, Limit, Log, MaxBody, MinPart, Name, OperatorPort, OperatorSecretFile, OperatorSocket,
-    Order, Port, Quota, Secret, SecretFile, Socket, SocketGroup, Spool, Tenant, Timeout, To,
+    Force, HostFile, Limit, Log, MaxBody, MinPart, Name, OperatorPort, OperatorSecretFile,
+    OperatorSocket, Order, Port, Quota, Secret, SecretFile, Socket, SocketGroup, Spool, Tenant,
+    Timeout, To,
 };
 
 /// A subcommand of the program.
@@ -30,27 +31,93 @@ pub(crate) enum Subcommand {
     Import,
     Serve,
     Tell,
+    Stop,
+    Health,
+    Metrics,
 }
 
 static SCRIPT: [OptionName; 6] = [BlockSize, MinPart, MaxBody, CacheBlocks, CacheBytes, Digest];
 
 static INIT: [OptionName; 4] = [File, MinPart, MaxBody, Digest];
 
-static TENANT_QUOTA: [OptionName; 6] = [File, Tenant, Quota, At, ClockLeap, Force];
+static TENANT_QUOTA: [OptionName; 9] = [
+    Tenant,
+    Quota,
+    HostFile,
+    OperatorPort,
+    OperatorSocket,
+    OperatorSecretFile,
+    At,
+    ClockLeap,
+    Force,
+];
 
-static KEY_ADD: [OptionName; 7] = [File, Tenant, Name, Secret, At, ClockLeap, Force];
+static KEY_ADD: [OptionName; 10] = [
+    Tenant,
+    Name,
+    Secret,
+    HostFile,
+    OperatorPort,
+    OperatorSocket,
+    OperatorSecretFile,
+    At,
+    ClockLeap,
+    Force,
+];
 
-static KEY_REMOVE: [OptionName; 6] = [File, Tenant, Name, At, ClockLeap, Force];
+static KEY_REMOVE: [OptionName; 9] = [
+    Tenant,
+    Name,
+    HostFile,
+    OperatorPort,
+    OperatorSocket,
+    OperatorSecretFile,
+    At,
+    ClockLeap,
+    Force,
+];
 
-static ONE_TENANT: [OptionName; 5] = [File, Tenant, At, ClockLeap, Force];
+static ONE_TENANT: [OptionName; 8] = [
+    Tenant,
+    HostFile,
+    OperatorPort,
+    OperatorSocket,
+    OperatorSecretFile,
+    At,
+    ClockLeap,
+    Force,
+];
 
-static ALL_TENANTS: [OptionName; 4] = [File, At, ClockLeap, Force];
+static ALL_TENANTS: [OptionName; 7] = [
+    HostFile,
+    OperatorPort,
+    OperatorSocket,
+    OperatorSecretFile,
+    At,
+    ClockLeap,
+    Force,
+];
 
 static CHECK: [OptionName; 1] = [File];
 
-static SWEEP: [OptionName; 5] = [File, Limit, At, ClockLeap, Force];
+static SWEEP: [OptionName; 8] = [
+    Limit,
+    HostFile,
+    OperatorPort,
+    OperatorSocket,
+    OperatorSecretFile,
+    At,
+    ClockLeap,
+    Force,
+];
 
-static BACKUP: [OptionName; 2] = [File, To];
+static BACKUP: [OptionName; 5] = [
+    To,
+    HostFile,
+    OperatorPort,
+    OperatorSocket,
+    OperatorSecretFile,
+];
 
 static EXPORT: [OptionName; 3] = [File, Tenant, To];
 
@@ -78,6 +145,8 @@ static SERVE: [OptionName; 18] = [
 ];
 
 static TELL: [OptionName; 4] = [Port, Socket, SecretFile, Order];
+
+static AT_SERVER: [OptionName; 3] = [OperatorPort, OperatorSocket, OperatorSecretFile];
 
 impl Subcommand {
     /// The subcommand's name.
@@ -107,29 +176,14 @@ impl Subcommand {
             Subcommand::KeyAdd => ("key-add", "Adds an access key to a tenant"),
             Subcommand::KeyRemove => ("key-remove", "Removes a tenant's access key"),
             Subcommand::Keys => ("keys", "Lists a tenant's access keys"),
-            Subcommand::Usage => (
-                "usage",
-                "Prints how many bytes a tenant uses, and its quota",
-            ),
-            Subcommand::Tenants => (
-                "tenants",
-                "Lists all tenants, with the bytes that each uses",
-            ),
-            Subcommand::Report => (
-                "report",
-                "Prints the number of stored blocks, and their bytes",
-            ),
-            Subcommand::Check => (
-                "check",
-                "Checks that a host's file is sound, and changes nothing",
-            ),
+            Subcommand::Usage => ("usage", "Prints a tenant's bytes and its quota"),
+            Subcommand::Tenants => ("tenants", "Lists all tenants, with their bytes"),
+            Subcommand::Report => ("report", "Counts the stored blocks and their bytes"),
+            Subcommand::Check => ("check", "Checks that a host's file is sound"),
             Subcommand::Sweep => ("sweep", "Removes stale uploads and unreferenced blocks"),
             Subcommand::Backup => ("backup", "Copies the host to a new file"),
             Subcommand::Export => ("export", "Copies a tenant to a new host in a new file"),
-            Subcommand::Import => (
-                "import",
-                "Adds the tenant of a file that export made to the host",
-            ),
+            Subcommand::Import => ("import", "Adds an exported tenant to the host"),
             Subcommand::Serve => (
                 "serve",
                 "Serves requests over HTTP on a port of 127.0.0.1 or a Unix socket",
@@ -138,6 +192,9 @@ impl Subcommand {
                 "tell",
                 "Sends an operator's order to a running server, and prints the reply",
             ),
+            Subcommand::Stop => ("stop", "Ends a running server"),
+            Subcommand::Health => ("health", "Prints whether a running server answers requests"),
+            Subcommand::Metrics => ("metrics", "Prints what a running server has counted"),
         }
     }
 
@@ -160,6 +217,7 @@ impl Subcommand {
             Subcommand::Import => &IMPORT,
             Subcommand::Serve => &SERVE,
             Subcommand::Tell => &TELL,
+            Subcommand::Stop | Subcommand::Health | Subcommand::Metrics => &AT_SERVER,
         }
     }
 
@@ -185,6 +243,9 @@ impl Subcommand {
             "import" => Some(Subcommand::Import),
             "serve" => Some(Subcommand::Serve),
             "tell" => Some(Subcommand::Tell),
+            "stop" => Some(Subcommand::Stop),
+            "health" => Some(Subcommand::Health),
+            "metrics" => Some(Subcommand::Metrics),
             _ => None,
         }
     }

@@ -25,17 +25,17 @@ returns-in_err-reading-clause-comes g c =
 
 pub returns-clause-did : goal.returns-clause-did
 returns-clause-did g c =
-    did_as g.H.Storage.IsIntact g.H.Storage.IsOpen g.H.Storage.seen g.H.Storage.left g.H.BackUp.shows _ _ c.in_ok-caller.caller _ _ c.serve_visit-served.result _ _
-    c.in_ok-caller.ensures.admitted c.serve_visit-served.ensures.visited
+    did_as g.H.Storage.IsIntact g.H.Storage.IsOpen g.H.Storage.seen g.H.Storage.left g.H.BackUp.shows _ _ c.in_ok-caller.caller _ _ c.serve_visit-visited.result _ _
+    c.in_ok-caller.ensures.admitted c.serve_visit-visited.ensures.visited
 
 pub returns-clause-comes : goal.returns-clause-comes
 returns-clause-comes g c =
     let before = ends g.A.Reader.Source.remaining g.A.Reader.Source.transfers g.A.Writer.Sink.contents g.A.Writer.Sink.transfers c.open-arrival.result in
-    let after = ends g.A.Reader.Source.remaining g.A.Reader.Source.transfers g.A.Writer.Sink.contents g.A.Writer.Sink.transfers c.serve_visit-served.new.arrival in
+    let after = ends g.A.Reader.Source.remaining g.A.Reader.Source.transfers g.A.Writer.Sink.contents g.A.Writer.Sink.transfers c.serve_visit-visited.new.arrival in
     let told : Logs (g.A.Acceptor.calls c.accept.new.self) (g.A.Acceptor.calls c.seconds.new.self) (ToldReading before.reading ∷ []) =
     subst (λ r. Logs (g.A.Acceptor.calls c.accept.new.self) (g.A.Acceptor.calls c.seconds.new.self) (ToldReading r ∷ [])) (sym c.open-arrival.ensures.reading) c.in_ok-reading.ensures.calls in
-    visited_as g.H.Storage.IsIntact g.H.Storage.IsOpen g.H.Storage.seen g.H.Storage.left g.H.BackUp.shows _ _ _ _ c.in_ok-caller.caller before after c.serve_visit-served.result _ _ c.in_ok-caller.ensures.admitted
-    (logs_then _ _ _ (Accepted c.in_ok-caller.caller ∷ []) (ToldReading before.reading ∷ Opened before ∷ Closed after c.serve_visit-served.result ∷ []) c.in_ok-caller.ensures.calls
-    (logs_then _ _ _ (ToldReading before.reading ∷ []) (Opened before ∷ Closed after c.serve_visit-served.result ∷ []) told
-    (logs_then _ _ _ (Opened before ∷ []) (Closed after c.serve_visit-served.result ∷ []) c.open-arrival.ensures.calls c.close.ensures.calls)))
-    c.serve_visit-served.ensures.visited
+    visited_as g.H.Storage.IsIntact g.H.Storage.IsOpen g.H.Storage.seen g.H.Storage.left g.H.BackUp.shows _ _ _ _ c.in_ok-caller.caller before after c.serve_visit-visited.result _ _ c.in_ok-caller.ensures.admitted
+    (logs_then _ _ _ (Accepted c.in_ok-caller.caller ∷ []) (ToldReading before.reading ∷ Opened before ∷ Closed after c.serve_visit-visited.result.served ∷ []) c.in_ok-caller.ensures.calls
+    (logs_then _ _ _ (ToldReading before.reading ∷ []) (Opened before ∷ Closed after c.serve_visit-visited.result.served ∷ []) told
+    (logs_then _ _ _ (Opened before ∷ []) (Closed after c.serve_visit-visited.result.served ∷ []) c.open-arrival.ensures.calls c.close.ensures.calls)))
+    c.serve_visit-visited.ensures.visited

@@ -31,12 +31,12 @@ returns-clause-lost g c = rw c.in-Some.is c.serve_listener-in-Some.ensures.lost
 pub returns-in_err-clients-clause-counted : goal.returns-in_err-clients-clause-counted
 returns-in_err-clients-clause-counted g c =
     let p = err_from_is_err_and c.from_residual.result c.from_residual.ensures.1 in
-    rw p.1 ([], nothing_came g.H.Storage.IsIntact g.H.Storage.IsOpen g.H.Storage.seen g.H.Storage.left g.H.BackUp.shows _ c.args.host.now, tt, omega arith)
+    rw p.1 ([], nothing_came g.H.Storage.IsIntact g.H.Storage.IsOpen g.H.Storage.seen g.H.Storage.left g.H.BackUp.shows _ c.args.host.now, tt, (omega arith, tt))
 
 pub returns-in_err-listener-in-Some-clause-counted : goal.returns-in_err-listener-in-Some-clause-counted
 returns-in_err-listener-in-Some-clause-counted g c =
     let p = err_from_is_err_and c.from_residual-in_err-listener-in-Some.result c.from_residual-in_err-listener-in-Some.ensures.1 in
-    rw p.1 ([], nothing_came g.H.Storage.IsIntact g.H.Storage.IsOpen g.H.Storage.seen g.H.Storage.left g.H.BackUp.shows _ c.args.host.now, tt, omega arith)
+    rw p.1 ([], nothing_came g.H.Storage.IsIntact g.H.Storage.IsOpen g.H.Storage.seen g.H.Storage.left g.H.BackUp.shows _ c.args.host.now, tt, (omega arith, tt))
 
 pub returns-in-None-clause-counted : goal.returns-in-None-clause-counted
 returns-in-None-clause-counted g c = rw c.in-None.is c.serve_listener.ensures.counted

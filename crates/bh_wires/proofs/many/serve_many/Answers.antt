@@ -20,7 +20,7 @@ returns-in_err-front-clause-counted g c =
     rw p.1 ([], nothing_came g.H.Storage.IsIntact g.H.Storage.IsOpen g.H.Storage.seen g.H.Storage.left g.H.BackUp.shows _ c.args.host.now, tt, omega arith)
 
 pub returns-clause-counted : goal.returns-clause-counted
-returns-clause-counted g c = rw c.in_ok-front.ensures at (rw c.secret.ensures at (counted_of g.H.Storage.IsIntact g.H.Storage.IsOpen g.H.Storage.seen g.H.Storage.left _ _ g.H.BackUp.lost None None c.args.count c.serve_from-served.result c.args.host.now c.serve_from-served.new.host c.serve_from-served.ensures.listened))
+returns-clause-counted g c = rw c.in_ok-front.ensures.operated at (rw c.secret.ensures at (counted_of g.H.Storage.IsIntact g.H.Storage.IsOpen g.H.Storage.seen g.H.Storage.left _ _ g.H.BackUp.lost None None c.args.count c.serve_from-served.result c.args.host.now c.serve_from-served.new.host c.serve_from-served.ensures.listened))
 
 pub returns-clause-lost : goal.returns-clause-lost
 returns-clause-lost g c = rw c.secret.ensures at c.serve_from-served.ensures.lost

@@ -3,7 +3,6 @@ use Rattle.std.proofs.lemmas.Result.{IfOk-weaker}
 use Rattle.std.specs.String.{string_bytes}
 use Rattle.clap.specs.Words.{App, FailsBy, fault_of, is_simple, is_simple_and_free, subcommand_of}
 use Rattle.bh_words.proofs.Commands.{is_simple_command, is_free_command}
-use Rattle.bh_words.specs.Readings.{faults_of}
 use Rattle.bh_words.proofs.read.matches_of.Goals as goal
 
 pub returns-clause-rows : goal.returns-clause-rows
@@ -14,7 +13,6 @@ returns-clause-rows c =
     c.try_get_matches_from.ensures.matches
 
 pub returns-clause-kinds : goal.returns-clause-kinds
-unfolding faults_of
 returns-clause-kinds c =
     let command = c.in_ok-command.ensures in
     subst (λ (a : App). FailsBy (fault_of a (map string_bytes c.args.words.now)) c.try_get_matches_from.result) command

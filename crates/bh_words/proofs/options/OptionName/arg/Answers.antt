@@ -1,9 +1,6 @@
 use Rattle.std.proofs.Common.{rules}
-use Rattle.bh_words.proofs.Texts.{digits_1, digits_30, digits_4096, digits_3600, digits_5242880, digits_16777216, digits_65536, digits_0}
+use Rattle.bh_words.proofs.Texts.{digits_30, digits_4096, digits_3600, digits_5242880, digits_16777216, digits_65536, digits_0}
 use Rattle.bh_words.proofs.options.OptionName.arg.Goals as goal
-
-pub returns-in-ClockLeap-clause-rule : goal.returns-in-ClockLeap-clause-rule
-returns-in-ClockLeap-clause-rule c = search (rules, digits_1)
 
 pub returns-in-Timeout-clause-rule : goal.returns-in-Timeout-clause-rule
 returns-in-Timeout-clause-rule c = search (rules, digits_30)

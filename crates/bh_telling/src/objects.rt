@@ -1,0 +1,111 @@
+//! The JSON object (RFC 8259) of each order. Its `at` is 0: a server doesn't look at it.
+
+ghost use Rattle.std.specs.Prelude.{◌≡◌, ◌≤◌, IfOk};
+ghost use Rattle.serde_json.specs.View.{view};
+ghost use Rattle.bh_event.specs.Events.{order_of};
+ghost use Rattle.bh_task.specs.Messages.{message_of};
+ghost use Rattle.bh_telling.specs.Objects as spec;
+
+use bh_event::event::Command;
+use bh_task::Task;
+use serde_json::{Value, json};
+use std::alloc::{AllocError, Global};
+
+fn tenant_add(alloc: Global, tenant: &str, quota: u64) -> Result<Value, AllocError>
+    ensures { IfOk result (λ value. view value ≡ spec.tenant_add tenant.now quota) }
+{
+    json!(in alloc; {"at": 0_u64, "op": "tenant-add", "quota": quota, "tenant": tenant})
+}
+
+fn quota(alloc: Global, tenant: &str, quota: u64) -> Result<Value, AllocError>
+    ensures { IfOk result (λ value. view value ≡ spec.quota_set tenant.now quota) }
+{
+    json!(in alloc; {"at": 0_u64, "op": "quota", "quota": quota, "tenant": tenant})
+}
+
+fn key_add(alloc: Global, tenant: &str, name: &str, secret: &str) -> Result<Value, AllocError>
+    ensures { IfOk result (λ value. view value ≡ spec.key_add tenant.now name.now secret.now) }
+{
+    json!(in alloc; {"at": 0_u64, "name": name, "op": "key-add", "secret": secret, "tenant": tenant})
+}
+
+fn key_remove(alloc: Global, tenant: &str, name: &str) -> Result<Value, AllocError>
+    ensures { IfOk result (λ value. view value ≡ spec.key_remove tenant.now name.now) }
+{
+    json!(in alloc; {"at": 0_u64, "name": name, "op": "key-remove", "tenant": tenant})
+}
+
+fn usage(alloc: Global, tenant: &str) -> Result<Value, AllocError>
+    ensures { IfOk result (λ value. view value ≡ spec.usage tenant.now) }
+{
+    json!(in alloc; {"at": 0_u64, "op": "usage", "tenant": tenant})
+}
+
+fn keys(alloc: Global, tenant: &str) -> Result<Value, AllocError>
+    ensures { IfOk result (λ value. view value ≡ spec.keys tenant.now) }
+{
+    json!(in alloc; {"at": 0_u64, "op": "keys", "tenant": tenant})
+}
+
+fn sweep(alloc: Global, limit: u32) -> Result<Value, AllocError>
+    ensures object { IfOk result (λ value. view value ≡ spec.sweep limit) }
+    ensures limited { limit ≤ spec.greatest_limit }
+{
+    json!(in alloc; {"at": 0_u64, "limit": u64::from(limit), "op": "sweep"})
+}
+
+fn report(alloc: Global) -> Result<Value, AllocError>
+    ensures { IfOk result (λ value. view value ≡ spec.report) }
+{
+    json!(in alloc; {"at": 0_u64, "op": "report"})
+}
+
+fn tenants(alloc: Global) -> Result<Value, AllocError>
+    ensures { IfOk result (λ value. view value ≡ spec.tenants) }
+{
+    json!(in alloc; {"at": 0_u64, "op": "tenants"})
+}
+
+/// The object of a command on a tenant.
+fn command_object(alloc: Global, command: &Command) -> Result<Value, AllocError>
+    ensures { IfOk result (λ value. view value ≡ spec.object_of (order_of command.now)) }
+{
+    match command {
+        Command::TenantAdd {
+            tenant,
+            quota: bytes,
+        } => tenant_add(alloc, tenant.as_str(), *bytes),
+        Command::Quota {
+            tenant,
+            quota: bytes,
+        } => quota(alloc, tenant.as_str(), *bytes),
+        Command::KeyAdd {
+            tenant,
+            name,
+            secret,
+        } => key_add(alloc, tenant.as_str(), name.as_str(), secret.as_str()),
+        Command::KeyRemove { tenant, name } => { key_remove(alloc, tenant.as_str(), name.as_str()) }
+        Command::Usage { tenant } => usage(alloc, tenant.as_str()),
+        Command::Keys { tenant } => keys(alloc, tenant.as_str()),
+    }
+}
+
+/// The object of a task.
+pub(crate) fn task_object(alloc: Global, task: &Task) -> Result<Value, AllocError>
+    ensures object { IfOk result (λ value. view value ≡ spec.object_in (message_of task.now)) }
+    ensures limited { spec.IsLimited (message_of task.now) }
+{
+    match task {
+        Task::Command(command) => command_object(alloc, command),
+        Task::Sweep { limit } => sweep(alloc, *limit),
+        Task::Report => report(alloc),
+        Task::Tenants => tenants(alloc),
+    }
+}
+
+/// The object of a backup to a new file.
+pub(crate) fn backup_object(alloc: Global, to: &str) -> Result<Value, AllocError>
+    ensures { IfOk result (λ value. view value ≡ spec.backup to.now) }
+{
+    json!(in alloc; {"at": 0_u64, "op": "backup", "to": to})
+}
