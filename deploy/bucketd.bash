@@ -23,29 +23,32 @@ _bucketd() {
         case ${COMP_WORDS[1]} in
         script) words=" --block-size --min-part --max-body --cache-blocks --cache-bytes --digest --help " ;;
         init) words=" --file --min-part --max-body --digest --help " ;;
-        tenant-add) words=" --file --tenant --quota --at --clock-leap --force --help " ;;
-        quota) words=" --file --tenant --quota --at --clock-leap --force --help " ;;
-        key-add) words=" --file --tenant --name --secret --at --clock-leap --force --help " ;;
-        key-remove) words=" --file --tenant --name --at --clock-leap --force --help " ;;
-        keys) words=" --file --tenant --at --clock-leap --force --help " ;;
-        usage) words=" --file --tenant --at --clock-leap --force --help " ;;
-        tenants) words=" --file --at --clock-leap --force --help " ;;
-        report) words=" --file --at --clock-leap --force --help " ;;
+        tenant-add) words=" --tenant --quota --file --operator-port --operator-socket --operator-secret-file --at --clock-leap --force --help " ;;
+        quota) words=" --tenant --quota --file --operator-port --operator-socket --operator-secret-file --at --clock-leap --force --help " ;;
+        key-add) words=" --tenant --name --secret --file --operator-port --operator-socket --operator-secret-file --at --clock-leap --force --help " ;;
+        key-remove) words=" --tenant --name --file --operator-port --operator-socket --operator-secret-file --at --clock-leap --force --help " ;;
+        keys) words=" --tenant --file --operator-port --operator-socket --operator-secret-file --at --clock-leap --force --help " ;;
+        usage) words=" --tenant --file --operator-port --operator-socket --operator-secret-file --at --clock-leap --force --help " ;;
+        tenants) words=" --file --operator-port --operator-socket --operator-secret-file --at --clock-leap --force --help " ;;
+        report) words=" --file --operator-port --operator-socket --operator-secret-file --at --clock-leap --force --help " ;;
         check) words=" --file --help " ;;
-        sweep) words=" --file --limit --at --clock-leap --force --help " ;;
-        backup) words=" --file --to --help " ;;
+        sweep) words=" --limit --file --operator-port --operator-socket --operator-secret-file --at --clock-leap --force --help " ;;
+        backup) words=" --to --file --operator-port --operator-socket --operator-secret-file --help " ;;
         export) words=" --file --tenant --to --help " ;;
         import) words=" --file --from --clock-leap --force --help " ;;
         serve) words=" --file --port --socket --socket-group --count --log --timeout --connections --spool --clock-leap --clock-step --force --block-size --cache-blocks --cache-bytes --operator-port --operator-socket --operator-secret-file --help " ;;
         tell) words=" --port --socket --secret-file --help " ;;
-        help) [ "$COMP_CWORD" -gt 2 ] || words=" script init tenant-add quota key-add key-remove keys usage tenants report check sweep backup export import serve tell " ;;
+        stop) words=" --operator-port --operator-socket --operator-secret-file --help " ;;
+        health) words=" --operator-port --operator-socket --operator-secret-file --help " ;;
+        metrics) words=" --operator-port --operator-socket --operator-secret-file --help " ;;
+        help) [ "$COMP_CWORD" -gt 2 ] || words=" script init tenant-add quota key-add key-remove keys usage tenants report check sweep backup export import serve tell stop health metrics " ;;
         esac
         # No option comes twice.
         for option in "${COMP_WORDS[@]:2:COMP_CWORD - 2}"; do
             words=${words/ $option / }
         done
     else
-        words=" script init tenant-add quota key-add key-remove keys usage tenants report check sweep backup export import serve tell help --help --version "
+        words=" script init tenant-add quota key-add key-remove keys usage tenants report check sweep backup export import serve tell stop health metrics help --help --version "
     fi
     mapfile -t COMPREPLY < <(compgen -W "$words" -- "$word")
 }

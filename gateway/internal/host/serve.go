@@ -24,8 +24,8 @@ const (
 	stopLine     = `{"op":"stop"}`
 )
 
-// How long bucketd may take to end after an operator's stop, and after SIGTERM: the request at hand is answered first. (Variables, as
-// tests have less time.)
+// How long bucketd may take to end after an operator's stop, with the answers that are due, and after SIGTERM. (Variables, as tests
+// have less time.)
 var stopPatience, termPatience = 10 * time.Second, 5 * time.Second
 
 // A server is a bucketd that is run.
@@ -148,8 +148,8 @@ func (s *server) places(address string) *places {
 	return &places{clients: Socket(s.socket("clients")), operators: Socket(s.socket("operators"))}
 }
 
-// end ends bucketd after the request at hand: by an operator's stop where it has a socket for that, else by SIGTERM. One that goes on
-// is killed: each change is on the disk before it is answered.
+// end ends bucketd: by an operator's stop where it has a socket for that, so that the answers that are due go out first, else by
+// SIGTERM. One that goes on is killed: each change is on the disk before it is answered.
 func (s *server) end(process *os.Process, ended <-chan struct{}) {
 	begun, operators := time.Now(), s.host.Operators(Place{})
 	if operators.IsThere() && tellStop(operators) == nil && isClosed(ended, stopPatience-time.Since(begun)) {
@@ -162,13 +162,13 @@ func (s *server) end(process *os.Process, ended <-chan struct{}) {
 	process.Kill()
 }
 
-// tellStop tells bucketd to stop. Its answer may be lost with it; one that is a refusal is an error.
+// tellStop tells bucketd to stop, which it answers by the same word. That may be lost with it; another answer is an error.
 func tellStop(operators *Operators) error {
 	ctx, cancel := context.WithTimeout(context.Background(), stopPatience)
 	defer cancel()
 	return operators.Tell(ctx, stopLine, func(answer io.Reader) error {
 		text, err := io.ReadAll(io.LimitReader(answer, 1000))
-		if line := strings.TrimSpace(string(text)); err == nil && line != "" && !strings.HasPrefix(line, "stop") {
+		if line := strings.TrimSpace(string(text)); err == nil && line != "" && line != "stop" {
 			return fmt.Errorf("bucketd doesn't know how to stop: %q", line)
 		}
 		return nil

@@ -36,6 +36,7 @@ type Metrics struct {
 	tried    *prometheus.HistogramVec // of seconds
 	waited   prometheus.Histogram
 	refusals *prometheus.CounterVec // of the host
+	pages    prometheus.Gatherers   // the registry, and the host's own page where its operators are asked
 }
 
 // Seconds within which something is done.
@@ -63,6 +64,7 @@ func NewMetrics() *Metrics {
 			Help: "Time that requests to the host waited for their turn."}),
 		refusals: counters("bucketd_gateway_host_refusals_total", "Requests that the host refused, by its code.", "refusal"),
 	}
+	m.pages = prometheus.Gatherers{m.registry}
 	m.registry.MustRegister(m.requests, m.underWay, m.in, m.out, m.cut, m.errors, m.refused, m.limits, m.tried, m.waited, m.refusals,
 		collectors.NewGoCollector(), collectors.NewProcessCollector(collectors.ProcessCollectorOpts{}))
 	// (what is counted from nothing on shows its first one, too)
@@ -157,11 +159,12 @@ func (m *Metrics) watch(from Sources, h *health) {
 	}
 	if from.Operators != nil {
 		m.registry.MustRegister(&storage{asker{operators: from.Operators, clock: time.Now}})
+		m.pages = append(m.pages, hostPage{from.Operators})
 	}
 }
 
 func (m *Metrics) handler() http.Handler {
-	return promhttp.HandlerFor(m.registry, promhttp.HandlerOpts{MaxRequestsInFlight: 8, Timeout: 9 * time.Second, ErrorHandling: promhttp.ContinueOnError})
+	return promhttp.HandlerFor(m.pages, promhttp.HandlerOpts{MaxRequestsInFlight: 8, Timeout: 9 * time.Second, ErrorHandling: promhttp.ContinueOnError})
 }
 
 // newest returns when the newest of some files was written, in seconds since 1970. Copies that aren't whole yet are none.

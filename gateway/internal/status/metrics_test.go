@@ -25,7 +25,7 @@ func served(t *testing.T, m *Metrics) *http.Server {
 	h := host.New(host.Socket(hosttest.Listen(t, answers)), 1)
 	from := sources(h)
 	var count atomic.Int64
-	from.Operators = h.Operators(host.Socket(hosttest.Listen(t, operators(&count, map[string]string{tenantsLine: goodTenants, reportLine: goodReport}))))
+	from.Operators = h.Operators(host.Socket(hosttest.Listen(t, operators(&count, map[string]string{tenantsLine: goodTenants, reportLine: goodReport, pageLine: goodPage}))))
 	from.Certificates = func() (time.Time, bool) { return time.Unix(1800000000, 0), true }
 	folder := t.TempDir()
 	for name, at := range map[string]int64{"host-1": 1700000000, "host-2": 1700000100, "host-3.partial": 1700000200, "other": 1700000300} {
@@ -102,6 +102,10 @@ func TestMetrics(t *testing.T) {
 		`bucketd_referred_bytes 1.8446744073709552e+19`,
 		`bucketd_block_clashes 0`,
 		`bucketd_operators_failures_total 0`,
+		`bucketd_server_requests_total{method="GET",status="2xx"} 7`,
+		`bucketd_server_request_seconds_bucket{le="0.001"} 5`,
+		`bucketd_server_request_seconds_bucket{le="+Inf"} 7`,
+		`bucketd_server_request_seconds_sum 0.012`,
 	} {
 		if !strings.Contains("\n"+text, "\n"+line+"\n") {
 			t.Errorf("no line is %s", line)
@@ -173,5 +177,41 @@ func BenchmarkEnded(b *testing.B) {
 		m.Waited(time.Millisecond)
 		m.Tried("2xx", "", time.Millisecond)
 		m.Ended(r, time.Millisecond)
+	}
+}
+
+const goodPage = `# HELP bucketd_server_requests_total Requests, by method and class of status.
+# TYPE bucketd_server_requests_total counter
+bucketd_server_requests_total{method="GET",status="2xx"} 7
+# HELP bucketd_server_request_seconds Time that requests were served.
+# TYPE bucketd_server_request_seconds histogram
+bucketd_server_request_seconds_bucket{le="0.001"} 5
+bucketd_server_request_seconds_bucket{le="+Inf"} 7
+bucketd_server_request_seconds_sum 0.012
+bucketd_server_request_seconds_count 7
+`
+
+// Of a host's page only what begins as it should is told, and nothing of an answer that is no page.
+func TestHostPage(t *testing.T) {
+	for _, it := range []struct {
+		name, page string
+		families   int
+	}{
+		{"its own", goodPage, 2},
+		{"none", "", 0},
+		{"an older host", "bad line\n", 0},
+		{"another's names", "# TYPE go_goroutines gauge\ngo_goroutines 5\n# TYPE bucketd_up gauge\nbucketd_up 0\n", 0},
+		{"a page that is cut", goodPage[:len(goodPage)-30], 0},
+		{"one that never ends", strings.Repeat("bucketd_server_sent_bytes_total 1\n", longestPage), 0},
+	} {
+		t.Run(it.name, func(t *testing.T) {
+			var count atomic.Int64
+			h := host.New(host.Place{}, 1)
+			from := h.Operators(host.Socket(hosttest.Listen(t, operators(&count, map[string]string{pageLine: it.page}))))
+			found, err := hostPage{from}.Gather()
+			if len(found) != it.families || err != nil {
+				t.Errorf("%d families, %v", len(found), err)
+			}
+		})
 	}
 }
