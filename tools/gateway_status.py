@@ -125,6 +125,8 @@ def told(w, gateway, server):
     names = ('bucketd_tenant_quota_bytes{tenant="blue"}', 'bucketd_tenant_keys{tenant="green"}', "bucketd_tenants", "bucketd_operators_failures_total")
     found = [number(page, it) for it in names]
     w.expect("tenants, quotas and blocks stand in metrics", found == [2000, 1, 2, 0] and number(page, "bucketd_stored_bytes") >= 5000, found)
+    puts = number(page, 'bucketd_server_requests_total{method="PUT",status="2xx"}')
+    w.expect("what the host itself has counted, too", puts is not None and puts >= 2, puts)
     w.expect("the operators' secret doesn't", not any("operatorsecret" in it for it in (page, gateway.text())))
     lines = sum(" operator " in line for line in server.lines())
     w.expect("however often it is asked for, operators are asked once in 15 seconds", 2 <= lines <= 2 * (2 + (time.monotonic() - begun) / 15), lines)

@@ -2,6 +2,7 @@
 // the CALL_NUMBER-th does what CALL_DOES says:
 //   refuse       this call alone fails, with the number CALL_ERROR of errno.h
 //   refuse-on    this call fails, and so does each later one
+//   refuse-sync  the first sync from this call on fails
 //   half         a write takes the first half of its bytes, as it may; another call is made
 //   stop         the program ends before this call, as by SIGKILL
 //   lose         so, and the disk loses what was written or cut since the file's last sync
@@ -149,6 +150,15 @@ static int is_refused_now(void) {
 
 static int is_refused(int file) { return is_regular(file) && is_refused_now(); }
 
+// Whether a sync that was counted is the one that fails.
+static int is_first_sync(int file) {
+    static int has_failed = 0;
+    if (has_failed || !is("refuse-sync") || number < 0 || count < number || !is_regular(file)) return 0;
+    has_failed = 1;
+    errno = (int)error;
+    return 1;
+}
+
 static int notes(int file) { return (is("lose") || is("tear")) && is_regular(file); }
 
 // How many bytes of a write are made.
@@ -191,7 +201,7 @@ ssize_t pwritev64(int file, const struct iovec *parts, int many, off_t at) { ret
 #define SYNC(name) \
     int name(int file) { \
         OF(int, name, int); \
-        if (is_refused(file)) return -1; \
+        if (is_refused(file) || is_first_sync(file)) return -1; \
         int done = of(file); \
         if (done == 0) forget(file); \
         return done; \

@@ -8,6 +8,7 @@ import locale
 import os
 import shutil
 import sys
+import tempfile
 import time
 from collections import Counter
 
@@ -173,10 +174,23 @@ def every(request):
     return asks_all(request.config)
 
 
+def amount(name, usual):
+    """How many there are to be: as many as the environment says, by a variable of that name, or else as many as usual."""
+    return int(os.environ.get(name) or usual)
+
+
 @pytest.fixture
 def folder():
     """A new folder, in memory where there is such a file system."""
     it = host.quick_folder()
+    yield it
+    shutil.rmtree(it)
+
+
+@pytest.fixture
+def disk_folder():
+    """A new folder on a disk."""
+    it = tempfile.mkdtemp(prefix="bucketd-tests-")
     yield it
     shutil.rmtree(it)
 

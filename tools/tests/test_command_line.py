@@ -1,4 +1,4 @@
-"""The rows of words.txt: words of the command line, and what the program does."""
+"""The rows of words.txt: words of the command line, and what the program does; and sizes with their units."""
 import os
 import re
 import socket
@@ -7,10 +7,13 @@ import subprocess
 
 import pytest
 
-from host import PATIENCE, is_quick, listens, read
+from host import PATIENCE, command, is_quick, listens, make_host, read
 
 HERE = os.path.dirname(os.path.abspath(__file__))
 LEAST = 130
+UNITS = {"": 1, "B": 1, "kB": 10**3, "KB": 10**3, "MB": 10**6, "GB": 10**9, "TB": 10**12, "KiB": 2**10, "MiB": 2**20, "GiB": 2**30, "TiB": 2**40}
+# What `clap` is given as it is, and refuses.
+NO_SIZES = ["10gb", "10 GB", "1.5GB", "GB", "20000000TB", "-1GB", "+1GB", "10kiB", "10BB", "10GB ", "1_0GB", "\u0661GB", "10\u00e9B", ""]
 
 
 def rows():
@@ -96,3 +99,23 @@ def test_words(expect, program, folder, every):
     expect("all rows are read", len(all_rows) >= LEAST, len(all_rows))
     if left_out:
         expect.skip(f"{left_out} rows that open a file", "a program without a proof takes too long (make test ALL=1)")
+
+
+@pytest.mark.cost(10)
+@pytest.mark.parametrize("unit", [it if it in ("GB", "GiB") else pytest.param(it, marks=pytest.mark.proved) for it in UNITS])
+def test_sizes(expect, program, folder, unit):
+    file = os.path.join(folder, "h")
+    make_host(program, file, ["green"])
+    for digits, words in (("7", ["--quota", f"7{unit}"]), ("0012", [f"--quota=0012{unit}"])):
+        size = int(digits) * UNITS[unit]
+        told = command(program, file, "quota", "--tenant", "green", *words)
+        expect(f"{words}: told", told == (f"quota green {size}", 0), told)
+        told = command(program, file, "usage", "--tenant", "green")
+        expect(f"{words}: kept", told == (f"usage green bytes 0 quota {size}", 0), told)
+
+
+@pytest.mark.parametrize("size", NO_SIZES)
+def test_no_sizes(expect, program, folder, size):
+    for words in (["--quota", size], [f"--quota={size}"]):
+        it = subprocess.run([program, "quota", "--file", "h", "--tenant", "green", *words], capture_output=True, text=True, cwd=folder, timeout=PATIENCE)
+        expect(words, it.returncode == 2 and it.stdout.startswith("error: "), f"{it.returncode} {it.stdout}")

@@ -26,7 +26,6 @@ import shutil
 import signal
 import sqlite3
 import subprocess
-import tempfile
 import threading
 import time
 
@@ -105,19 +104,25 @@ def difference(tenant, shown, step):
     return f"{tenant.name} uses {shown[1]}, not {wanted[1]}; not answered: {step and step.told()}"
 
 
+def settle(server, host, name, waiting):
+    """Settles what was not answered of a tenant, if anything waits for it, by what a server shows; an error where that is neither."""
+    both = Alternatives(host.tenants[name])
+    if name in waiting:
+        both.unanswered(waiting[name])
+    for step in both.settle(model.read(server, name)):
+        host.store(step.brings)
+    host.tenants[name] = both.tenant
+    waiting.pop(name, None)
+
+
 def settled(program, file, host, waiting):
-    """Opens the file anew and settles what was not answered, `waiting` by tenant. What is found otherwise, or None."""
+    """Opens the file anew and settles what was not answered. What is found otherwise, or None."""
     server = Server(program, file)
     try:
         if not server.is_up():
             return f"the file isn't opened: {server.end()}"
-        for name, tenant in host.tenants.items():
-            both = Alternatives(tenant)
-            if name in waiting:
-                both.unanswered(waiting[name])
-            for step in both.settle(model.read(server, name)):
-                host.store(step.brings)
-            host.tenants[name] = both.tenant
+        for name in [*host.tenants]:
+            settle(server, host, name, dict(waiting))
     except (ValueError, RuntimeError) as error:
         return str(error)
     finally:
@@ -207,14 +212,6 @@ def killed(program, file, folder, host, seed, number):
     return sum(load.done for load in loads), found
 
 
-@pytest.fixture
-def disk_folder():
-    """A new folder on a disk."""
-    it = tempfile.mkdtemp(prefix="bucketd-crash-")
-    yield it
-    shutil.rmtree(it)
-
-
 @pytest.mark.cost(60)
 def test_kills(expect, program, disk_folder, full, seed=1):
     file, left, steps = os.path.join(disk_folder, "killed"), budget(full, "kills"), 0
@@ -228,10 +225,10 @@ def test_kills(expect, program, disk_folder, full, seed=1):
     expect("steps were answered before the kills", steps > 0, f"{number} kills; the file has {os.path.getsize(file)} bytes")
 
 
-def made(program, file):
-    """A new file with a host of two tenants and their buckets, as a server that was killed leaves it; and its model."""
-    make_host(program, file, NAMES, "--min-part", str(model.MIN_PART))
-    server, host = Server(program, file), Host(NAMES)
+def made(program, file, names=NAMES, others=()):
+    """A new file with a host of some tenants and their buckets, as a server that was killed leaves it, and its model; and of others."""
+    make_host(program, file, [*names, *others], "--min-part", str(model.MIN_PART))
+    server, host = Server(program, file), Host(names)
     for name in host.tenants:
         for bucket, is_enabled in model.BUCKETS.items():
             answers = [server.ask(name, "PUT", f"/{bucket}")]

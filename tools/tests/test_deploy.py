@@ -9,8 +9,8 @@ from host import TOP
 
 DEPLOY = os.path.join(TOP, "deploy")
 UNITS = ("bucketd.service",)
-INSTALLED = {"bin/bucketd": 0o755, **{name: 0o644 for name in (
-    "share/man/man1/bucketd.1", "share/bash-completion/completions/bucketd", "lib/sysusers.d/bucketd.conf", "share/doc/bucketd/nginx.conf", "share/doc/bucketd/shards.conf",
+INSTALLED = {"bin/bucketd": 0o755, "bin/bucketd-salvage": 0o755, **{name: 0o644 for name in (
+    "share/bucketd/host_pages.py", "share/man/man1/bucketd.1", "share/bash-completion/completions/bucketd", "lib/sysusers.d/bucketd.conf", "share/doc/bucketd/nginx.conf", "share/doc/bucketd/shards.conf",
     *(f"lib/systemd/system/{unit}" for unit in UNITS))}}
 
 
@@ -64,14 +64,15 @@ def test_completions(expect, folder):
 
 def test_words_of_units(expect, program):
     """Each unit's words, by the help of the subcommand: its options are there, and none that it demands is missing."""
-    for unit in UNITS:
-        (words,) = re.findall(r"^ExecStart=/usr/local/bin/bucketd (.*)$", read(DEPLOY, unit), re.M)
+    lines = [(unit, words) for unit in UNITS for words in re.findall(r"^Exec(?:Start|Stop)=/usr/local/bin/bucketd (.*)$", read(DEPLOY, unit), re.M)]
+    expect("they start it and tell it to stop", [words.split()[0] for _, words in lines] == ["serve", "tell"] * len(UNITS), lines)
+    for unit, words in lines:
         name, *rest = words.split()
         help = run([program, "help", name]).stdout
         given = {word for word in rest if word.startswith("--")}
         usage, options = re.search(r"^Usage: (.*)$", help, re.M)[1], set(re.findall(r"^ .*?(--[\w-]+)", help, re.M))
         demanded = set(re.findall(r"(?<!\[)(--[\w-]+)", usage))
-        expect(f"the words of {unit}", given <= options and demanded <= given, f"unknown {given - options}, missing {demanded - given}")
+        expect(f"the words of {unit}: {name}", given <= options and demanded <= given, f"unknown {given - options}, missing {demanded - given}")
 
 
 def install(program, prefix, *more, destdir=""):

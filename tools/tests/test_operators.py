@@ -9,7 +9,7 @@ import time
 
 import pytest
 
-from host import PATIENCE, all_of, is_fast, make_host, run
+from host import PATIENCE, all_of, is_fast, make_host, request, run
 from test_serve import BUSY, Served
 
 SECRET = "Correct;horse:9battery"
@@ -91,6 +91,67 @@ class Load:
         for thread in self.threads:
             thread.join()
         return sum(self.counts)
+
+
+ORDERS = [
+    ("tenant-add", "--tenant", "blue", "--quota", "100000"),
+    ("tenant-add", "--tenant", "blue", "--quota", "1"),
+    ("tenant-add", "--tenant", "Gr$en", "--quota", "1"),
+    ("quota", "--tenant", "blue", "--quota", "18446744073709551615"),
+    ("quota", "--tenant", "blue", "--quota", "200000"),
+    ("key-add", "--tenant", "blue", "--name", "k2", "--secret", 'quoted"\\secret'),
+    ("key-add", "--tenant", "blue", "--name", "k3", "--secret", "-"),
+    ("key-add", "--tenant", "blue", "--name", "k3", "--secret", "short"),
+    ("keys", "--tenant", "blue"),
+    ("key-remove", "--tenant", "blue", "--name", "k2"),
+    ("key-remove", "--tenant", "blue", "--name", "k2"),
+    ("usage", "--tenant", "blue"),
+    ("usage", "--tenant", 'a "name"\n{}'),
+    ("tenants",),
+    ("report",),
+    ("sweep", "--limit", "4294967295"),
+]
+
+
+def test_one_language(program, folder, expect):
+    """Each order on a file, and told to a server of an equal file by port, by socket and by the environment."""
+    secret = os.path.join(folder, "secret")
+    with open(secret, "w", opener=lambda path, flags: os.open(path, flags, 0o600)) as out:
+        out.write(SECRET + "\n")
+    files = [make_host(program, os.path.join(folder, name), ["green"]) for name in ("host", "by_port", "by_socket", "by_environment")]
+    wanted = [run(program, None, *order, "--file", files[0], given="greensecret\n")[:2] for order in ORDERS]
+    door = os.path.join(folder, "door")
+    for file, listens_on in ((files[1], "--operator-port"), (files[2], "--operator-socket"), (files[3], None)):
+        socket_given = listens_on == "--operator-socket"
+        serve = ("--operator-socket", door) if socket_given else ("--operator-port", "0")
+        with Served(program, file, *serve, "--operator-secret-file", secret) as it:
+            more, environment = [], {}
+            if socket_given:
+                more = ["--operator-socket", door, "--operator-secret-file", secret]
+            else:
+                port = str(it.operators())
+                if listens_on:
+                    more = ["--operator-port", port, "--operator-secret-file", secret]
+                else:
+                    environment = {"BUCKETD_OPERATOR_PORT": port, "BUCKETD_OPERATOR_SECRET_FILE": secret}
+            for order, was in zip(ORDERS, wanted):
+                told = run(program, None, *order, *more, given="greensecret\n", **environment)[:2]
+                expect(f"{' '.join(order)} to a server: {listens_on}", told == was, f"{told} {was}")
+            copy = file + ".copy"
+            told = run(program, None, "backup", "--to", copy, *more, **environment)[:2]
+            expect(f"a backup by a server: {listens_on}", told == ("backup", 0) and os.path.exists(copy), told)
+            told = run(program, None, "tenants", *[word for word in more if word not in ("--operator-secret-file", secret)],
+                       **{name: value for name, value in environment.items() if "SECRET" not in name})[:2]
+            expect(f"no order without the secret: {listens_on}", told == ("bad line", 1), told)
+    both = {"BUCKETD_FILE": files[0], "BUCKETD_OPERATOR_PORT": "1"}
+    told = run(program, None, "tenants", BUCKETD_FILE=files[0])[:2]
+    expect("a file of the environment", told == run(program, None, "tenants", "--file", files[0])[:2], told)
+    told = run(program, None, "tenants", "--file", files[0], **{**both, "BUCKETD_FILE": "none"})[:2]
+    expect("a typed file wins", told[1] == 0, told)
+    expect("a file and a server of the environment", run(program, None, "tenants", **both)[1] == 2, None)
+    for port in ("", "none", "65536", "-1"):
+        told = run(program, None, "tenants", BUCKETD_OPERATOR_PORT=port)
+        expect(f"a port of the environment that is none: {port!r}", told[1] == 2, told)
 
 
 def test_each_line(it, expect):
@@ -257,6 +318,37 @@ def test_counted(program, file, expect):
     expect("bucketd tell where nobody listens", told == ("fault", 1), f"{told}")
 
 
+def test_stop(program, folder, file, expect):
+    """A server that is told to stop ends with status 0, once the answers that are due went out."""
+    path = os.path.join(folder, "operator.secret")
+    with open(os.open(path, os.O_CREAT | os.O_WRONLY, 0o600), "w") as out:
+        out.write(SECRET + "\n")
+    with Operated(program, file, "--operator-secret-file", path, timeout=60) as it:
+        data = os.urandom(it.large)
+        it.get("PUT", "/plans", b"")
+        it.get("PUT", "/plans/large", data)
+        for name, line in (("without the secret", b'{"op":"stop"}'), ("with another secret", b'Correct;horse:9batterx {"op":"stop"}'),
+                           ("with a member more", SECRET.encode() + b' {"op":"stop","to":"x"}')):
+            told = it.send(line + b"\n")
+            expect(f"a stop {name}", told == b"bad line\n" and it.get("HEAD", "/plans")[0] == 200, f"{told!r}")
+        slow = it.socket(room=4096)
+        slow.sendall(request("green", "GET", "/plans/large"))
+        begun = slow.recv(1000)
+        told = it.send(SECRET.encode() + b' {"op":"stop"}\n')
+        expect("a stop is answered", told == b"stop\n", f"{told!r}")
+        answer = begun + all_of(slow)
+        expect("a request that was carried out before is answered whole", answer.endswith(data), f"{len(answer)} bytes")
+        out, _ = it.process.communicate(timeout=PATIENCE)
+        expect("the server ends with status 0", (it.process.returncode, out) == (0, b""), f"{it.process.returncode} {out}")
+    with Operated(program, file) as it:
+        expect("the host opens again", it.get("GET", "/plans/large")[2] == data)
+        told = it.tell({"op": "stop", "at": 5})
+        it.process.communicate(timeout=PATIENCE)
+        expect("bucketd tell of a stop with an `at`", (told, it.process.returncode) == (("stop", 0), 0), f"{told} {it.process.returncode}")
+        told = it.tell({"op": "stop"})
+        expect("a stop where nobody listens", told == ("fault", 1), f"{told}")
+
+
 @pytest.mark.cost(60)
 def test_many_tenants(program, folder, expect):
     """A list of tenants that is longer than any line that a host takes: 240 of the longest names are enough for that."""
@@ -269,3 +361,77 @@ def test_many_tenants(program, folder, expect):
         expect("all of them are told", len(told) > 16384 and found == quotas, f"{len(told)} {told[:100]}")
         printed = it.tell({"op": "tenants"})
         expect("and printed by bucketd tell", printed == (told.removesuffix("\n"), 0), f"{printed[1]} {printed[0][:100]}")
+
+
+def figures(page):
+    """The names in a page of Prometheus' text format, with their numbers."""
+    return {name: float(number) for name, number in re.findall(r"^([a-z_]+(?:\{[^}]*\})?) ([0-9.]+)$", page, re.M)}
+
+
+def test_about_itself(program, file, expect):
+    """What a server tells of itself: its lines change nothing, aren't logged, and don't count as served."""
+    with Operated(program, file, "--log", count=4) as it:
+        told = it.tell({"op": "health"})
+        expect("health", told == ("health ok", 0), f"{told}")
+        asked = [it.get("PUT", "/plans", b"")[0], it.get("PUT", "/plans/a", b"x" * 3000)[0], it.get("GET", "/plans/none")[0]]
+        page = it.order(op="metrics", at=5)
+        found, name = figures(page), 'bucketd_server_requests_total{method="%s",status="%s"}'
+        counts = [found.get(name % of) for of in (("PUT", "2xx"), ("GET", "4xx"), ("GET", "2xx"), ("other", "none"))]
+        expect("metrics count requests", asked == [200, 200, 404] and counts == [2, 1, 0, 0], f"{asked} {page}")
+        times = [found.get(f"bucketd_server_request_seconds_{of}") for of in ("count", 'bucket{le="+Inf"}', 'bucket{le="30.000"}')]
+        expect("and their times", times == [3, 3, 3] and found.get("bucketd_server_request_seconds_sum", -1) >= 0, page)
+        bytes_found = [found.get(f"bucketd_server_{of}_bytes_total", 0) for of in ("received", "sent")]
+        expect("and their bytes", 3000 < bytes_found[0] < 6000 and 100 < bytes_found[1] < 6000, f"{bytes_found}")
+        expect("no name of a tenant, bucket or object is in them", not any(word in page for word in ("green", "plans")), page)
+        port = {"BUCKETD_OPERATOR_PORT": str(it.door)}
+        for name, words, environment in (("by its port", ["--operator-port", str(it.door)], {}), ("by the environment", [], port),
+                                         ("whose file doesn't count", [], {**port, "BUCKETD_FILE": file})):
+            told = run(program, None, "health", *words, **environment)[:2]
+            expect(f"bucketd health {name}", told == ("health ok", 0), f"{told}")
+            told = run(program, None, "metrics", *words, **environment)[:2]
+            expect(f"bucketd metrics {name}", told[1] == 0 and figures(told[0]).keys() == found.keys(), f"{told}")
+        for line in ({"op": "health", "more": 1}, {"op": "metrics", "at": "now"}, {"op": "Health"}):
+            # (the first of them is the last request that counts)
+            told = it.tell(line)
+            expect(f"bad form: {line}", told in (("bad line", 1), ("fault", 1)), f"{told}")
+        it.process.communicate(timeout=PATIENCE)
+        expect("three requests and one bad line are four", it.process.returncode == 0, it.process.returncode)
+        logged = [text for text in it.lines() if " operator " in text]
+        expect("only the bad line is logged", len(logged) == 1 and "bad_line" in logged[0], f"{logged}")
+
+
+OWN = ("stop", "health", "metrics")
+
+
+def test_stop(program, folder, file, expect):
+    """`bucketd stop` ends a server, by its port, by its socket and by the environment, and none without its secret."""
+    door, secret = os.path.join(folder, "door"), os.path.join(folder, "secret")
+    with open(secret, "w", opener=lambda path, flags: os.open(path, flags, 0o600)) as out:
+        out.write(SECRET + "\n")
+    for name in ("port", "socket", "environment"):
+        listens_on = ("--operator-socket", door) if name == "socket" else ("--operator-port", "0")
+        with Served(program, file, *listens_on, "--operator-secret-file", secret) as it:
+            port = None if name == "socket" else str(it.operators())
+            if name == "environment":
+                words, environment = [], {"BUCKETD_OPERATOR_PORT": port, "BUCKETD_OPERATOR_SECRET_FILE": secret}
+            else:
+                words, environment = [f"--operator-{name}", door if name == "socket" else port, "--operator-secret-file", secret], {}
+            told = run(program, None, "stop", *(words[:2] or ["--operator-port", port]))[:2]
+            expect(f"no stop without the secret: {name}", told == ("bad line", 1) and it.process.poll() is None, f"{told}")
+            told = run(program, None, "health", *words, **environment)[:2]
+            expect(f"bucketd health with the secret: {name}", told == ("health ok", 0), f"{told}")
+            told = run(program, None, "stop", *words, **environment)[:2]
+            it.process.communicate(timeout=PATIENCE)
+            expect(f"bucketd stop: {name}", (told, it.process.returncode) == (("stop", 0), 0), f"{told} {it.process.returncode}")
+        for own in OWN:
+            told = run(program, None, own, *words, **environment)
+            expect(f"bucketd {own} where no server is: {name}", told[:2] == ("fault", 1) and told[2].count("\n") == 1, f"{told}")
+
+
+@pytest.mark.parametrize("name", OWN)
+def test_no_server_named(program, folder, file, expect, name):
+    for words, environment in (([], {}), ([], {"BUCKETD_FILE": file}), (["--operator-secret-file", "none"], {"BUCKETD_FILE": file}),
+                               ([], {"BUCKETD_OPERATOR_PORT": "none"}), (["--file", file], {}),
+                               (["--operator-port", "1", "--operator-socket", "none"], {})):
+        told, status, _ = run(program, folder, name, *words, **environment)
+        expect(f"bucketd {name} {' '.join(words)} {environment}", status == 2 and told.startswith("error: "), f"{status} {told}")

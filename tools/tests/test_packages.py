@@ -25,13 +25,13 @@ SYSTEM = "usr/lib/systemd/system"
 FILES = {
     "bucketd": ["etc/bucketd/bucketd.conf", "usr/lib/bucketd/choose-build", "usr/lib/bucketd/x86-64-v2/bucketd", "usr/lib/bucketd/x86-64-v3/bucketd",
                 *(f"{SYSTEM}/{it}" for it in (*UNITS[:1], "bucketd.service.d/10-package.conf")), "usr/lib/sysusers.d/bucketd.conf",
-                "usr/share/bash-completion/completions/bucketd", "usr/share/man/man1/bucketd.1.gz",
+                "usr/bin/bucketd-salvage", "usr/share/bucketd/host_pages.py", "usr/share/bash-completion/completions/bucketd", "usr/share/man/man1/bucketd.1.gz",
                 *(f"usr/share/doc/bucketd/{it}" for it in ("API.md", "OPERATING.md", "README.md", "SECURITY.md", "changelog.gz", "copyright", "nginx.conf", "shards.conf"))],
     "bucketd-gateway": ["etc/bucketd/bucketd.nft", "etc/bucketd/gateway.conf", "usr/bin/bucketd-gateway", "usr/share/man/man1/bucketd-gateway.1.gz",
                         *(f"{SYSTEM}/{it}" for it in (*UNITS[1:], *(f"{it}.d/10-package.conf" for it in UNITS[1:]))), "usr/lib/sysusers.d/bucketd-gateway.conf",
                         *(f"usr/share/doc/bucketd-gateway/{it}" for it in ("CLIENTS.md", "GATEWAY.md", "changelog.gz", "copyright", "fail2ban-gateway.conf", "gateway-alerts.yml", "gateway-board.json"))],
 }
-PROGRAMS = ("choose-build", "/bucketd", "bin/bucketd-gateway")
+PROGRAMS = ("choose-build", "/bucketd", "bin/bucketd-gateway", "bin/bucketd-salvage")
 # What /proc/cpuinfo tells of a processor of x86-64-v2, and what x86-64-v3 asks for beside that.
 V2 = "fpu sse sse2 cx16 lahf_lm popcnt pni sse4_1 sse4_2 ssse3 xsave".split()
 V3 = "abm avx avx2 bmi1 bmi2 f16c fma movbe xsave".split()

@@ -17,9 +17,9 @@ pytestmark = pytest.mark.cost(20)
 class OnSocket(Program):
     """A server on Unix sockets, from when it listens on; `is_up()` is false if it ended before that."""
 
-    def __init__(self, program, file, path, *options, count=10_000, operators=None, **env):
+    def __init__(self, program, file, path, *options, count=10_000, operators=None, timeout=6, **env):
         self.path, self.operator_path = path, operators
-        words = [program, "serve", "--file", file, "--socket", path, "--count", str(count), "--timeout", "6", "--force", *options]
+        words = [program, "serve", "--file", file, "--socket", path, "--count", str(count), "--timeout", str(timeout), "--force", *options]
         super().__init__([*words, *(["--operator-socket", operators] if operators else [])], **env)
         begun, wanted = time.monotonic(), 2 if operators else 1
         while self.is_up() and len(self.lines()) < wanted and time.monotonic() - begun < PATIENCE:
