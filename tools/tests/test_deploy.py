@@ -52,7 +52,7 @@ def test_completions(expect, folder):
     for name in ("green.host", "green host"):
         open(os.path.join(folder, name), "w").close()
     for words, wanted in (
-        (["r"], ["report"]), (["s"], ["script", "serve", "sweep"]), (["serve", "--po"], ["--port"]), (["sweep", "--limit", ""], []),
+        (["r"], ["report"]), (["s"], ["script", "serve", "stop", "sweep"]), (["serve", "--po"], ["--port"]), (["sweep", "--limit", ""], []),
         (["init", "--max-body", "9", "--m"], ["--min-part"]), (["sweep", "--limit", "7", "--li"], []), (["report", "--file", "gr"], ["green host", "green.host"]),
         (["report", "--file", "=", "green."], ["green.host"]), (["report", "--file", "="], ["green host", "green.host"]), (["sweep", "--limit", "="], []),
         (["help", "key-"], ["key-add", "key-remove"]), (["help", "init", ""], []), (["stop", "--f"], []),
@@ -65,7 +65,7 @@ def test_completions(expect, folder):
 def test_words_of_units(expect, program):
     """Each unit's words, by the help of the subcommand: its options are there, and none that it demands is missing."""
     lines = [(unit, words) for unit in UNITS for words in re.findall(r"^Exec(?:Start|Stop)=/usr/local/bin/bucketd (.*)$", read(DEPLOY, unit), re.M)]
-    expect("they start it and tell it to stop", [words.split()[0] for _, words in lines] == ["serve", "tell"] * len(UNITS), lines)
+    expect("they start it and tell it to stop", [words.split()[0] for _, words in lines] == ["serve", "stop"] * len(UNITS), lines)
     for unit, words in lines:
         name, *rest = words.split()
         help = run([program, "help", name]).stdout

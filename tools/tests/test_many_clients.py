@@ -432,10 +432,11 @@ def test_resets_at_each_state(expect, program, folder):
                     it.recv(100)
                 resets(it)
         status, took = server.get("HEAD", "/plans")[0], time.monotonic()
-        while (left := len(os.listdir(f"/proc/{server.process.pid}/fd")) - before) and time.monotonic() - took < PATIENCE:
+        while (left := len(os.listdir(f"/proc/{server.process.pid}/fd")) - before) > 0 and time.monotonic() - took < PATIENCE:
             time.sleep(0.01)
         expect("a request after 30 resets", status == 200 and server.get("GET", "/plans/y")[0] == 404, status)
-        expect("their files are closed", left == 0, left)
+        # (the one that put may not have been closed yet when they were counted)
+        expect("their files are closed", left <= 0, left)
         for _ in range(5):
             resets_after(server, put)
         expect("a put whose client is gone is stored", server.get("GET", "/plans/y")[2] == b"a" * 5000)
