@@ -36,17 +36,23 @@ class Strangers:
 
     def __init__(self, server):
         server.put("/large", os.urandom(LARGE))
-        begun = time.monotonic()
         self.links = [server.socket() for _ in range(SILENT + READERS)]
         for it in self.links[SILENT:]:
             it.sendall(request("green", "GET", "/plans/large", None))
-        server.get("/key0", BODY)  # (it is answered after all of these)
-        print(f"  {READERS} answers of 16 MiB wait after {time.monotonic() - begun:.1f} s", file=sys.stderr, flush=True)
         self.senders, self.lost, self.over = [server.socket() for _ in range(SENDERS)], 0, threading.Event()
         for i, it in enumerate(self.senders):
             it.sendall(request("green", "PUT", f"/plans/slow{i}", length=LARGE))
         self.thread = threading.Thread(target=self.send)
         self.thread.start()
+        self.held_up = self.settled(server)
+
+    @staticmethod
+    def settled(server):
+        """Seconds until ten GETs, one after another, took less than 100 ms each: an answer without room in files holds up the others."""
+        begun, quick = time.monotonic(), 0
+        while quick < 10 and time.monotonic() - begun < 150:
+            quick = quick + 1 if server.get("/key0", BODY) < 100 else 0
+        return time.monotonic() - begun
 
     def send(self):
         while not self.over.wait(0.05):
@@ -83,7 +89,7 @@ def beside(o, folder):
         print(f"| {name} | {cells(turns)} |")
     ratios = sorted(b.rate / a.rate for a, b in found)
     print(f"\nThe ratio of a turn is {statistics.median(ratios):.2f} ({ratios[0]:.2f} to {ratios[-1]:.2f}). Resident MiB beside strangers: {memory}. "
-          f"{strangers.lost} slow senders were cut off.", flush=True)
+          f"{strangers.lost} slow senders were cut off. GETs were held up for {strangers.held_up:.1f} s before.", flush=True)
 
 
 def put_over_and_over(server, is_over, count):

@@ -193,7 +193,7 @@ class Debian:
     def end_all(self):
         """Ends what was begun, the last one first, as systemd does."""
         for pid in sorted(self.begun, reverse=True):
-            self.run("kill", str(pid))
+            self.run("sh", "-c", f"kill {pid}")
             self.begun.pop(pid).communicate(timeout=PATIENCE)
 
     def ended(self):
@@ -389,18 +389,18 @@ def serves(expect, debian):
     """What README says to do once the packages are installed: `systemctl start` is done by hand, and `aws` is that of this machine."""
     first, *commands = first_minute()
     expect("README installs both packages", first.startswith("apt install ./bucketd_*.deb ./bucketd-gateway_*.deb "), first)
-    shown, exports = [], ""
+    shown, exports = [], []
     for command in commands:
         if service := re.fullmatch(r"systemctl start (\S+)", command):
             shown.append(starts(expect, debian, service[1]))
         elif command.startswith("export "):
-            exports = command
+            exports.append(command)
         elif command.startswith("aws "):
-            types(expect, command, debian.words(["bash", "-c", f"{exports}; {command}"], inside=False), "aws")
+            types(expect, command, debian.words(["bash", "-c", "; ".join([*exports, command])], inside=False), "aws")
         elif command.startswith("cd "):
             debian.folder = command[len("cd "):]
         else:
-            types(expect, command, debian.words(["sh", "-c", f"cd {debian.folder} && {command}"]))
+            types(expect, command, debian.words(["sh", "-c", f"cd {debian.folder} && " + "; ".join([*exports, command])]))
     expect("they start both", len(shown) == 2 and exports)
     return shown[0]
 
