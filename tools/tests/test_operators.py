@@ -249,6 +249,10 @@ def test_public_port(it, expect):
     answer = it.exchange(line + b"\r\n\r\n")
     told = it.order(op="usage", tenant="public")
     expect("an operator's line on the public port", answer.startswith(b"HTTP/1.1 400 ") and told == "42 NoSuchTenant\n", f"{answer} {told}")
+    for op in ("health", "metrics", "stop"):
+        answer = it.exchange(b'{"op":"%s"}\n\r\n\r\n' % op.encode())
+        expect(f"{op} on the public port", answer.startswith(b"HTTP/1.1 400 ") and b"health ok" not in answer and b"bucketd_server" not in answer, answer)
+    expect("the server goes on after these", it.get("HEAD", "/plans")[0] == 200)
 
 
 def test_turns(blue, expect):
