@@ -12,7 +12,6 @@ use crate::disks::copy_disk;
 use crate::fault::BackupFault;
 use sqlite::{Alter, Connection, FileStore, Files};
 use sqlite_disk::Disk;
-use std::alloc::Global;
 
 /// Until a fault shuts a connection, its databases have their schemas.
 fn look<S: Alter>(connection: &Connection<S>)
@@ -25,7 +24,7 @@ fn look<S: Alter>(connection: &Connection<S>)
 /// another disk. Neither has uncommitted changes. If it fails, the other disk has no copy, and the
 /// files keep their contents.
 pub fn back_up<D: Disk + Drop, E: Disk>(
-    alloc: Global,
+    rt: &HostRuntime,
     connection: Connection<FileStore<D>>,
     to: &mut E,
 ) -> Result<Files<D>, BackupFault>
@@ -39,6 +38,6 @@ pub fn back_up<D: Disk + Drop, E: Disk>(
         Ok(files) => files,
         Err((error, _)) => return Err(BackupFault::Log(error)),
     };
-    copy_disk(alloc, &mut files.db, to)?;
+    copy_disk(rt, &mut files.db, to)?;
     Ok(files)
 }

@@ -3,7 +3,6 @@
 ghost use Rattle.std.specs.Prelude.{◌≡◌, false, IfOk, IsTrue, OnOk};
 ghost use Rattle.sqlite.specs.Closing.{IsCopied};
 ghost use Rattle.sqlite.specs.Files.{file_state};
-ghost use Rattle.sqlite_std_file.specs.File.{file_is_usable};
 ghost use Rattle.sqlite_wal.specs.Reads.{AreClean, IsClean, OnlyReads};
 ghost use Rattle.bh_backup.specs.Copies.{HasAlone, IsFileOf};
 ghost use Rattle.bh_backup.specs.Names.{is_beside};
@@ -13,8 +12,8 @@ use crate::disks::copy_disk;
 use crate::fault::BackupFault;
 use crate::leftovers::refuse_foreign;
 use crate::names::{Partial, discard, give_name, refuse_taken};
-use bh_file::open_files;
-use sqlite::{Connection, FileFrom, FileStore, Files, Start};
+use bh_file::{HostFile, open_files};
+use sqlite::{Connection, FileStore, Files, Start};
 use sqlite_disk::Disk;
 
 /// A host's closed files, and the copy of its database file.
@@ -28,13 +27,13 @@ pub struct Saved<D: Disk + Drop, E: Disk + Drop> {
 #[derive(Drop)]
 struct Begun<S: Start> {
     partial: Partial,
-    made: Files<FileFrom<S>>,
+    made: Files<HostFile<S>>,
 }
 
 /// Opens or creates the `.partial` file of a new file. Fails if the new file can't have its path, or
 /// another program's database is in the way.
 fn begin<S: Start>(rt: &HostRuntime, path: &str, start: S) -> Result<Begun<S>, BackupFault>
-    ensures { IfOk result (λ begun. IsTrue (file_is_usable S.Start begun.made.db)) }
+    ensures { IfOk result (λ begun. IsTrue (⟦<HostFile<S> as Disk>⟧.is_usable begun.made.db)) }
 {
     refuse_taken(rt, path)?;
     refuse_foreign(rt, path)?;
@@ -61,7 +60,7 @@ fn fill_from<D: Disk + Drop, E: Disk>(
     ensures log { files.new.log ≡ files.old.log }
 {
     refuse_taken(rt, path)?;
-    copy_disk(rt.alloc(), &mut files.db, copy)?;
+    copy_disk(rt, &mut files.db, copy)?;
     give_name(rt, partial, path, &files.db, copy)
 }
 
@@ -71,10 +70,10 @@ pub fn save_files<D: Disk + Drop, S: Start>(
     files: &mut Files<D>,
     path: &str,
     start: S,
-) -> Result<FileFrom<S>, BackupFault>
+) -> Result<HostFile<S>, BackupFault>
     requires { IsTrue (D.Disk.is_usable files.old.db) }
     ensures copied { IfOk result (λ copy. IsClean D.Disk files.new.db
-        → HasAlone ⟦<FileFrom<S> as Disk>⟧ (D.Disk.seen files.old.db) copy) }
+        → HasAlone ⟦<HostFile<S> as Disk>⟧ (D.Disk.seen files.old.db) copy) }
     ensures named { OnOk result (is_beside path.now ≡ false) }
     ensures read { OnlyReads D.Disk files.old.db files.new.db }
     ensures log { files.new.log ≡ files.old.log }
@@ -105,7 +104,7 @@ fn fill<D: Disk + Drop, E: Disk>(
 {
     // The process that had locked the file until now may have renamed it.
     refuse_taken(rt, path)?;
-    let files = back_up(rt.alloc(), connection, copy)?;
+    let files = back_up(rt, connection, copy)?;
     give_name(rt, partial, path, &files.db, copy)?;
     Ok(files)
 }
@@ -123,10 +122,10 @@ pub fn save<D: Disk + Drop, S: Start>(
     connection: Connection<FileStore<D>>,
     path: &str,
     start: S,
-) -> Result<Saved<D, FileFrom<S>>, BackupFault>
+) -> Result<Saved<D, HostFile<S>>, BackupFault>
     ensures kept { IfOk result (λ saved. AreClean D.Disk saved.files.log saved.files.db → IsCopied connection saved.files) }
     ensures copied { IfOk result (λ saved. AreClean D.Disk saved.files.log saved.files.db
-        → IsFileOf ⟦<FileFrom<S> as Disk>⟧ (file_state connection).committed saved.copy) }
+        → IsFileOf ⟦<HostFile<S> as Disk>⟧ (file_state connection).committed saved.copy) }
     ensures named { OnOk result (is_beside path.now ≡ false) }
 {
     let Begun { partial, mut made } = begin(rt, path, start)?;

@@ -8,6 +8,7 @@ ghost use Rattle.bh_command_line.specs.Carrying.{IsMadeIn, IsWorkedIn, IsChecked
 
 use crate::works::work_of;
 use bh_commands::{init_file, reading_of, work_in_file};
+use bh_file::HostFile;
 use bh_maintenance::fault::Fault;
 use bh_maintenance::printed::Printed;
 use bh_maintenance::{ClockRead, backup_file, check_file, export_file, import_file};
@@ -15,7 +16,7 @@ use bh_task::{FileAt, HostTask};
 use bh_types::block_digest::BlockDigest;
 use bh_types::limits::{Limits, Tuning};
 use bh_words::{ClockGiven, Leap};
-use sqlite::{FileFrom, Start};
+use sqlite::Start;
 use sqlite_disk::Disk;
 
 /// The digest function with the given name.
@@ -35,7 +36,7 @@ pub(crate) fn make_in<S: Start>(
     limits: Limits,
     digest: Option<BlockDigest>,
 ) -> Result<Printed, Fault>
-    ensures { IfOk result (IsMadeIn ⟦<FileFrom<S> as Disk>⟧ (image_at S.Start) limits digest) }
+    ensures { IfOk result (IsMadeIn ⟦<HostFile<S> as Disk>⟧ (image_at S.Start) limits digest) }
 {
     let FileAt { path, start } = file;
     let digest = known(digest)?;
@@ -48,7 +49,7 @@ pub(crate) fn back_up_in<S: Start, T: Start>(
     of: FileAt<S>,
     to: FileAt<T>,
 ) -> Result<Printed, Fault>
-    ensures { IfOk result (IsBackedUpTo ⟦<FileFrom<S> as Disk>⟧ (image_at S.Start) ⟦<FileFrom<T> as Disk>⟧) }
+    ensures { IfOk result (IsBackedUpTo ⟦<HostFile<S> as Disk>⟧ (image_at S.Start) ⟦<HostFile<T> as Disk>⟧) }
 {
     let FileAt { path, start } = of;
     let FileAt {
@@ -67,7 +68,7 @@ pub(crate) fn export_in<S: Start, T: Start, U: Start>(
     made: U,
 ) -> Result<Printed, Fault>
     requires { HoldsSoundHost (image_at S.Start) }
-    ensures { IfOk result (IsExportedTo ⟦<FileFrom<S> as Disk>⟧ (image_at S.Start) ⟦<FileFrom<T> as Disk>⟧ ⟦<FileFrom<U> as Disk>⟧
+    ensures { IfOk result (IsExportedTo ⟦<HostFile<S> as Disk>⟧ (image_at S.Start) ⟦<HostFile<T> as Disk>⟧ ⟦<HostFile<U> as Disk>⟧
         (string_bytes tenant)) }
 {
     let FileAt { path, start } = of;
@@ -96,7 +97,7 @@ pub(crate) fn import_in<S: Start, T: Start>(
 ) -> Result<Printed, Fault>
     requires host { HoldsSoundHost (image_at S.Start) }
     requires given { HoldsSoundHost (image_at T.Start) }
-    ensures { IfOk result (IsImportedFrom ⟦<FileFrom<S> as Disk>⟧ (image_at S.Start) ⟦<FileFrom<T> as Disk>⟧ (image_at T.Start) leap) }
+    ensures { IfOk result (IsImportedFrom ⟦<HostFile<S> as Disk>⟧ (image_at S.Start) ⟦<HostFile<T> as Disk>⟧ (image_at T.Start) leap) }
 {
     let FileAt { path, start } = to;
     let FileAt {
@@ -118,7 +119,7 @@ pub(crate) fn import_in<S: Start, T: Start>(
 
 /// Checks a file's host.
 pub(crate) fn check_in<S: Start>(rt: &HostRuntime, file: FileAt<S>) -> Result<Printed, Fault>
-    ensures { IfOk result (IsCheckedIn ⟦<FileFrom<S> as Disk>⟧ (image_at S.Start)) }
+    ensures { IfOk result (IsCheckedIn ⟦<HostFile<S> as Disk>⟧ (image_at S.Start)) }
 {
     let FileAt { path, start } = file;
     Ok(check_file(rt, path.as_str(), start)?.into_printed())
@@ -133,7 +134,7 @@ pub(crate) fn work_in<S: Start>(
     asked: HostTask,
 ) -> Result<Printed, Fault>
     requires { HoldsSoundHost (image_at S.Start) }
-    ensures { IfOk result (IsWorkedIn ⟦<FileFrom<S> as Disk>⟧ (image_at S.Start) (string_bytes file.path) tuning clock asked) }
+    ensures { IfOk result (IsWorkedIn ⟦<HostFile<S> as Disk>⟧ (image_at S.Start) (string_bytes file.path) tuning clock asked) }
 {
     let FileAt { path, start } = file;
     let work = work_of(rt, path.as_str(), asked)?;

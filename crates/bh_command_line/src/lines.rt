@@ -10,11 +10,12 @@ use crate::failure::Failure;
 use crate::files::{back_up_in, check_in, export_in, import_in, known, make_in, work_in};
 use crate::input::answer_input;
 use crate::telling::tell;
+use bh_file::HostFile;
 use bh_maintenance::fault::Fault;
 use bh_maintenance::printed::Printed;
 use bh_task::{LineTask, Maintenance, Starts, task_of};
 use bh_words::Line;
-use sqlite::{FileFrom, Start, Wary};
+use sqlite::{Start, Wary};
 use sqlite_disk::Disk;
 
 /// Carries out work on files whose hosts aren't being served.
@@ -24,7 +25,7 @@ fn maintain<S: Start, T: Start, U: Start>(
 ) -> Result<Printed, Fault>
     requires host { HoldsSoundHost (image_at S.Start) }
     requires other { HoldsSoundHost (image_at T.Start) }
-    ensures { IfOk result (IsMaintained ⟦<FileFrom<S> as Disk>⟧ ⟦<FileFrom<T> as Disk>⟧ ⟦<FileFrom<U> as Disk>⟧
+    ensures { IfOk result (IsMaintained ⟦<HostFile<S> as Disk>⟧ ⟦<HostFile<T> as Disk>⟧ ⟦<HostFile<U> as Disk>⟧
         (image_at S.Start) (image_at T.Start) asked) }
 {
     match asked {
@@ -47,7 +48,7 @@ pub fn carry_task<S: Start, T: Start, U: Start>(
 ) -> Result<Printed, Fault>
     requires host { HoldsSoundHost (image_at S.Start) }
     requires other { HoldsSoundHost (image_at T.Start) }
-    ensures { IfOk result (IsCarriedOut ⟦<FileFrom<S> as Disk>⟧ ⟦<FileFrom<T> as Disk>⟧ ⟦<FileFrom<U> as Disk>⟧
+    ensures { IfOk result (IsCarriedOut ⟦<HostFile<S> as Disk>⟧ ⟦<HostFile<T> as Disk>⟧ ⟦<HostFile<U> as Disk>⟧
         (image_at S.Start) (image_at T.Start) task) }
 {
     match task {
@@ -82,7 +83,7 @@ pub fn carry_task<S: Start, T: Start, U: Start>(
 /// can't be opened. It has no host (`47 NotAHostFile`), or for `init` isn't empty. The clock can't
 /// be read, or is too far ahead. The event is refused.
 pub fn carry_out(rt: &HostRuntime, line: Line) -> Result<Printed, Failure>
-    ensures { IfOk result (IsDoneSomewhere ⟦<FileFrom<Wary> as Disk>⟧ ⟦<FileFrom<Wary> as Disk>⟧ ⟦<FileFrom<Wary> as Disk>⟧
+    ensures { IfOk result (IsDoneSomewhere ⟦<HostFile<Wary> as Disk>⟧ ⟦<HostFile<Wary> as Disk>⟧ ⟦<HostFile<Wary> as Disk>⟧
         (image_at ⟦<Wary as Start>⟧) (image_at ⟦<Wary as Start>⟧) line) }
 {
     let starts = Starts {

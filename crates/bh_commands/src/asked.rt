@@ -31,6 +31,8 @@ pub struct Serving {
     pub manner: Manner,
     /// How many connections are open at most.
     pub connections: u32,
+    /// The path of the host's file.
+    pub file: String,
     /// How the names of files begin that are made while it serves.
     pub spool: String,
     /// By how many seconds the clock may jump.
@@ -76,6 +78,7 @@ impl Serving {
     /// The sockets, and the places of connections.
     pub(crate) fn places(&self) -> Places<'_>
         ensures connections { result.connections ≡ self.now.connections }
+        ensures file { result.file.now ≡ string_bytes self.now.file }
         ensures spool { result.spool.now ≡ string_bytes self.now.spool }
         ensures socket { option_map (λ s. s.now) result.socket ≡ socket_in self.now.door }
         ensures group { option_map (λ s. s.now) result.socket_group ≡ option_map string_bytes self.now.socket_group }
@@ -84,6 +87,7 @@ impl Serving {
     {
         Places {
             connections: self.connections as usize,
+            file: self.file.as_str(),
             spool: self.spool.as_str(),
             socket: self.door.socket(),
             socket_group: self.socket_group(),

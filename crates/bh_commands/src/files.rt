@@ -10,7 +10,7 @@ ghost use Rattle.bh_commands.specs.declared.asked.FileTask.TheVariants as the_fi
 
 use crate::asked::{FileTask, Work};
 use crate::hosts::on_connection;
-use bh_file::OpenFault;
+use bh_file::{HostFile, OpenFault};
 use bh_maintenance::ending::{Ended, close};
 use bh_maintenance::fault::Fault;
 use bh_maintenance::files::{is_blank, open, without_files};
@@ -18,7 +18,7 @@ use bh_maintenance::printed::Printed;
 use bh_types::block_digest::BlockDigest;
 use bh_types::limits::{Limits, Tuning};
 use bh_words::ClockGiven;
-use sqlite::{Connection, FileFrom, FileStore, Files, Start};
+use sqlite::{Connection, FileStore, Files, Start};
 use sqlite_disk::Disk;
 
 /// Does the task on the connection of files, and closes them.
@@ -41,9 +41,9 @@ fn in_files<S: Start>(
     path: &str,
     start: S,
     asked: FileTask,
-) -> Result<Ended<FileFrom<S>>, Fault>
+) -> Result<Ended<HostFile<S>>, Fault>
     requires { HoldsFor asked (image_at S.Start) }
-    ensures { IfOk result (λ ended. IsAnswered ⟦<FileFrom<S> as Disk>⟧ (image_at S.Start) asked ended.printed ended.files) }
+    ensures { IfOk result (λ ended. IsAnswered ⟦<HostFile<S> as Disk>⟧ (image_at S.Start) asked ended.printed ended.files) }
 {
     let connection = open(rt, path, start)?;
     let (printed, files) = on_files(rt, path, connection, asked)?;
@@ -60,9 +60,9 @@ pub fn init_file<S: Start>(
     start: S,
     limits: Limits,
     digest: BlockDigest,
-) -> Result<Ended<FileFrom<S>>, Fault>
+) -> Result<Ended<HostFile<S>>, Fault>
     ensures { IfOk result (λ ended.
-        IsAnswered ⟦<FileFrom<S> as Disk>⟧ (image_at S.Start) (the_file.Init limits digest) ended.printed ended.files) }
+        IsAnswered ⟦<HostFile<S> as Disk>⟧ (image_at S.Start) (the_file.Init limits digest) ended.printed ended.files) }
 {
     let asked = FileTask::Init { limits, digest };
     let ended = in_files(rt, path, start, asked)?;
@@ -78,10 +78,10 @@ pub fn work_in_file<S: Start>(
     tuning: Tuning,
     clock: ClockGiven,
     work: Work,
-) -> Result<Ended<FileFrom<S>>, Fault>
+) -> Result<Ended<HostFile<S>>, Fault>
     requires { HoldsSoundHost (image_at S.Start) }
     ensures { IfOk result (λ ended.
-        IsAnswered ⟦<FileFrom<S> as Disk>⟧ (image_at S.Start) (the_file.Host tuning clock work) ended.printed ended.files) }
+        IsAnswered ⟦<HostFile<S> as Disk>⟧ (image_at S.Start) (the_file.Host tuning clock work) ended.printed ended.files) }
 {
     let asked = FileTask::Host {
         tuning,

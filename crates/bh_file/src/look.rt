@@ -19,14 +19,14 @@ fn has_header(rt: &HostRuntime, path: &str) -> io::Result<bool> {
     }
 }
 
-/// Whether there is a log with bytes beside a file. After a crash it may have pages that the file
-/// lacks, even its header.
-fn has_log(rt: &HostRuntime, path: &str) -> Result<bool, OpenFault> {
+/// The size of the log beside a file, in bytes; 0 if there is none. After a crash it may have pages
+/// that the file lacks, even its header.
+fn log_size(rt: &HostRuntime, path: &str) -> Result<u64, OpenFault> {
     let real = fs::canonicalize(rt, path)?;
     let log = format!(in rt.alloc(); "{}-wal", real.as_str())?;
     match fs::metadata(rt, log.as_str()) {
-        Ok(data) => Ok(data.len() > 0),
-        Err(error) if error.kind() == ErrorKind::NotFound => Ok(false),
+        Ok(data) => Ok(data.len()),
+        Err(error) if error.kind() == ErrorKind::NotFound => Ok(0),
         Err(error) => Err(OpenFault::from(error)),
     }
 }
@@ -45,19 +45,23 @@ fn make(rt: &HostRuntime, path: &str) -> io::Result<()> {
     }
 }
 
-/// Creates the file if there is none. If a file isn't a database, it is refused before anything is
-/// created beside it.
-pub(crate) fn look(rt: &HostRuntime, path: &str) -> Result<(), OpenFault> {
+/// Creates the file if there is none, and returns how many bytes it and its log have. If a file isn't
+/// a database, it is refused before anything is created beside it.
+pub(crate) fn look(rt: &HostRuntime, path: &str) -> Result<u64, OpenFault> {
     let found = match fs::metadata(rt, path) {
         Ok(found) => found,
-        Err(error) if error.kind() == ErrorKind::NotFound => return Ok(make(rt, path)?),
+        Err(error) if error.kind() == ErrorKind::NotFound => {
+            make(rt, path)?;
+            return Ok(0);
+        }
         Err(error) => return Err(OpenFault::from(error)),
     };
     if !found.is_file() {
         return Err(OpenFault::NoFile);
     }
-    if found.len() == 0 || has_log(rt, path)? || has_header(rt, path)? {
-        Ok(())
+    let log = log_size(rt, path)?;
+    if found.len() == 0 || log > 0 || has_header(rt, path)? {
+        Ok(found.len().saturating_add(log))
     } else {
         Err(OpenFault::NoDatabase)
     }

@@ -10,14 +10,14 @@ ghost use Rattle.bh_kept.specs.Closings.{IsHeldIn, IsOpenAgain};
 
 use crate::closing::{Unclosed, close};
 use bh_backup::save_files;
-use bh_file::open_database;
-use sqlite::{Alter, Connection, FileFrom, FileStore, Files, Wary};
+use bh_file::{HostFile, open_database};
+use sqlite::{Alter, Connection, FileStore, Files, Wary};
 use sqlite_disk::Disk;
 use std::fmt;
 
 /// A file that was made as a copy. Its bytes are those that were written to it: earlier contents
 /// are truncated first.
-pub type CopyFile = FileFrom<Wary>;
+pub type CopyFile = HostFile<Wary>;
 
 /// A connection's closed files, and the copy of the database file, if one was made.
 #[derive(Drop)]
@@ -42,7 +42,7 @@ fn tell(errors: &impl Eprint, to: &str, what: &str, why: &impl fmt::Display) {
 fn copy_of<D: Disk + Drop>(rt: &HostRuntime, files: &mut Files<D>, to: &str) -> Option<CopyFile>
     requires { IsTrue (D.Disk.is_usable files.old.db) }
     ensures copied { IfSome result (λ copy. IsClean D.Disk files.new.db
-        → HasAlone ⟦<FileFrom<Wary> as Disk>⟧ (D.Disk.seen files.old.db) copy) }
+        → HasAlone ⟦<HostFile<Wary> as Disk>⟧ (D.Disk.seen files.old.db) copy) }
     ensures read { OnlyReads D.Disk files.old.db files.new.db }
     ensures log { files.new.log ≡ files.old.log }
 {
@@ -65,7 +65,7 @@ fn closed_and_copied<D: Disk + Drop>(
     ensures usable { IfSome result (λ it. IsTrue (D.Disk.is_usable it.files.log) × IsTrue (D.Disk.is_usable it.files.db)) }
     ensures held { IfSome result (λ it. AreClean D.Disk it.files.log it.files.db → IsHeldIn connection it.files) }
     ensures copied { IfSome result (λ it. IfSome it.copy (λ copy. AreClean D.Disk it.files.log it.files.db
-        → IsFileOf ⟦<FileFrom<Wary> as Disk>⟧ (file_state connection).committed copy)) }
+        → IsFileOf ⟦<HostFile<Wary> as Disk>⟧ (file_state connection).committed copy)) }
 {
     look(&connection);
     match close(connection) {
@@ -99,7 +99,7 @@ pub fn copy_and_open<D: Disk + Drop>(
 ) -> CopiedHost<D>
     ensures again { IfSome result.connection (λ again. HasCleanDisk (file_state again) → IsOpenAgain connection again) }
     ensures copied { IfSome result.copy (λ copy. IfSome result.connection (λ again. HasCleanDisk (file_state again)
-        → IsFileOf ⟦<FileFrom<Wary> as Disk>⟧ (file_state connection).committed copy)) }
+        → IsFileOf ⟦<HostFile<Wary> as Disk>⟧ (file_state connection).committed copy)) }
 {
     look(&connection);
     let Some(closed) = closed_and_copied(rt, connection, to) else {

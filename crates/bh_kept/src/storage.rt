@@ -16,6 +16,7 @@ use bh_connection::BackUp;
 use bh_dispatch::recalling::RecallingStorage;
 use bh_dispatch::storage::HostStorage;
 use bh_event::event::Command;
+use bh_file::HostFile;
 use bh_http::body::Body;
 use bh_memo::memo::Memo;
 use bh_operation::operation::Operation;
@@ -31,7 +32,7 @@ use bh_types::moment::Moment;
 use bh_types::names::TenantName;
 use bh_types::refusal::Refusal;
 use bh_types::rejection::Rejection;
-use sqlite::{FileFrom, FileStore, Wary};
+use sqlite::{FileStore, Wary};
 use sqlite_disk::Disk;
 use std::alloc::Global;
 
@@ -175,7 +176,7 @@ impl<'a, D: Disk + Drop, G: Digester + Drop, K: BlockSize> Storage for KeptHost<
 impl<'a, D: Disk + Drop, G: Digester + Drop, K: BlockSize> BackUp for KeptHost<'a, D, G, K> {
     type Copy = CopyFile;
 
-    ghost shows = { kept.Shows ⟦<FileFrom<Wary> as Disk>⟧ };
+    ghost shows = { kept.Shows ⟦<HostFile<Wary> as Disk>⟧ };
 
     ghost lost = { λ h. kept.is_lost h.storage };
 
@@ -193,7 +194,7 @@ impl<'a, D: Disk + Drop, G: Digester + Drop, K: BlockSize> BackUp for KeptHost<'
             → IsAtRest (IsSoundHost G.digest_of) (kept.seen self.new.limits self.new.storage) }
         ensures limits { (kept.seen self.new.limits self.new.storage).limits ≡ (kept.seen self.old.limits self.old.storage).limits }
         ensures copied { IfSome result (λ copy. kept.IsIntact self.new.storage
-            → kept.Shows ⟦<FileFrom<Wary> as Disk>⟧ copy (kept.seen self.old.limits self.old.storage).now) }
+            → kept.Shows ⟦<HostFile<Wary> as Disk>⟧ copy (kept.seen self.old.limits self.old.storage).now) }
         ensures tuned { KeepsTuning self.old.storage self.new.storage }
     {
         let RecallingStorage { storage, memo: _ } = self.storage.take()?;

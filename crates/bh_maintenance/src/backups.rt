@@ -13,9 +13,9 @@ use crate::files::{is_blank, open};
 use crate::hosts::found_host;
 use crate::printed::Printed;
 use bh_backup::{Saved, save};
-use bh_file::OpenFault;
+use bh_file::{HostFile, OpenFault};
 use bh_types::refusal::Refusal;
-use sqlite::{Connection, FileFrom, FileStore, Files, Start};
+use sqlite::{Connection, FileStore, Files, Start};
 use sqlite_disk::Disk;
 use std::alloc::{AllocError, Global};
 
@@ -48,8 +48,8 @@ fn save_host<D: Disk + Drop, T: Start>(
     connection: Connection<FileStore<D>>,
     to: &str,
     to_start: T,
-) -> Result<BackedUp<D, FileFrom<T>>, Fault>
-    ensures { IfOk result (λ it. HasSaved ⟦<FileFrom<T> as Disk>⟧ connection it.printed it.files it.copy) }
+) -> Result<BackedUp<D, HostFile<T>>, Fault>
+    ensures { IfOk result (λ it. HasSaved ⟦<HostFile<T> as Disk>⟧ connection it.printed it.files it.copy) }
 {
     let printed = Printed::line(rt.alloc(), b"backup")?;
     match save(rt, connection, to, to_start) {
@@ -94,8 +94,8 @@ fn back_up_connection<D: Disk + Drop, T: Start>(
     connection: Connection<FileStore<D>>,
     to: &str,
     to_start: T,
-) -> Result<BackedUp<D, FileFrom<T>>, Fault>
-    ensures { IfOk result (λ it. IsSavedOrNot ⟦<FileFrom<T> as Disk>⟧ connection it.printed it.files it.copy) }
+) -> Result<BackedUp<D, HostFile<T>>, Fault>
+    ensures { IfOk result (λ it. IsSavedOrNot ⟦<HostFile<T> as Disk>⟧ connection it.printed it.files it.copy) }
 {
     match found_host(rt, path, connection)? {
         Ok(connection) => save_host(rt, connection, to, to_start),
@@ -104,7 +104,7 @@ fn back_up_connection<D: Disk + Drop, T: Start>(
 }
 
 /// Copies the host of a file to a new file, `to`, as it is after its last event, and prints
-/// `backup`. No clock is read, and the last stamp doesn't change. A host of an earlier version is
+/// `backup`. No timestamp is taken, and the last stamp doesn't change. A host of an earlier version is
 /// upgraded first, and so is the copy.
 ///
 /// Before it prints, the copy is complete and synced; if it fails, there is none. It fails if the
@@ -115,8 +115,8 @@ pub fn backup_file<S: Start, T: Start>(
     start: S,
     to: &str,
     to_start: T,
-) -> Result<BackedUp<FileFrom<S>, FileFrom<T>>, Fault>
-    ensures { IfOk result (λ it. IsBackedUp ⟦<FileFrom<S> as Disk>⟧ ⟦<FileFrom<T> as Disk>⟧ (image_at S.Start)
+) -> Result<BackedUp<HostFile<S>, HostFile<T>>, Fault>
+    ensures { IfOk result (λ it. IsBackedUp ⟦<HostFile<S> as Disk>⟧ ⟦<HostFile<T> as Disk>⟧ (image_at S.Start)
         it.printed it.files it.copy) }
 {
     match is_blank(rt, path) {

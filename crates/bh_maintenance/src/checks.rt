@@ -10,6 +10,7 @@ ghost use Rattle.bh_schema.specs.Layer.{IsStateClean};
 ghost use Rattle.bh_open.specs.Versions.{IsHostsSchema};
 ghost use Rattle.bh_maintenance.specs.Checks.{IsVerdict, IsSoundBy, IsFoundSound, IsChecked};
 
+use crate::counted::Counted;
 use crate::ending::{Ended, Left, close};
 use crate::fault::Fault;
 use crate::files::{is_blank, open, without_files};
@@ -20,12 +21,12 @@ use bh_blocks::digester::{FastDigester, Sha256Digester};
 use bh_check::check::check_connection;
 use bh_check::flaw::Flaw;
 use bh_check::watch::{Stage, Watch};
-use bh_file::OpenFault;
+use bh_file::{HostFile, Meter, OpenFault, Work};
 use bh_open::look;
 use bh_schema::host::Digester;
 use bh_types::block_digest::BlockDigest;
 use bh_types::refusal::Refusal;
-use sqlite::{Alter, Connection, FileFrom, Start};
+use sqlite::{Alter, Connection, Start};
 use sqlite_disk::Disk;
 use sqlite_trees::error::StoreError;
 use std::alloc::{AllocError, Global};
@@ -72,7 +73,8 @@ fn unread(rt: &HostRuntime, path: &str, error: StoreError) -> Result<Printed, Fa
     Ok(Printed::fault(rt.alloc())?)
 }
 
-/// Checks a host's database with a digester. Returns the printed text and the store.
+/// Checks a host's database with a digester. Returns the printed text and the store. If it takes long,
+/// standard error shows how far the bytes of blocks are.
 fn check_by<S: Alter + Drop, D: Digester>(
     rt: &HostRuntime,
     path: &str,
@@ -83,7 +85,9 @@ fn check_by<S: Alter + Drop, D: Digester>(
     ensures { IfOk result (λ it. IsVerdict (IsSoundBy S.Store D.digest_of connection it.1) it.0) }
 {
     let mut progress = Progress { rt, path };
-    let (found, store) = check_connection(rt.alloc(), connection, digester, &mut progress);
+    let counted = Counted::new(digester, Meter::of_file(rt, Work::Check, path));
+    let (found, store) = check_connection(rt.alloc(), connection, &counted, &mut progress);
+    counted.end();
     match found {
         Ok(found) => Ok((verdict(rt.alloc(), found)?, store)),
         Err(error) => Ok((unread(rt, path, error)?, store)),
@@ -150,8 +154,8 @@ fn check_files<S: Start>(
     rt: &HostRuntime,
     path: &str,
     start: S,
-) -> Result<Ended<FileFrom<S>>, Fault>
-    ensures { IfOk result (λ ended. IsChecked ⟦<FileFrom<S> as Disk>⟧ (image_at S.Start) ended.printed ended.files) }
+) -> Result<Ended<HostFile<S>>, Fault>
+    ensures { IfOk result (λ ended. IsChecked ⟦<HostFile<S> as Disk>⟧ (image_at S.Start) ended.printed ended.files) }
 {
     let connection = open(rt, path, start)?;
     let (printed, store) = check_on(rt, path, connection)?;
@@ -171,8 +175,8 @@ pub fn check_file<S: Start>(
     rt: &HostRuntime,
     path: &str,
     start: S,
-) -> Result<Ended<FileFrom<S>>, Fault>
-    ensures { IfOk result (λ ended. IsChecked ⟦<FileFrom<S> as Disk>⟧ (image_at S.Start) ended.printed ended.files) }
+) -> Result<Ended<HostFile<S>>, Fault>
+    ensures { IfOk result (λ ended. IsChecked ⟦<HostFile<S> as Disk>⟧ (image_at S.Start) ended.printed ended.files) }
 {
     match is_blank(rt, path) {
         Ok(false) => check_files(rt, path, start),

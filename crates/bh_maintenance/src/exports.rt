@@ -19,9 +19,10 @@ use crate::remarks::tell;
 use bh_backup::{BackupFault, Saved, refuse_foreign, refuse_taken, save};
 use bh_blocks::digester::Sha256Digester;
 use bh_create::create;
+use bh_file::{HostFile, Meter, Work};
 use bh_open::Opened;
 use bh_types::limits::Tuning;
-use sqlite::{Alter, Connection, FileFrom, FileStore, Files, Start};
+use sqlite::{Alter, Connection, FileStore, Files, Start};
 use sqlite_disk::Disk;
 use std::alloc::AllocError;
 
@@ -109,7 +110,8 @@ fn bring_to<S: Alter + Drop, T: Alter + Drop>(
 {
     let mut made = made;
     let line = Printed::line(rt.alloc(), b"export")?;
-    let printed = move_and_tell(rt, path, host, &mut made, tenant, line)?;
+    let meter = Meter::new(rt, Work::Export, 0);
+    let printed = move_and_tell(rt, path, host, &mut made, tenant, line, meter)?;
     Ok(Done {
         printed,
         connection: made.connection,
@@ -139,9 +141,9 @@ fn save_moved<D: Disk + Drop, W: Start>(
     done: Done<FileStore<D>>,
     to: &str,
     to_start: W,
-) -> Result<Made<D, FileFrom<W>>, Fault>
+) -> Result<Made<D, HostFile<W>>, Fault>
     ensures { IfOk result (λ it. (it.printed ≡ done.printed)
-        × SavesMoved ⟦<FileFrom<W> as Disk>⟧ done.connection done.printed it.files it.copy) }
+        × SavesMoved ⟦<HostFile<W> as Disk>⟧ done.connection done.printed it.files it.copy) }
 {
     let Done {
         printed,
@@ -173,10 +175,10 @@ fn export_to<S: Alter + Drop, U: Start, W: Start>(
     to: &str,
     made_start: U,
     to_start: W,
-) -> Result<Made<FileFrom<U>, FileFrom<W>>, Fault>
+) -> Result<Made<HostFile<U>, HostFile<W>>, Fault>
     requires { IsReadyByRow S.Store host.old }
     ensures { IfOk result (λ it. ExportsTo S.Store tenant.now host.old host.new.connection it.printed
-        ⟦<FileFrom<U> as Disk>⟧ ⟦<FileFrom<W> as Disk>⟧ it.files it.copy) }
+        ⟦<HostFile<U> as Disk>⟧ ⟦<HostFile<W> as Disk>⟧ it.files it.copy) }
 {
     let connection = open(rt, path, made_start)?;
     let done = fill(rt, host, path, connection, tenant)?;
@@ -192,9 +194,9 @@ fn export_from<D: Disk + Drop, U: Start, W: Start>(
     to: &str,
     made_start: U,
     to_start: W,
-) -> Result<Exported<D, FileFrom<U>, FileFrom<W>>, Fault>
+) -> Result<Exported<D, HostFile<U>, HostFile<W>>, Fault>
     requires { IsReadyByRow over_files host }
-    ensures { IfOk result (λ it. MatchOption it.files ⊥ (IsExportedFrom ⟦<FileFrom<U> as Disk>⟧ ⟦<FileFrom<W> as Disk>⟧
+    ensures { IfOk result (λ it. MatchOption it.files ⊥ (IsExportedFrom ⟦<HostFile<U> as Disk>⟧ ⟦<HostFile<W> as Disk>⟧
         tenant.now host it.printed it.made it.copy)) }
 {
     let mut host = host;
@@ -217,8 +219,8 @@ fn export_from<D: Disk + Drop, U: Start, W: Start>(
 }
 
 /// Copies a tenant of a file's host, with all its contents, to a new host in a new file, `to`, and
-/// prints `export`. The new host has the old one's limits, digest function and last stamp. No clock
-/// is read, and the old host doesn't change.
+/// prints `export`. The new host has the old one's limits, digest function and last stamp. No
+/// timestamp is taken, and the old host doesn't change.
 ///
 /// The new host is made in a file of that name with `.moving` appended, and then copied as a backup
 /// is. Before it prints, the new file is complete and synced; if it fails, there is none.
@@ -233,9 +235,9 @@ pub fn export_file<S: Start, U: Start, W: Start>(
     to: &str,
     made_start: U,
     to_start: W,
-) -> Result<Exported<FileFrom<S>, FileFrom<U>, FileFrom<W>>, Fault>
+) -> Result<Exported<HostFile<S>, HostFile<U>, HostFile<W>>, Fault>
     requires { HoldsSoundHost (image_at S.Start) }
-    ensures { IfOk result (λ it. IsExported ⟦<FileFrom<S> as Disk>⟧ ⟦<FileFrom<U> as Disk>⟧ ⟦<FileFrom<W> as Disk>⟧ (image_at S.Start)
+    ensures { IfOk result (λ it. IsExported ⟦<HostFile<S> as Disk>⟧ ⟦<HostFile<U> as Disk>⟧ ⟦<HostFile<W> as Disk>⟧ (image_at S.Start)
         tenant.now it.printed it.files it.made it.copy) }
 {
     or_unsaved(rt, to, refuse_taken(rt, to))?;

@@ -16,10 +16,10 @@ use crate::fault::Fault;
 use crate::hosts::opened_host;
 use crate::printed::Printed;
 use crate::remarks::{Remark, tell};
-use bh_file::{FileConnection, OpenFault};
+use bh_file::{FileConnection, HostFile, OpenFault};
 use bh_open::Opened;
 use bh_types::refusal::Refusal;
-use sqlite::{Connection, FileFrom, FileStore, Start};
+use sqlite::{Connection, FileStore, Start};
 use sqlite_disk::Disk;
 use std::alloc::{AllocError, Global};
 use std::io::ErrorKind;
@@ -89,10 +89,10 @@ pub fn host_in<S: Start>(
     rt: &HostRuntime,
     path: &str,
     start: S,
-) -> Result<Result<Opened<FileStore<FileFrom<S>>>, Ended<FileFrom<S>>>, Fault>
+) -> Result<Result<Opened<FileStore<HostFile<S>>>, Ended<HostFile<S>>>, Fault>
     requires { HoldsSoundHost (image_at S.Start) }
-    ensures { IfOk result (λ found. MatchResult found (IsHostAt ⟦<FileFrom<S> as Disk>⟧ (image_at S.Start))
-        (λ ended. HasNoHost ⟦<FileFrom<S> as Disk>⟧ (image_at S.Start) ended.printed ended.files)) }
+    ensures { IfOk result (λ found. MatchResult found (IsHostAt ⟦<HostFile<S> as Disk>⟧ (image_at S.Start))
+        (λ ended. HasNoHost ⟦<HostFile<S> as Disk>⟧ (image_at S.Start) ended.printed ended.files)) }
 {
     match is_blank(rt, path) {
         Ok(false) => {

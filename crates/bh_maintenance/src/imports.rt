@@ -19,10 +19,11 @@ use crate::files::host_in;
 use crate::moves::move_and_tell;
 use crate::printed::Printed;
 use crate::remarks::{Ahead, Remark, tell};
+use bh_file::{HostFile, Meter, Work};
 use bh_moved::sole_tenant;
 use bh_open::Opened;
 use bh_types::refusal::Refusal;
-use sqlite::{Alter, Error, FileFrom, FileStore, Files, Start};
+use sqlite::{Alter, Error, FileStore, Files, Start};
 use sqlite_disk::Disk;
 use std::alloc::{AllocError, Global};
 
@@ -117,7 +118,8 @@ fn import_one<S: Alter + Drop, T: Alter + Drop>(
         Ok(tenant) => {
             let name = tenant.as_str();
             let line = tenant_line(rt.alloc(), name)?;
-            move_and_tell(rt, path, from, to, name, line)
+            let meter = Meter::of_file(rt, Work::Import, from_path);
+            move_and_tell(rt, path, from, to, name, line, meter)
         }
         Err(printed) => Ok(printed),
     }
@@ -187,10 +189,10 @@ fn import_to<F: Alter + Drop, S: Start>(
     from_path: &str,
     from: &mut Opened<F>,
     clock: ClockRead,
-) -> Result<Ended<FileFrom<S>>, Fault>
+) -> Result<Ended<HostFile<S>>, Fault>
     requires host { HoldsSoundHost (image_at S.Start) }
     requires from { IsReadyByRow F.Store from.old }
-    ensures { IfOk result (λ ended. ImportsTo clock F.Store from.old from.new.connection ⟦<FileFrom<S> as Disk>⟧ (image_at S.Start)
+    ensures { IfOk result (λ ended. ImportsTo clock F.Store from.old from.new.connection ⟦<HostFile<S> as Disk>⟧ (image_at S.Start)
         ended.printed ended.files) }
 {
     match host_in(rt, path, start)? {
@@ -207,10 +209,10 @@ fn import_given<E: Disk + Drop, S: Start>(
     from_path: &str,
     from: Opened<FileStore<E>>,
     clock: ClockRead,
-) -> Result<Imported<FileFrom<S>, E>, Fault>
+) -> Result<Imported<HostFile<S>, E>, Fault>
     requires host { HoldsSoundHost (image_at S.Start) }
     requires from { IsReadyByRow over_files from }
-    ensures { IfOk result (λ it. MatchOption it.given ⊥ (IsImportedOf clock from ⟦<FileFrom<S> as Disk>⟧ (image_at S.Start)
+    ensures { IfOk result (λ it. MatchOption it.given ⊥ (IsImportedOf clock from ⟦<HostFile<S> as Disk>⟧ (image_at S.Start)
         it.printed it.files)) }
 {
     let mut from = from;
@@ -237,10 +239,10 @@ pub fn import_file<S: Start, U: Start>(
     given: &str,
     given_start: U,
     clock: ClockRead,
-) -> Result<Imported<FileFrom<S>, FileFrom<U>>, Fault>
+) -> Result<Imported<HostFile<S>, HostFile<U>>, Fault>
     requires host { HoldsSoundHost (image_at S.Start) }
     requires given { HoldsSoundHost (image_at U.Start) }
-    ensures { IfOk result (λ it. IsImported clock ⟦<FileFrom<S> as Disk>⟧ ⟦<FileFrom<U> as Disk>⟧ (image_at S.Start) (image_at U.Start)
+    ensures { IfOk result (λ it. IsImported clock ⟦<HostFile<S> as Disk>⟧ ⟦<HostFile<U> as Disk>⟧ (image_at S.Start) (image_at U.Start)
         it.printed it.files it.given) }
 {
     match host_in(rt, given, given_start)? {

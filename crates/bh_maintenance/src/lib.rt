@@ -4,6 +4,7 @@
 mod backups;
 mod checks;
 mod clocks;
+mod counted;
 pub mod ending;
 mod exports;
 pub mod fault;

@@ -5,9 +5,11 @@ ghost use Rattle.bh_blocks.specs.Digests.{digest_by};
 ghost use Rattle.bh_maintenance.specs.Found.{IsReadyBy};
 ghost use Rattle.bh_maintenance.specs.Moves.{Tells, Moves, TellsMove};
 
+use crate::counted::Counted;
 use crate::printed::Printed;
 use crate::remarks::{Remark, tell};
 use bh_blocks::digester::{FastDigester, Sha256Digester};
+use bh_file::Meter;
 use bh_moved::move_tenant;
 use bh_open::Opened;
 use bh_schema::host::Digester;
@@ -18,7 +20,7 @@ use sqlite::{Alter, Error};
 use std::alloc::{AllocError, Global};
 
 /// Moves a tenant into a host, with the digester of its blocks.
-fn move_by<S: Alter + Drop, T: Alter + Drop, D: Digester>(
+fn move_with<S: Alter + Drop, T: Alter + Drop, D: Digester>(
     from: &mut Opened<S>,
     to: &mut Opened<T>,
     alloc: Global,
@@ -41,12 +43,33 @@ fn move_by<S: Alter + Drop, T: Alter + Drop, D: Digester>(
     )
 }
 
+/// Moves a tenant into a host, and counts the bytes of its blocks.
+fn move_by<S: Alter + Drop, T: Alter + Drop, D: Digester>(
+    from: &mut Opened<S>,
+    to: &mut Opened<T>,
+    alloc: Global,
+    digester: &D,
+    tenant: &str,
+    meter: Meter,
+) -> Result<Option<Refusal>, Error>
+    requires from { IsReadyBy S.Store (digest_by from.old.digest) from.old }
+    requires to { IsReadyBy T.Store D.digest_of to.old }
+    ensures { Moves S.Store T.Store from.old.connection to.old.connection from.new.connection to.new.connection
+        D.digest_of tenant.now result }
+{
+    let counted = Counted::new(digester, meter);
+    let moved = move_with(from, to, alloc, &counted, tenant);
+    counted.end();
+    moved
+}
+
 /// Moves a tenant, with the digester of the function in the host's row.
 fn move_by_digest<S: Alter + Drop, T: Alter + Drop>(
     from: &mut Opened<S>,
     to: &mut Opened<T>,
     alloc: Global,
     tenant: &str,
+    meter: Meter,
 ) -> Result<Option<Refusal>, Error>
     requires from { IsReadyBy S.Store (digest_by from.old.digest) from.old }
     requires to { IsReadyBy T.Store (digest_by to.old.digest) to.old }
@@ -54,8 +77,8 @@ fn move_by_digest<S: Alter + Drop, T: Alter + Drop>(
         (digest_by to.old.digest) tenant.now result }
 {
     match to.digest {
-        BlockDigest::Sha256 => move_by(from, to, alloc, &Sha256Digester, tenant),
-        BlockDigest::Fast => move_by(from, to, alloc, &FastDigester, tenant),
+        BlockDigest::Sha256 => move_by(from, to, alloc, &Sha256Digester, tenant, meter),
+        BlockDigest::Fast => move_by(from, to, alloc, &FastDigester, tenant, meter),
     }
 }
 
@@ -79,7 +102,8 @@ fn told(
     }
 }
 
-/// Moves a tenant into a host, and returns this line, or the printed text if it was not moved.
+/// Moves a tenant into a host, and returns this line, or the printed text if it was not moved. The
+/// meter counts the bytes of its blocks.
 pub(crate) fn move_and_tell<S: Alter + Drop, T: Alter + Drop>(
     rt: &HostRuntime,
     path: &str,
@@ -87,12 +111,13 @@ pub(crate) fn move_and_tell<S: Alter + Drop, T: Alter + Drop>(
     to: &mut Opened<T>,
     tenant: &str,
     line: Printed,
+    meter: Meter,
 ) -> Result<Printed, AllocError>
     requires from { IsReadyBy S.Store (digest_by from.old.digest) from.old }
     requires to { IsReadyBy T.Store (digest_by to.old.digest) to.old }
     ensures { IfOk result (TellsMove S.Store T.Store from.old.connection to.old.connection from.new.connection to.new.connection
         (digest_by to.old.digest) tenant.now line) }
 {
-    let outcome = move_by_digest(from, to, rt.alloc(), tenant);
+    let outcome = move_by_digest(from, to, rt.alloc(), tenant, meter);
     told(rt, path, outcome, line)
 }

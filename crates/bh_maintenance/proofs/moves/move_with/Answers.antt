@@ -1,6 +1,6 @@
 use Rattle.bh_blocks.specs.Digests.{digest_by}
 use Rattle.bh_maintenance.proofs.Moving.{settled, moves_of}
-use Rattle.bh_maintenance.proofs.moves.move_by.Goals as goal
+use Rattle.bh_maintenance.proofs.moves.move_with.Goals as goal
 
 pub move_tenant-requires-clause-reading : goal.move_tenant-requires-clause-reading
 move_tenant-requires-clause-reading g c = settled g.S.Store (digest_by c.args.from.now.digest) c.args.from.now c.requires.from
