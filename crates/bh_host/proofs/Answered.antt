@@ -1,6 +1,6 @@
 -- A request that was read, or not, and answered, as its event.
-use Rattle.std.proofs.Common.{◌≡◌, ◌≤◌, ◌<◌, ◌⊎◌, ℕ, ◌++◌, length, take, Bool, false, List, [], ◌∷◌, append-nil, Option, Some, None, Result, Ok, Err, refl, sym, ap, subst, ◌∙◌, arith, inl, inr}
-use Rattle.std.specs.Prelude.{IfSome, IfNone, nat_lt, if◌then◌else◌}
+use Rattle.std.proofs.Common.{◌≡◌, ◌≤◌, ◌<◌, ◌⊎◌, ℕ, ◌++◌, length, take, Bool, true, false, List, [], ◌∷◌, append-nil, Option, Some, None, Result, Ok, Err, refl, sym, ap, subst, ◌∙◌, arith, inl, inr}
+use Rattle.std.specs.Prelude.{nat_lt, if◌then◌else◌}
 use Rattle.std.proofs.lemmas.Bool.{le-leb, lt-leb}
 use Rattle.std.proofs.lemmas.Bool.Decides.{nat_tests}
 use Rattle.bh_types.specs.Rejections.{plain}
@@ -14,11 +14,15 @@ use Rattle.bh_http.specs.declared.request.Head.{Head}
 use Rattle.bh_machine.specs.Machine.{RequestRead}
 use Rattle.bh_model.specs.Runs.{last_reading}
 use Rattle.bh_storage.specs.Calls.{Seen, Clean, IsAtRest}
+use Rattle.bh_storage.specs.Plans.{to_come}
 use Rattle.bh_tables.specs.Typed.{Tables}
 use Rattle.bh_view.specs.View.{limits_in}
+use Rattle.bh_host.specs.Answers.{told_in}
 use Rattle.bh_host.specs.Receives.{answered, AppliedAs, HasCome, AnewAs, ToldOf, Receives}
-use Rattle.bh_host.specs.Replies.{text, wanting_text}
-use Rattle.bh_host.specs.Turns.{Applied, AppliedTo, WouldApply, IsToldApart, fixed, request_at}
+use Rattle.bh_host.specs.Replies.{text, caller_of, clock_text, reply_bytes, wanting_text}
+use Rattle.bh_host.specs.Turns.{Applied, AppliedTo, Happened, fixed, request_at}
+use Rattle.bh_host.specs.declared.delivery.Replied.{Replied}
+use Rattle.bh_host.specs.declared.delivery.Replied.TheVariants.{Told, Planned}
 use Rattle.bh_host.specs.declared.reply.Caller.TheVariants.{Request}
 use Rattle.bh_host.proofs.TakenBack.{all_came, recorded_unread}
 use Rattle.bh_host.proofs.ToldApart.{apart_on}
@@ -29,13 +33,6 @@ wanting_is_fixed reading bytes early =
     rw test refl
 
 module _ {H : Type 0} (IsIntact IsOpen : H → Type 0) (seen : H → Seen) (left : H → Tables → Type 0) where
-  -- what an event promises of a storage
-  pub record Happened (event : Arrival) (old new : H) (stamp : Option ℕ) (reply : List ℕ) : Type 0 where
-    pub applied : IsIntact new → AppliedTo IsOpen seen event old new stamp reply
-    pub told_apart : IsIntact new → IsToldApart event stamp reply
-    pub acknowledged : IfSome stamp (λ _. IsIntact new → (x : Tables) → left new x → x ≡ (seen new).now)
-    pub crash : IfNone stamp (IsIntact new → (x : Tables) → left new x → left old x ⊎ (IsOpen old × WouldApply event (seen old).now x))
-
   -- bytes that are no request
   pub anew_told : (reading : ℕ) (refusal : Refusal) (old new : H) (stamp : Option ℕ) (reply : List ℕ) → AnewAs IsIntact IsOpen seen left reading None (text (RequestRead (Err refusal)) (Err (plain refusal))) old new stamp reply
       → ToldOf IsIntact IsOpen seen left reading (Err refusal) old new (stamp, reply)
@@ -55,7 +52,7 @@ module _ {H : Type 0} (IsIntact IsOpen : H → Type 0) (seen : H → Seen) (left
   -- a request by its reading
   pub told_happened : (IsSound : Tables → Type 0) (reading : ℕ) (bytes : List ℕ) (answer : Result Taken Refusal) (old new : H) (stamp : Option ℕ) (reply : List ℕ) → reading ≤ last_reading
       → (Clean IsIntact IsOpen old → IsAtRest IsSound (seen old)) → (IsIntact new → IsIntact old) → Reads (seen old).limits bytes answer
-      → ToldOf IsIntact IsOpen seen left reading answer old new (stamp, reply) → Happened (request_at reading bytes) old new stamp reply
+      → ToldOf IsIntact IsOpen seen left reading answer old new (stamp, reply) → Happened IsIntact IsOpen seen left (request_at reading bytes) old new stamp reply
   told_happened IsSound reading bytes answer old new stamp reply early rest still reads = go stamp
     where
       applies : (x : Tables) (m : ℕ) (r : List ℕ) → IsIntact new → IsOpen old → AppliedAs reading answer (seen old).now x m r → Applied (request_at reading bytes) (seen old).now x (Some m) r
@@ -63,7 +60,7 @@ module _ {H : Type 0} (IsIntact IsOpen : H → Type 0) (seen : H → Seen) (left
           let same : limits_in (seen old).now ≡ (seen old).limits = (rest (still intact, opened)).limits in
           (at, latest, (RequestRead answer, (answer, subst (λ l. Reads l bytes answer) (sym same) reads, refl), turned))
 
-      go : (stamp : Option ℕ) → ToldOf IsIntact IsOpen seen left reading answer old new (stamp, reply) → Happened (request_at reading bytes) old new stamp reply
+      go : (stamp : Option ℕ) → ToldOf IsIntact IsOpen seen left reading answer old new (stamp, reply) → Happened IsIntact IsOpen seen left (request_at reading bytes) old new stamp reply
       go None (same, is, crash) = record {
         applied = λ intact opened. same intact opened;
         told_apart = λ _. is ∙ wanting_is_fixed reading bytes early;
@@ -82,6 +79,21 @@ module _ {H : Type 0} (IsIntact IsOpen : H → Type 0) (seen : H → Seen) (left
             crash = tt;
           }
 
+  -- its reply, whose object may be still to be read
+  pub replied_happened : (IsSound : Tables → Type 0) (reading : ℕ) (bytes : List ℕ) (answer : Result Taken Refusal) (old new : H) (replied : Replied) → reading ≤ last_reading
+      → (Clean IsIntact IsOpen old → IsAtRest IsSound (seen old)) → (IsIntact new → IsIntact old) → Reads (seen old).limits bytes answer
+      → ToldOf IsIntact IsOpen seen left reading answer old new (told_in (seen new).now replied)
+      → Happened IsIntact IsOpen seen left (request_at reading bytes) old new (told_in (seen new).now replied).0 (told_in (seen new).now replied).1
+  replied_happened IsSound reading bytes answer old new (Told done) = told_happened IsSound reading bytes answer old new done.stamp (reply_bytes done.reply)
+  replied_happened IsSound reading bytes answer old new (Planned reply) =
+      told_happened IsSound reading bytes answer old new (Some reply.stamp) (reply.head.items ++ to_come reply.plan (seen new).now)
+
+  -- a reading above its limit
+  pub late_happened : (event : Arrival) (host : H) → last_reading < event.reading → Happened IsIntact IsOpen seen left event host host None (clock_text (caller_of event.message))
+  late_happened event host late =
+      let test : nat_lt last_reading event.reading ≡ true = grind (arith, nat_tests) in
+      record { applied = λ _ opened. (opened, refl); told_apart = λ _. rw test refl; acknowledged = tt; crash = λ _ x leaves. inl leaves }
+
 -- ---- a body that is there as a whole
 
 nothing : (xs : List ℕ) → (length xs ≡ 0) ⊎ (xs ≡ []) → xs ≡ []
@@ -89,13 +101,13 @@ nothing [] h = refl
 nothing (x ∷ xs) (inl e) = absurd (omega (arith, e))
 nothing (x ∷ xs) (inr e) = e
 
-whole_given : (all rest given : List ℕ) → Gives (whole all) (whole rest) given → HasCome (whole rest) → given ≡ all
+pub whole_given : (all rest given : List ℕ) → Gives (whole all) (whole rest) given → HasCome (whole rest) → given ≡ all
 whole_given all rest given gives end = sym (append-nil given) ∙ ap (λ r. given ++ r) (sym (nothing rest end)) ∙ sym gives.consumed
 
 pub completed_short : (head : Head) (rest : List ℕ) → length rest < head.body_size → completed (announced_view head) rest ≡ Err IncompleteBody
 completed_short head rest lt = ap (λ (b : Bool). if b then Ok (with_body head (take head.body_size rest)) else Err IncompleteBody) (lt-leb head.body_size (length rest) lt)
 
-completed_whole : (head : Head) (rest : List ℕ) → head.body_size ≤ length rest → completed (announced_view head) rest ≡ Ok (with_body head (take head.body_size rest))
+pub completed_whole : (head : Head) (rest : List ℕ) → head.body_size ≤ length rest → completed (announced_view head) rest ≡ Ok (with_body head (take head.body_size rest))
 completed_whole head rest le = ap (λ (b : Bool). if b then Ok (with_body head (take head.body_size rest)) else Err IncompleteBody) (le-leb head.body_size (length rest) le)
 
 module _ {H : Type 0} (IsIntact IsOpen : H → Type 0) (seen : H → Seen) (left : H → Tables → Type 0) (reading : ℕ) (head : Head) (bytes all after : List ℕ) (old new : H) (enough : head.body_size ≤ length bytes)
@@ -122,6 +134,11 @@ module _ {H : Type 0} (IsIntact IsOpen : H → Type 0) (seen : H → Seen) (left
         (λ intact. let (was, now, turned) = did intact in (was, now, subst (λ (a : Result Taken Refusal). AppliedAs reading a (seen old).now (seen new).now m reply) (answer_is r.given r.gives come) turned)),
         survives,
       )
+
+  pub whole_replied : (replied : Replied) → Receives IsIntact IsOpen seen left reading head (whole all) (whole after) old new (Some (told_in (seen new).now replied))
+      → ToldOf IsIntact IsOpen seen left reading (completed (announced_view head) bytes) old new (told_in (seen new).now replied)
+  whole_replied (Told done) = whole_told done.stamp (reply_bytes done.reply)
+  whole_replied (Planned reply) = whole_told (Some reply.stamp) (reply.head.items ++ to_come reply.plan (seen new).now)
 
   -- no reader of it can fail
   pub whole_not_none : (reply : List ℕ) → reply ≡ wanting_text Request → Receives IsIntact IsOpen seen left reading head (whole all) (whole after) old new None

@@ -4,8 +4,11 @@ mod Listing
 mod Delivering
 pub mod ToldApart
 mod Turning
+mod Grouping
 mod Asking
 mod Serving
 pub mod Running
+mod Alike
+mod Grouped
 pub mod TakenBack
 pub mod Answered

@@ -150,3 +150,8 @@ IsTriedNoted (tried.TakenBack t bytes) = Unit {0}
 abbrev pub is_wanting : ℕ → Option ℕ → Bool
 is_wanting reading (Some m) = false
 is_wanting reading None = nat_le reading last_reading
+
+-- a reply without a stamp notes the failure exactly if the event's reading was in range
+abbrev pub IsToldWanting : ℕ → Replied → Type 0
+IsToldWanting reading (replied.Told done) = is_some (reply_trouble done.reply) ≡ is_wanting reading done.stamp
+IsToldWanting reading (replied.Planned reply) = Unit {0}

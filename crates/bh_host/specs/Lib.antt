@@ -1,5 +1,6 @@
 pub mod Answers
 pub mod Asking
+pub mod Groups
 pub mod Receives
 pub mod Replies
 pub mod Resting

@@ -10,7 +10,7 @@ use Rattle.bh_machine.specs.Machine.{Act, Acted, owner_of, step}
 use Rattle.bh_storage.specs.Calls.{Seen}
 use Rattle.bh_view.specs.View.{view, latest_of, limits_in}
 use Rattle.bh_host.specs.Replies.{text}
-use Rattle.bh_host.specs.Turns.{Applied, IsToldApart, WouldApply, fixed}
+use Rattle.bh_host.specs.Turns.{Applied, IsToldApart, WouldApplySome, fixed}
 
 -- a request or a command with a stamp: how it was understood, and the bytes of its reply
 abbrev pub Turn : Type 0
@@ -29,14 +29,17 @@ Ran (event ∷ events) [] old new = ⊥
 Ran (event ∷ events) ((stamp, reply) ∷ dones) old new =
     (mid : Tables) × Applied event old mid stamp reply × IsToldApart event stamp reply × Ran events dones mid new
 
--- what a crash may leave after events, given what it could leave before them. After an event with a
--- stamp: the tables at the end. After one without: also what its commit would have written. What
--- came before the last stamp doesn't count
+-- what a crash may leave after events: the tables at the end, if one of them has a stamp, and else
+-- what it could leave before them. Also what a commit of some of the events since the last stamp would
+-- have written; `since` is those so far
+abbrev pub MayRemainSince : List Arrival → List Arrival → List Told → (Tables → Type 0) → Tables → Tables → Type 0
+MayRemainSince since [] dones before end x = before x ⊎ WouldApplySome since end x
+MayRemainSince since (event ∷ events) [] before end x = before x ⊎ WouldApplySome since end x
+MayRemainSince since (event ∷ events) ((Some m, reply) ∷ dones) before end x = MayRemainSince [] events dones (λ y. y ≡ end) end x
+MayRemainSince since (event ∷ events) ((None, reply) ∷ dones) before end x = MayRemainSince (since ++ event ∷ []) events dones before end x
+
 abbrev pub MayRemain : List Arrival → List Told → (Tables → Type 0) → Tables → Tables → Type 0
-MayRemain [] dones before end x = before x
-MayRemain (event ∷ events) [] before end x = before x
-MayRemain (event ∷ events) ((Some m, reply) ∷ dones) before end x = MayRemain events dones (λ y. y ≡ end) end x
-MayRemain (event ∷ events) ((None, reply) ∷ dones) before end x = MayRemain events dones (λ y. before y ⊎ WouldApply event end y) end x
+MayRemain = MayRemainSince []
 
 -- a run's effect on a storage: if it is open, its tables are those at the end
 pub record RanOn {H : Type 0} (IsOpen : H → Type 0) (seen : H → Seen) (left : H → Tables → Type 0) (events : List Arrival)
@@ -45,6 +48,20 @@ pub record RanOn {H : Type 0} (IsOpen : H → Type 0) (seen : H → Seen) (left 
   pub ran : Ran events dones (seen old).now end
   pub now : IsOpen new → (seen new).now ≡ end
   pub crash : (x : Tables) → left new x → MayRemain events dones (left old) end x
+
+-- the same from given tables
+pub record RanFrom {H : Type 0} (IsOpen : H → Type 0) (seen : H → Seen) (left : H → Tables → Type 0) (start : Tables)
+    (events : List Arrival) (dones : List Told) (old new : H) : Type 0 where
+  pub end : Tables
+  pub ran : Ran events dones start end
+  pub now : IsOpen new → (seen new).now ≡ end
+  pub crash : (x : Tables) → left new x → MayRemain events dones (left old) end x
+
+-- a run goes on: from the tables that the one before it ended with, which the storage shows if it is
+-- open
+abbrev pub GoesOn : {H : Type 0} → (H → Type 0) → (H → Seen) → (H → Tables → Type 0) → List Arrival → List Told → H → H → Type 0
+GoesOn IsOpen seen left events dones old new =
+    (start : Tables) → (IsOpen old → (seen old).now ≡ start) → RanFrom IsOpen seen left start events dones old new
 
 -- ---- whose events they were, and what each tenant is answered
 

@@ -1,5 +1,6 @@
 -- An event's effect on the tables, and its reply.
-use Rattle.std.specs.Prelude.{◌≡◌, ◌≢◌, ℕ, List, nat_lt, IfErr, Option, Some, None, Result, Ok, Err, if◌then◌else◌}
+use Rattle.std.specs.Prelude.{◌≡◌, ◌≢◌, ◌⊎◌, ℕ, List, [], ◌∷◌, nat_lt, if◌then◌else◌}
+use Rattle.std.specs.Prelude.{Option, Some, None, Result, Ok, Err, IfErr, IfNone, IfSome}
 use Rattle.bh_types.specs.Limits.{HostLimits}
 use Rattle.bh_types.specs.Rejections.{plain}
 use Rattle.bh_types.specs.declared.refusal.Refusal.{Refusal}
@@ -126,3 +127,19 @@ AppliedTo IsOpen seen event old new (Some m) reply = IsOpen old × IsOpen new ×
 -- the tables that the event's commit would have written
 abbrev pub WouldApply : Arrival → Tables → Tables → Type 0
 WouldApply event old new = (m : ℕ) × (reply : List ℕ) × Applied event old new (Some m) reply
+
+-- an event on a storage: its effect, its reply and what a crash may leave from then on. With a stamp
+-- that is what the storage shows; without one it was possible before, or is what the event's commit
+-- would have written
+pub record Happened {H : Type 0} (IsIntact IsOpen : H → Type 0) (seen : H → Seen) (left : H → Tables → Type 0) (event : Arrival)
+    (old new : H) (stamp : Option ℕ) (reply : List ℕ) : Type 0 where
+  pub applied : IsIntact new → AppliedTo IsOpen seen event old new stamp reply
+  pub told_apart : IsIntact new → IsToldApart event stamp reply
+  pub acknowledged : IfSome stamp (λ _. IsIntact new → (x : Tables) → left new x → x ≡ (seen new).now)
+  pub crash : IfNone stamp (IsIntact new → (x : Tables) → left new x → left old x ⊎ (IsOpen old × WouldApply event (seen old).now x))
+
+-- the tables that a commit of some of these events, in their order, would have written
+abbrev pub WouldApplySome : List Arrival → Tables → Tables → Type 0
+WouldApplySome [] old new = ⊥
+WouldApplySome (event ∷ events) old new =
+    WouldApplySome events old new ⊎ ((mid : Tables) × WouldApply event old mid × ((new ≡ mid) ⊎ WouldApplySome events mid new))

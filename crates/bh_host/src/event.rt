@@ -7,13 +7,15 @@ ghost use Rattle.bh_tables.specs.Typed.{Tables};
 ghost use Rattle.bh_view.specs.View.{latest_of};
 ghost use Rattle.bh_http.specs.Reading.{completed};
 ghost use Rattle.bh_http.specs.Views.{announced_view};
-ghost use Rattle.bh_host.specs.Answers.{told, is_wanting, IsNoted};
+ghost use Rattle.bh_host.specs.Answers.{told_in, is_wanting, IsNoted, IsToldNoted, IsToldWanting};
+ghost use Rattle.bh_host.specs.Answers.{IsToldWhole, IsToldAsGreat, IsSmallReply, IsToldSmall, IsToldMeasured};
 ghost use Rattle.bh_host.specs.Receives.{ToldOf};
 ghost use Rattle.bh_host.specs.Replies.{clock_text, reply_bytes, reply_trouble};
 ghost use Rattle.bh_host.specs.Replies as reply;
 ghost use Rattle.bh_host.specs.Resting.{StaysAtRest};
 ghost use Rattle.bh_host.specs.Turns.{IsServed, IsActDone, IsSweepDone, IsReportDone, IsListDone, IsOrder, IsToldApart, WouldApply};
-ghost use Rattle.bh_host.specs.Turns.{AppliedTo, request_at};
+ghost use Rattle.bh_host.specs.Turns.{AppliedTo, Happened, request_at};
+ghost use Rattle.bh_host.specs.declared.delivery.Delivery.TheVariants.{AtOnce, InPieces};
 
 use crate::delivery::{Delivery, Replied};
 use crate::lists::tenants_line;
@@ -135,7 +137,7 @@ fn serve_tenants<H: Storage>(alloc: Global, host: &mut H) -> Result<Vec<u8>, Tro
 
 /// The reply to an event that is not a request, and its stamp. A request is a failure here: `apply`
 /// passes none.
-fn serve<H: Storage>(
+pub fn serve<H: Storage>(
     alloc: Global,
     host: &mut H,
     event: &Event,
@@ -212,6 +214,7 @@ fn apply_order<H: Storage>(alloc: Global, host: &mut H, event: &Event) -> Told
         → (x : Tables) → H.left host.new x → x ≡ (H.seen host.new).now) }
     ensures crash { IfNone result.stamp (H.IsIntact host.new → (x : Tables) → H.left host.new x
         → H.left host.old x ⊎ (H.IsOpen host.old × WouldApply (arrival event.now) (H.seen host.old).now x)) }
+    ensures small { IsSmallReply result.reply }
     ensures noted { IsNoted result }
 {
     match try_apply(alloc, host, event) {
@@ -229,7 +232,7 @@ fn apply_order<H: Storage>(alloc: Global, host: &mut H, event: &Event) -> Told
     }
 }
 
-/// Applies a request whose head was read; `body` is all of its body.
+/// Applies a request whose head was read; `rest` is what comes after it.
 fn apply_headed<H: Storage>(
     alloc: Global,
     routes: &Routes,
@@ -237,25 +240,28 @@ fn apply_headed<H: Storage>(
     reading: u64,
     head: &Head,
     rest: &[u8],
-) -> Told
+    delivery: Delivery,
+) -> Replied
     requires in_range { reading ≤ last_reading }
     requires rest { Clean H.IsIntact H.IsOpen host.old → IsAtRest H.IsSoundStore (H.seen host.old) }
     ensures stays { StaysAtRest H.IsIntact H.IsOpen H.IsSoundStore H.seen H.left host.old host.new }
     ensures told { ToldOf H.IsIntact H.IsOpen H.seen H.left reading (completed (announced_view head.now) rest.now)
-        host.old host.new (told result) }
-    ensures noted { IsNoted result }
+        host.old host.new (told_in (H.seen host.new).now result) }
+    ensures whole { delivery ≡ AtOnce → IsToldWhole result }
+    ensures great { IsToldAsGreat result }
+    ensures small { delivery ≡ InPieces → IsToldSmall result }
+    ensures noted { IsToldNoted result }
+    ensures measured { Clean H.IsIntact H.IsOpen host.new → IsToldMeasured (H.seen host.new).now result }
 {
     if head.body_size > rest.len() as u64 {
-        return refuse_unread(alloc, routes, host, reading, Refusal::IncompleteBody);
+        let refusal = Refusal::IncompleteBody;
+        return Replied::Told(refuse_unread(alloc, routes, host, reading, refusal));
     }
     let mut body = WholeBody::new(&rest[..head.body_size as usize]);
-    let delivery = Delivery::AtOnce;
     match receive(alloc, routes, host, reading, head, &mut body, delivery) {
-        Some(Replied::Told(told)) => told,
-        // The body was already read.
-        Some(Replied::Planned(_)) => wanting(Trouble::Store),
+        Some(replied) => replied,
         // The reader of a body in memory can't fail.
-        None => wanting(Trouble::Body),
+        None => Replied::Told(wanting(Trouble::Body)),
     }
 }
 
@@ -266,23 +272,80 @@ fn apply_request<H: Storage>(
     host: &mut H,
     reading: u64,
     bytes: &[u8],
-) -> Told
+    delivery: Delivery,
+) -> Replied
     requires in_range { reading ≤ last_reading }
     requires rest { Clean H.IsIntact H.IsOpen host.old → IsAtRest H.IsSoundStore (H.seen host.old) }
     ensures stays { StaysAtRest H.IsIntact H.IsOpen H.IsSoundStore H.seen H.left host.old host.new }
-    ensures applied { H.IsIntact host.new
-        → AppliedTo H.IsOpen H.seen (request_at reading bytes.now) host.old host.new result.stamp (reply_bytes result.reply) }
-    ensures told_apart { H.IsIntact host.new → IsToldApart (request_at reading bytes.now) result.stamp (reply_bytes result.reply) }
-    ensures acknowledged { IfSome result.stamp (λ _. H.IsIntact host.new
-        → (x : Tables) → H.left host.new x → x ≡ (H.seen host.new).now) }
-    ensures crash { IfNone result.stamp (H.IsIntact host.new → (x : Tables) → H.left host.new x
-        → H.left host.old x ⊎ (H.IsOpen host.old × WouldApply (request_at reading bytes.now) (H.seen host.old).now x)) }
-    ensures noted { IsNoted result }
+    ensures happened { Happened H.IsIntact H.IsOpen H.seen H.left (request_at reading bytes.now) host.old host.new
+        (told_in (H.seen host.new).now result).0 (told_in (H.seen host.new).now result).1 }
+    ensures whole { delivery ≡ AtOnce → IsToldWhole result }
+    ensures great { IsToldAsGreat result }
+    ensures small { delivery ≡ InPieces → IsToldSmall result }
+    ensures noted { IsToldNoted result }
+    ensures measured { Clean H.IsIntact H.IsOpen host.new → IsToldMeasured (H.seen host.new).now result }
 {
     match split_head(bytes, &host.limits()) {
-        Ok((head, rest)) => apply_headed(alloc, routes, host, reading, &head, rest),
-        Err(refusal) => refuse_unread(alloc, routes, host, reading, refusal),
+        Ok((head, rest)) => apply_headed(alloc, routes, host, reading, &head, rest, delivery),
+        Err(refusal) => Replied::Told(refuse_unread(alloc, routes, host, reading, refusal)),
     }
+}
+
+/// Applies one event in one transaction, and returns its reply as `delivery` says.
+fn apply_with<H: Storage>(
+    alloc: Global,
+    routes: &Routes,
+    host: &mut H,
+    event: &Event,
+    delivery: Delivery,
+) -> Replied
+    requires rest { Clean H.IsIntact H.IsOpen host.old → IsAtRest H.IsSoundStore (H.seen host.old) }
+    ensures stays { StaysAtRest H.IsIntact H.IsOpen H.IsSoundStore H.seen H.left host.old host.new }
+    ensures happened { Happened H.IsIntact H.IsOpen H.seen H.left (arrival event.now) host.old host.new
+        (told_in (H.seen host.new).now result).0 (told_in (H.seen host.new).now result).1 }
+    ensures clock { last_reading < (arrival event.now).reading → (host.new ≡ host.old)
+        × (told_in (H.seen host.new).now result ≡ (None, clock_text (reply.caller_of (arrival event.now).message))) }
+    ensures whole { delivery ≡ AtOnce → IsToldWhole result }
+    ensures great { IsToldAsGreat result }
+    ensures small { delivery ≡ InPieces → IsToldSmall result }
+    ensures noted { IsToldWanting (arrival event.now).reading result }
+    ensures measured { Clean H.IsIntact H.IsOpen host.new → IsToldMeasured (H.seen host.new).now result }
+{
+    if event.reading() > LAST_READING {
+        let reply = Reply::ClockOutOfRange(caller_of(event));
+        return Replied::Told(Told { stamp: None, reply });
+    }
+    match event {
+        Event::Http { reading, bytes } => {
+            apply_request(alloc, routes, host, *reading, bytes, delivery)
+        }
+        Event::Operator { .. }
+        | Event::Sweep { .. }
+        | Event::Report { .. }
+        | Event::Tenants { .. } => Replied::Told(apply_order(alloc, host, event)),
+    }
+}
+
+/// Applies one event as `apply` does. An object above 65,536 bytes that it finds is still to be
+/// read, from what was committed.
+pub fn apply_in_pieces<H: Storage>(
+    alloc: Global,
+    routes: &Routes,
+    host: &mut H,
+    event: &Event,
+) -> Replied
+    requires rest { Clean H.IsIntact H.IsOpen host.old → IsAtRest H.IsSoundStore (H.seen host.old) }
+    ensures stays { StaysAtRest H.IsIntact H.IsOpen H.IsSoundStore H.seen H.left host.old host.new }
+    ensures happened { Happened H.IsIntact H.IsOpen H.seen H.left (arrival event.now) host.old host.new
+        (told_in (H.seen host.new).now result).0 (told_in (H.seen host.new).now result).1 }
+    ensures clock { last_reading < (arrival event.now).reading → (host.new ≡ host.old)
+        × (told_in (H.seen host.new).now result ≡ (None, clock_text (reply.caller_of (arrival event.now).message))) }
+    ensures great { IsToldAsGreat result }
+    ensures small { IsToldSmall result }
+    ensures noted { IsToldWanting (arrival event.now).reading result }
+    ensures measured { Clean H.IsIntact H.IsOpen host.new → IsToldMeasured (H.seen host.new).now result }
+{
+    apply_with(alloc, routes, host, event, Delivery::InPieces)
 }
 
 /// Applies one event in one transaction and returns its reply. Requests are parsed with the host's
@@ -314,17 +377,9 @@ pub fn apply<H: Storage>(alloc: Global, routes: &Routes, host: &mut H, event: &E
         × (host.new ≡ host.old) }
     ensures noted { is_some (reply_trouble result.reply) ≡ is_wanting (arrival event.now).reading result.stamp }
 {
-    if event.reading() > LAST_READING {
-        return Told {
-            stamp: None,
-            reply: Reply::ClockOutOfRange(caller_of(event)),
-        };
-    }
-    match event {
-        Event::Http { reading, bytes } => apply_request(alloc, routes, host, *reading, bytes),
-        Event::Operator { .. }
-        | Event::Sweep { .. }
-        | Event::Report { .. }
-        | Event::Tenants { .. } => { apply_order(alloc, host, event) }
+    match apply_with(alloc, routes, host, event, Delivery::AtOnce) {
+        Replied::Told(told) => told,
+        // The object was already read.
+        Replied::Planned(_) => wanting(Trouble::Store),
     }
 }

@@ -121,7 +121,7 @@ fn serve_tenant<H: Storage, B: Body>(
 }
 
 /// A request at its stamp. A request of no tenant is refused once its body was received.
-fn serve<H: Storage, B: Body>(
+pub fn serve<H: Storage, B: Body>(
     alloc: Global,
     routes: &Routes,
     host: &mut H,
