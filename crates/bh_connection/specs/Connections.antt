@@ -173,8 +173,3 @@ pub record CameTo {H : Type 0} (IsIntact IsOpen : H → Type 0) (seen : H → Se
   pub came : Came (seen old).limits before after served outcome
   pub did : Did IsIntact IsOpen seen left before.reading served.ended outcome old new
   pub short : IsIntact new → served.ended ≡ StoreFailed → IsCutShort outcome served.sent
-
--- there was a connection, or none
-abbrev pub DidSome : {H : Type 0} → (H → Type 0) → (H → Type 0) → (H → Seen) → (H → Tables → Type 0) → H → H → Type 0
-DidSome IsIntact IsOpen seen left old new =
-    (reading : ℕ) × (ended : End) × (outcome : Outcome) × Did IsIntact IsOpen seen left reading ended outcome old new

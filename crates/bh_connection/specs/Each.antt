@@ -1,5 +1,5 @@
 -- A list of connections, and that each tenant is answered as if it were alone.
-use Rattle.std.specs.Prelude.{◌≡◌, ℕ, false, List, [], ◌∷◌, map, filter_map, Option, option_map}
+use Rattle.std.specs.Prelude.{◌≡◌, ℕ, false, List, [], ◌∷◌, ◌++◌, map, filter_map, Option, option_map}
 use Rattle.bh_types.specs.Limits.{HostLimits}
 use Rattle.bh_event.specs.Events.{Arrival as Event}
 use Rattle.bh_tables.specs.Typed.{Tables}
@@ -37,7 +37,13 @@ event_of row = option_map (λ o. request_at row.before.reading o.0) row.outcome
 abbrev pub told_of : Row → Option Told
 told_of row = option_map (λ o. o.1) row.outcome
 
--- connections were served in turn; those whose reader didn't fail are the events of a run
+-- each run that came to `old` goes on with these events, and comes to `new`
+abbrev pub RunsGoOn : {H : Type 0} → (H → Type 0) → (H → Seen) → (H → Tables → Type 0) → List Event → List Told → H → H → Type 0
+RunsGoOn {H} IsOpen seen left events tolds old new = (first : H) (before : List Event) (dones : List Told)
+    → RanOn IsOpen seen left before dones first old → RanOn IsOpen seen left (before ++ events) (dones ++ tolds) first new
+
+-- connections were served in turn; those whose reader didn't fail are the events of a run, and a run
+-- before goes on with them
 pub record HasServedAs {H : Type 0} (IsIntact IsOpen : H → Type 0) (seen : H → Seen) (left : H → Tables → Type 0) (before after : List Ends)
     (serveds : List Served) (old new : H) (rows : List Row) : Type 0 where
   pub befores : map (λ (row : Row). row.before) rows ≡ before
@@ -45,6 +51,7 @@ pub record HasServedAs {H : Type 0} (IsIntact IsOpen : H → Type 0) (seen : H �
   pub served : map (λ (row : Row). row.served) rows ≡ serveds
   pub each : EachCame (seen old).limits rows
   pub ran : IsIntact new → RanOn IsOpen seen left (filter_map event_of rows) (filter_map told_of rows) old new
+  pub goes_on : IsIntact new → RunsGoOn IsOpen seen left (filter_map event_of rows) (filter_map told_of rows) old new
 
 abbrev pub HasServed : {H : Type 0} → (H → Type 0) → (H → Type 0) → (H → Seen) → (H → Tables → Type 0) → List Ends → List Ends → List Served
     → H → H → Type 0

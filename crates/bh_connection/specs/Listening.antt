@@ -1,5 +1,5 @@
--- The visits of an acceptor, and its calls for them.
-use Rattle.std.specs.Prelude.{◌≡◌, ◌⊎◌, ◌<◌, ◌≤◌, ℕ, Bool, true, false, List, [], ◌∷◌, ◌++◌, length, filter_map, Option, Some, Result}
+-- The visits of an acceptor, in groups that are served together.
+use Rattle.std.specs.Prelude.{◌≡◌, ◌⊎◌, ◌<◌, ◌≤◌, ℕ, Bool, true, false, List, [], ◌∷◌, ◌++◌, length, filter_map, All, Option, Some, Result}
 use Rattle.std.specs.Prelude.{MatchResult, option_map, option_and_then}
 use Rattle.std.specs.List.{flat_map}
 use Rattle.bh_tables.specs.Typed.{Tables}
@@ -12,36 +12,14 @@ use Rattle.bh_host.specs.declared.reply.Caller.{Caller}
 use Rattle.bh_host.specs.declared.reply.Caller.TheVariants.{Request, Operator}
 use Rattle.bh_http.specs.Transfers.{Logs}
 use Rattle.bh_connection.specs.Connections.{Ends, CameTo}
+use Rattle.bh_connection.specs.Each.{RunsGoOn}
 use Rattle.bh_connection.specs.Operators.{WasOrdered}
-use Rattle.bh_connection.specs.Visits.{Visit, OfClient, OfOperator, CameBy, AllCame, IsAdmitted, AllAdmitted, DidBy, NotedBy}
+use Rattle.bh_connection.specs.Groups.{Call, IsFault, IsGroup, calls_of, in_groups}
+use Rattle.bh_connection.specs.Visits.{Visit, OfClient, OfOperator, AllCame, AllAdmitted, DidBy}
 use Rattle.bh_connection.specs.Visits.{NoneStops, is_stop, event_of, told_of}
+use Rattle.bh_connection.specs.declared.group.Grouped.{Grouped}
 use Rattle.bh_connection.specs.declared.listener.Ports.{Ports}
-use Rattle.bh_connection.specs.declared.served.Served.{Served}
 use Rattle.bh_connection.specs.declared.served.Visited.{Visited}
-
--- ---- the calls of an acceptor, with their results
-
-pub data Call : Type 0 where
-  Accepted : (caller : Caller) → Call
-  NotAccepted : Call
-  ToldReading : (reading : ℕ) → Call
-  ToldNone : Call
-  Opened : (ends : Ends) → Call
-  Closed : (ends : Ends) (served : Served) → Call
-
--- the calls of a connection that was served: after the accept the clock is read, which gives its
--- reading
-abbrev pub calls_for : Caller → Ends → Ends → Served → List Call
-calls_for caller before after served = Accepted caller ∷ ToldReading before.reading ∷ Opened before ∷ Closed after served ∷ []
-
--- a client's is served as a client's, and an operator's as an operator's
-abbrev pub calls_of : Visit → List Call
-calls_of (OfClient row) = calls_for Request row.before row.after row.served
-calls_of (OfOperator row) = calls_for Operator row.before row.after row.served
-
--- the calls that end serving: an accept failed, or the clock failed after one
-abbrev pub IsFault : List Call → Type 0
-IsFault calls = (calls ≡ NotAccepted ∷ []) ⊎ ((caller : Caller) × (calls ≡ Accepted caller ∷ ToldNone ∷ []))
 
 -- ---- a store that is shut
 
@@ -60,14 +38,19 @@ abbrev pub AllOpen : List Visit → Type 0
 AllOpen [] = Unit {0}
 AllOpen (visit ∷ visits) = (is_shut (trouble_of visit) ≡ false) × AllOpen visits
 
--- serving ended with the last of these: the host was lost over a backup, or the store was found
--- shut. None before it found it so
-pub record HasEnded {H : Type 0} (lost : H → Bool) (new : H) (visits : List Visit) : Type 0 where
-  pub before : List Visit
-  pub last : Visit
-  pub all : visits ≡ before ++ last ∷ []
-  pub going : AllOpen before
-  pub why : (lost new ≡ true) ⊎ (is_shut (trouble_of last) ≡ true)
+-- one of these did
+abbrev pub SomeShut : List Visit → Type 0
+SomeShut [] = ⊥
+SomeShut (visit ∷ visits) = (is_shut (trouble_of visit) ≡ true) ⊎ SomeShut visits
+
+-- serving ended with the last of these groups: the host was lost over a backup, or the store was
+-- found shut. No group before it found it so
+pub record HasEnded {H : Type 0} (lost : H → Bool) (new : H) (groups : List (List Visit)) : Type 0 where
+  pub before : List (List Visit)
+  pub last : List Visit
+  pub all : groups ≡ before ++ last ∷ []
+  pub going : AllOpen (in_groups before)
+  pub why : (lost new ≡ true) ⊎ SomeShut last
 
 -- ---- a stop
 
@@ -85,7 +68,7 @@ pub record HasStopped (visits : List Visit) : Type 0 where
 abbrev pub WereEnough : ℕ → List Visit → Type 0
 WereEnough count visits = ((length visits ≡ count) × NoneStops visits) ⊎ ((length visits ≤ count) × HasStopped visits)
 
--- ---- one connection
+-- ---- one visit
 
 module _ {H C : Type 0} (IsIntact IsOpen : H → Type 0) (seen : H → Seen) (left : H → Tables → Type 0) (shows : C → Tables → Type 0)
     (secret : Option (List ℕ)) where
@@ -96,29 +79,7 @@ module _ {H C : Type 0} (IsIntact IsOpen : H → Type 0) (seen : H → Seen) (le
   VisitedAs Operator before after visited old new =
       WasOrdered IsIntact IsOpen seen left shows secret before after visited.served visited.stops old new
 
-  -- one was accepted and served
-  pub record IsServed (operated : Bool) (before after : Option (List Call)) (old new : H) (visit : Visit) : Type 0 where
-    pub admitted : IsAdmitted operated visit
-    pub calls : Logs before after (calls_of visit)
-    pub came : CameBy secret (seen old).limits visit
-    pub did : DidBy IsIntact IsOpen seen left shows visit old new
-    pub noted : NotedBy visit
-
-  -- there are no calls after a fault
-  pub record HasFailed (before after : Option (List Call)) (old new : H) (fault : List Call) : Type 0 where
-    pub which : IsFault fault
-    pub calls : Logs before after fault
-    pub same : new ≡ old
-
-  -- one came and was served, with that failure behind its reply, if any, and was a stop or not; or
-  -- there was a fault
-  abbrev pub ComesOne : {E : Type 0} → Bool → Option (List Call) → Option (List Call) → Result Visited E → H → H → Type 0
-  ComesOne operated before after result old new =
-      MatchResult result (λ visited. (visit : Visit) × IsServed operated before after old new visit
-      × (trouble_of visit ≡ visited.served.trouble) × (is_stop visit ≡ visited.stops))
-      (λ _. (fault : List Call) × HasFailed before after old new fault)
-
--- ---- connections in turn
+-- ---- visits in turn
 
 module _ {H : Type 0} (IsIntact IsOpen : H → Type 0) (seen : H → Seen) (left : H → Tables → Type 0) (secret : Option (List ℕ)) where
   -- those with a request or an order are the events of a run, and each tenant is alone in it
@@ -137,22 +98,63 @@ module _ {H : Type 0} (IsIntact IsOpen : H → Type 0) (seen : H → Seen) (left
   WereCounted operated count result old new = (visits : List Visit) × HasServedAll visits old new × AllAdmitted operated visits
       × MatchResult result (λ _. WereEnough count visits) (λ _. (length visits ≤ count) × NoneStops visits)
 
-  -- `count` connections were served, each that was accepted, or the last one was the first stop; or
-  -- fewer, and then a fault ended it, or a backup over which the host was lost, or the first reply
-  -- for which the store was found shut, and none was a stop. No other call was made
+  -- `count` connections were served, each that was accepted, in groups, or the last one was the first
+  -- stop; or fewer, and then a fault ended it, or a backup over which the host was lost, or the first
+  -- group for which the store was found shut, and none was a stop. No other call was made
   abbrev pub HasListened : {X E : Type 0} → Bool → (H → Bool) → Option (List Call) → Option (List Call) → ℕ → Result X E → H → H → Type 0
   HasListened operated lost before after count result old new =
-      (visits : List Visit) × HasServedAll visits old new × AllAdmitted operated visits × MatchResult result
-      (λ _. WereEnough count visits × AllOpen visits × Logs before after (flat_map calls_of visits))
-      (λ _. NoneStops visits × (((length visits < count) × AllOpen visits
-      × ((fault : List Call) × IsFault fault × Logs before after (flat_map calls_of visits ++ fault)))
-      ⊎ (HasEnded lost new visits × (length visits ≤ count) × Logs before after (flat_map calls_of visits))))
+      (groups : List (List Visit)) × All IsGroup groups × HasServedAll (in_groups groups) old new × AllAdmitted operated (in_groups groups)
+      × MatchResult result
+      (λ _. WereEnough count (in_groups groups) × AllOpen (in_groups groups) × Logs before after (flat_map calls_of groups))
+      (λ _. NoneStops (in_groups groups) × (((length (in_groups groups) < count) × AllOpen (in_groups groups)
+      × ((fault : List Call) × IsFault fault × Logs before after (flat_map calls_of groups ++ fault)))
+      ⊎ (HasEnded lost new groups × (length (in_groups groups) ≤ count) × Logs before after (flat_map calls_of groups))))
 
-  -- a host that was lost was served up to some visit
-  abbrev pub WasLost : {C : Type 0} → (C → Tables → Type 0) → (H → Bool) → H → H → Type 0
-  WasLost shows lost old new = lost old ≡ false → lost new ≡ true
-      → (visits : List Visit) × (mid : H) × (visit : Visit) × HasServedAll visits old mid
-      × DidBy IsIntact IsOpen seen left shows visit mid new
+-- ---- one group
+
+module _ {H C : Type 0} (IsIntact IsOpen : H → Type 0) (seen : H → Seen) (left : H → Tables → Type 0) (shows : C → Tables → Type 0)
+    (secret : Option (List ℕ)) where
+  -- one visit was made, or several at once, which are a run
+  abbrev pub DidGroup : List Visit → H → H → Type 0
+  DidGroup [] old new = ⊥
+  DidGroup (visit ∷ []) old new = DidBy IsIntact IsOpen seen left shows visit old new
+  DidGroup (visit ∷ next ∷ visits) old new = HasServedAll IsIntact IsOpen seen left secret (visit ∷ next ∷ visits) old new
+
+  -- a group was accepted and served, and this is told of it
+  pub record IsServed (operated : Bool) (before after : Option (List Call)) (old new : H) (grouped : Grouped) (group : List Visit) :
+      Type 0 where
+    pub is : IsGroup group
+    pub admitted : AllAdmitted operated group
+    pub calls : Logs before after (calls_of group)
+    pub served : HasServedAll IsIntact IsOpen seen left secret group old new
+    pub goes_on : IsIntact new → RunsGoOn IsOpen seen left (filter_map event_of group) (filter_map told_of group) old new
+    pub did : DidGroup group old new
+    pub count : grouped.count ≡ length group
+    pub stopped : grouped.stops ≡ true → HasStopped group × AllOpen group
+    pub going : grouped.stops ≡ false → NoneStops group
+    pub shut : grouped.is_shut ≡ true → SomeShut group
+    pub opened : grouped.is_shut ≡ false → AllOpen group
+
+  abbrev pub Serves : Bool → Option (List Call) → Option (List Call) → Grouped → H → H → Type 0
+  Serves operated before after grouped old new = (group : List Visit) × IsServed operated before after old new grouped group
+
+  -- there are no calls after a fault
+  pub record HasFailed (before after : Option (List Call)) (old new : H) (fault : List Call) : Type 0 where
+    pub which : IsFault fault
+    pub calls : Logs before after fault
+    pub same : new ≡ old
+
+  -- a group came and was served; or there was a fault
+  abbrev pub ComesGroup : {E : Type 0} → Bool → Option (List Call) → Option (List Call) → Result Grouped E → H → H → Type 0
+  ComesGroup operated before after result old new = MatchResult result (λ grouped. Serves operated before after grouped old new)
+      (λ _. (fault : List Call) × HasFailed before after old new fault)
+
+-- a host that was lost was served up to some group
+abbrev pub WasLost : {H C : Type 0} → (H → Type 0) → (H → Type 0) → (H → Seen) → (H → Tables → Type 0) → Option (List ℕ)
+    → (C → Tables → Type 0) → (H → Bool) → H → H → Type 0
+WasLost {H = H} IsIntact IsOpen seen left secret shows lost old new = lost old ≡ false → lost new ≡ true
+    → (visits : List Visit) × (mid : H) × (group : List Visit) × HasServedAll IsIntact IsOpen seen left secret visits old mid
+    × DidGroup IsIntact IsOpen seen left shows secret group mid new
 
 -- the secret of the operators of a port, if there is one
 abbrev pub secret_of : Ports → Option (List ℕ)

@@ -90,10 +90,6 @@ module _ {H C : Type 0} (IsIntact IsOpen : H → Type 0) (seen : H → Seen) (le
   DidBy (OfClient row) old new = Did IsIntact IsOpen seen left row.before.reading row.served.ended row.outcome old new
   DidBy (OfOperator row) old new = Obeys IsIntact IsOpen seen left shows row.heard old new
 
-  -- there was a visit, or none
-  abbrev pub DidFor : Bool → H → H → Type 0
-  DidFor operated old new = (visit : Visit) × IsAdmitted operated visit × DidBy visit old new
-
 -- requests and orders were applied in turn, each at a reading of the clock
 abbrev pub RanAny : {H : Type 0} → (H → Type 0) → (H → Seen) → (H → Tables → Type 0) → H → H → Type 0
 RanAny IsOpen seen left old new = (events : List Event) × (tolds : List Told) × RanOn IsOpen seen left events tolds old new

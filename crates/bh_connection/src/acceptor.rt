@@ -2,7 +2,7 @@ ghost use Rattle.std.specs.Prelude.{◌≡◌, ◌∷◌, ℕ, Bool, true, List,
 ghost use Rattle.bh_http.specs.Transfers.{Logs};
 ghost use Rattle.bh_connection.specs.Each.{IsGoing, ends};
 ghost use Rattle.bh_host.specs.declared.reply.Caller.TheVariants.{Operator};
-ghost use Rattle.bh_connection.specs.Listening.{Call, Accepted, NotAccepted, ToldReading, ToldNone, Opened, Closed};
+ghost use Rattle.bh_connection.specs.Groups.{Call, Accepted, NotAccepted, ToldReading, ToldNone, Opened, Closed, accepted_more};
 
 use crate::each::Arrival;
 use crate::served::Served;
@@ -10,7 +10,8 @@ use bh_host::Caller;
 use bh_link::ends::{Sink, Source};
 use std::io;
 
-/// Accepts connections, one after another, and reads the clock by which they are served.
+/// Accepts connections, alone or several to be served together, and reads the clock by which they
+/// are served.
 ///
 /// No contract can promise what a socket or a clock returns. But an acceptor may record its calls
 /// with their results, and by these a server's contract is stated.
@@ -32,13 +33,20 @@ pub trait Acceptor {
         ensures admitted { IfOk result (λ caller. caller ≡ Operator → operated self.old ≡ true) }
         ensures operated { operated self.new ≡ operated self.old };
 
+    /// Makes another client's connection the current one, if its request is there whole already, and
+    /// may be served together with those before it. It doesn't wait. All requests of a group are kept
+    /// in memory at once, so each of them is small, the first one too.
+    fn accept_more(&mut self) -> bool
+        ensures calls { Logs (calls self.old) (calls self.new) (accepted_more result) }
+        ensures operated { operated self.new ≡ operated self.old };
+
     /// The clock's reading: whole seconds since 1970.
     fn seconds(&mut self) -> io::Result<u64>
         ensures calls { MatchResult result (λ reading. Logs (calls self.old) (calls self.new) (ToldReading reading ∷ []))
             (λ _. Logs (calls self.old) (calls self.new) (ToldNone ∷ [])) }
         ensures operated { operated self.new ≡ operated self.old };
 
-    /// The two ends of its connection, at a reading of the clock.
+    /// The two ends of the current connection, at a reading of the clock.
     fn open(&mut self, reading: u64) -> Arrival<Self::Reader, Self::Writer>
         ensures calls { Logs (calls self.old) (calls self.new)
             (Opened (ends Self.Reader.Source.remaining Self.Reader.Source.transfers
@@ -47,7 +55,7 @@ pub trait Acceptor {
         ensures reading { result.reading ≡ reading }
         ensures operated { operated self.new ≡ operated self.old };
 
-    /// Closes its connection; `served` is how it ended.
+    /// Closes the connection of these ends; `served` is how it ended.
     fn close(&mut self, arrival: Arrival<Self::Reader, Self::Writer>, served: Served)
         ensures calls { Logs (calls self.old) (calls self.new)
             (Closed (ends Self.Reader.Source.remaining Self.Reader.Source.transfers

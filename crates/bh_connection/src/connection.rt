@@ -63,7 +63,8 @@ pub fn serve_connection<H: Storage, R: Source, W: Sink>(
         → (x : Tables) → H.left host.new x → x ≡ (H.seen host.new).now) }
 {
     if reading > LAST_READING {
-        return answer(writer, left_out(Reply::ClockOutOfRange(Caller::Request)));
+        let told = left_out(Reply::ClockOutOfRange(Caller::Request));
+        return answer(writer, &told);
     }
     let mut headers = [EMPTY_HEADER_SPAN; MAX_FIELDS];
     match take_head(alloc, &host.limits(), &mut headers, reader) {
@@ -71,8 +72,8 @@ pub fn serve_connection<H: Storage, R: Source, W: Sink>(
             alloc, routes, host, reading, &opening, &headers, reader, writer,
         ),
         Err(TakeError::OutOfMemory) => {
-            let reply = Reply::Wanting(Caller::Request, Trouble::Memory);
-            answer(writer, left_out(reply))
+            let told = left_out(Reply::Wanting(Caller::Request, Trouble::Memory));
+            answer(writer, &told)
         }
         Err(TakeError::ReadFailed) => broken_off(),
     }
@@ -112,7 +113,7 @@ fn serve_headed<H: Storage, R: Source, W: Sink>(
         reader,
         Delivery::InPieces,
     ) {
-        Some(Replied::Told(told)) => answer(writer, told),
+        Some(Replied::Told(told)) => answer(writer, &told),
         Some(Replied::Planned(reply)) => send_planned(alloc, host, writer, reply),
         None => broken_off(),
     }
@@ -148,12 +149,15 @@ fn serve_opened<H: Storage, R: Source, W: Sink>(
             let head = found.of(opening.bytes.as_slice(), headers);
             serve_headed(alloc, routes, host, reading, &head, reader, writer)
         }
-        Err(refusal) => answer(writer, refuse_unread(alloc, routes, host, reading, refusal)),
+        Err(refusal) => {
+            let told = refuse_unread(alloc, routes, host, reading, refusal);
+            answer(writer, &told)
+        }
     }
 }
 
 /// The result for a connection whose reader failed.
-fn broken_off() -> Served
+pub(crate) fn broken_off() -> Served
     ensures stamp { result.stamp ≡ None }
     ensures sent { result.sent ≡ 0 }
     ensures ended { result.ended ≡ End.ReadFailed }
@@ -167,7 +171,7 @@ fn broken_off() -> Served
 }
 
 /// The reply if nothing was applied.
-fn left_out(reply: Reply) -> Told
+pub(crate) fn left_out(reply: Reply) -> Told
     ensures stamp { result.stamp ≡ None }
     ensures reply { result.reply ≡ reply }
 {
@@ -175,15 +179,15 @@ fn left_out(reply: Reply) -> Told
 }
 
 /// Writes a reply. It has no object that should be sent in pieces.
-fn answer<W: Sink>(writer: &mut Link<W>, told: Told) -> Served
+pub(crate) fn answer<W: Sink>(writer: &mut Link<W>, told: &Told) -> Served
     requires writes { writer.old.failed ≡ false }
-    requires small { IsSmallReply told.reply }
-    ensures stamp { result.stamp ≡ told.stamp }
-    ensures out { Appends (W.contents writer.old.inner) (W.contents writer.new.inner) (take result.sent (reply_bytes told.reply)) }
+    requires small { IsSmallReply told.now.reply }
+    ensures stamp { result.stamp ≡ told.now.stamp }
+    ensures out { Appends (W.contents writer.old.inner) (W.contents writer.new.inner) (take result.sent (reply_bytes told.now.reply)) }
     ensures took { Takes (W.transfers writer.old.inner) (W.transfers writer.new.inner)
-        (take result.sent (reply_bytes told.reply)) writer.new.failed }
-    ensures ended { EndsAs result.ended result.sent (reply_bytes told.reply) writer.new.failed }
-    ensures trouble { result.trouble ≡ reply_trouble told.reply }
+        (take result.sent (reply_bytes told.now.reply)) writer.new.failed }
+    ensures ended { EndsAs result.ended result.sent (reply_bytes told.now.reply) writer.new.failed }
+    ensures trouble { result.trouble ≡ reply_trouble told.now.reply }
 {
     let bytes = told.reply.bytes();
     let sent = writer.send(bytes);

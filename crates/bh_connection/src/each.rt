@@ -1,8 +1,9 @@
-ghost use Rattle.std.specs.Prelude.{◌≡◌, length, map, false, All, IfOk, OnErr};
+ghost use Rattle.std.specs.Prelude.{◌≡◌, ◌≤◌, ◌+◌, length, map, All, IfOk, OnErr, vec_capacity};
 ghost use Rattle.bh_storage.specs.Calls.{Clean, IsAtRest};
 ghost use Rattle.bh_host.specs.Resting.{StaysAtRest};
 ghost use Rattle.bh_connection.specs.Connections.{CameTo};
 ghost use Rattle.bh_connection.specs.Each.{IsGoing, HasServed, HasServedAlone, ends};
+ghost use Rattle.bh_connection.specs.Together.{HasServedMore};
 
 use crate::connection::serve_connection;
 use crate::served::Served;
@@ -44,11 +45,33 @@ pub fn serve_each<H: Storage, R: Source, W: Sink>(
     ensures err { OnErr result ((host.new ≡ host.old) × (arrivals.new ≡ arrivals.old)) }
 {
     let mut serveds = Vec::with_capacity(alloc, arrivals.len())?;
+    serve_all(alloc, routes, host, arrivals, &mut serveds);
+    Ok(serveds)
+}
+
+/// Serves connections in turn, as [`serve_each`] does, and appends their results where there is room.
+pub(crate) fn serve_all<H: Storage, R: Source, W: Sink>(
+    alloc: Global,
+    routes: &Routes,
+    host: &mut H,
+    arrivals: &mut [Arrival<R, W>],
+    serveds: &mut Vec<Served>,
+)
+    requires rest { Clean H.IsIntact H.IsOpen host.old → IsAtRest H.IsSoundStore (H.seen host.old) }
+    requires going { All IsGoing arrivals.old }
+    requires room { length serveds.old.items + length arrivals.old ≤ vec_capacity serveds.old }
+    ensures stays { StaysAtRest H.IsIntact H.IsOpen H.IsSoundStore H.seen H.left host.old host.new }
+    ensures served { HasServedMore H.IsIntact H.IsOpen H.seen H.left
+        (map (ends R.remaining R.transfers W.contents W.transfers) arrivals.old)
+        (map (ends R.remaining R.transfers W.contents W.transfers) arrivals.new)
+        serveds.old.items serveds.new.items host.old host.new }
+    ensures same { length arrivals.new ≡ length arrivals.old }
+    ensures count { length serveds.new.items ≡ length serveds.old.items + length arrivals.old }
+{
     for index in 0..arrivals.len() {
         let served = serve_arrival(alloc, routes, host, &mut arrivals[index]);
         serveds.push_reserved(served);
     }
-    Ok(serveds)
 }
 
 /// Serves one connection.

@@ -9,6 +9,7 @@ mod clock;
 mod connection;
 mod doors;
 mod each;
+mod group;
 mod listener;
 mod log;
 mod noted;
@@ -16,6 +17,8 @@ mod operator;
 mod sending;
 mod served;
 mod sockets;
+mod taking;
+mod together;
 
 pub use acceptor::Acceptor;
 pub use backup::BackUp;

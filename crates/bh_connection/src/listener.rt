@@ -1,25 +1,18 @@
 ghost use Rattle.std.specs.Prelude.{◌≡◌, is_some, option_map};
 ghost use Rattle.bh_storage.specs.Calls.{Clean, IsAtRest};
 ghost use Rattle.bh_host.specs.Resting.{StaysAtRest};
-ghost use Rattle.bh_connection.specs.Each.{IsGoing, ends};
-ghost use Rattle.bh_connection.specs.Listening as spec;
-ghost use Rattle.bh_connection.specs.Listening.{ComesOne, HasListened, VisitedAs, WasLost, WasVisited, WereCounted, secret_of};
-ghost use Rattle.bh_connection.specs.Visits.{DidFor, RanFor, secret_at};
+ghost use Rattle.bh_connection.specs.Listening.{HasListened, WasLost, WasVisited, WereCounted, secret_of};
+ghost use Rattle.bh_connection.specs.Visits.{RanFor, secret_at};
 
 use crate::acceptor::Acceptor;
 use crate::backup::BackUp;
 use crate::bounded::Current;
 use crate::clock::Clock;
 use crate::doors::{Doors, Operators};
-use crate::each::{Arrival, serve_arrival};
-use crate::operator::serve_line;
-use crate::served::Visited;
+use crate::group::serve_group;
 use crate::sockets::{Manner, Sockets};
 use bh_host::Caller;
-use bh_link::ends::{Sink, Source};
 use bh_operation::routes::Routes;
-use bh_storage::error::Trouble;
-use sqlite::ErrorCode;
 use std::alloc::Global;
 use std::cell::RefCell;
 use std::io;
@@ -165,13 +158,14 @@ pub fn serve_listener<E: Eprint + AllocGlobal, H: BackUp, C: Clock>(
     )
 }
 
-/// Serves `count` connections of an acceptor, one after another. A client's is served as a request,
-/// an operator's as a line, which begins with the secret if there is one. The clock is read after
-/// each accept, and each connection is closed before the next accept. A fault of an accept or of
-/// the clock ends it, and nothing is done after it. So does a backup over which the host is lost,
-/// once it was answered, and the first reply for which the store is found shut: whoever opens the
-/// host again has all that was acknowledged. An operator's stop ends it too, once it was answered,
-/// and that is no error.
+/// Serves `count` connections of an acceptor, in groups: one, or up to 64 clients' whose requests
+/// are whole at the same moment and share a transaction. A client's is served as a request, an
+/// operator's as a line, which begins with the secret if there is one. The clock is read after the
+/// first accept of a group, and its connections are closed before the next accept. A fault of an
+/// accept or of the clock ends it, and nothing is done after it. So does a backup over which the
+/// host is lost, once it was answered, and the first group with a reply for which the store is
+/// found shut: whoever opens the host again has all that was acknowledged. An operator's stop ends
+/// it too, once it was answered, and that is no error.
 pub fn serve_from<H: BackUp, A: Acceptor>(
     alloc: Global,
     routes: &Routes,
@@ -187,80 +181,19 @@ pub fn serve_from<H: BackUp, A: Acceptor>(
     ensures listened { HasListened H.IsIntact H.IsOpen H.seen H.left (option_map (λ s. s.now) secret.entry)
         (A.operated acceptor.old) H.lost (A.calls acceptor.old) (A.calls acceptor.new) count result host.old host.new }
 {
-    for served in 0..count {
-        let visited = serve_next(alloc, routes, host, acceptor, secret)?;
-        if visited.stops {
+    let mut served: u64 = 0;
+    'groups: while served < count {
+        let group = serve_group(alloc, routes, host, acceptor, secret, count - served)?;
+        served += group.count;
+        if group.stops {
             return Ok(());
         }
         if host.is_lost() {
             return Err(io::Error::new(ErrorKind::Other, LOST));
         }
-        if is_shut(visited.served.trouble) {
+        if group.is_shut {
             return Err(io::Error::new(ErrorKind::Other, SHUT));
         }
     }
     Ok(())
-}
-
-/// Whether an earlier failure of the disk has shut the store, by the failure behind a reply.
-fn is_shut(trouble: Option<Trouble>) -> bool
-    ensures { result ≡ spec.is_shut trouble }
-{
-    matches!(trouble, Some(Trouble::StoreRefused(ErrorCode::Closed)))
-}
-
-/// Serves the next connection of an acceptor.
-fn serve_next<H: BackUp, A: Acceptor>(
-    alloc: Global,
-    routes: &Routes,
-    host: &mut H,
-    acceptor: &mut A,
-    secret: Option<&[u8]>,
-) -> io::Result<Visited>
-    requires { Clean H.IsIntact H.IsOpen host.old → IsAtRest H.IsSoundStore (H.seen host.old) }
-    ensures stays { StaysAtRest H.IsIntact H.IsOpen H.IsSoundStore H.seen H.left host.old host.new }
-    ensures operated { A.operated acceptor.new ≡ A.operated acceptor.old }
-    ensures did { DidFor H.IsIntact H.IsOpen H.seen H.left H.shows (A.operated acceptor.old) host.old host.new }
-    ensures comes { ComesOne H.IsIntact H.IsOpen H.seen H.left H.shows (option_map (λ s. s.now) secret.entry)
-        (A.operated acceptor.old) (A.calls acceptor.old) (A.calls acceptor.new) result host.old host.new }
-{
-    let caller = acceptor.accept()?;
-    let reading = acceptor.seconds()?;
-    let mut arrival = acceptor.open(reading);
-    let visited = serve_visit(alloc, routes, host, secret, caller, &mut arrival);
-    acceptor.close(arrival, visited.served);
-    Ok(visited)
-}
-
-/// Serves one connection, as a client's or an operator's.
-fn serve_visit<H: BackUp, R: Source, W: Sink>(
-    alloc: Global,
-    routes: &Routes,
-    host: &mut H,
-    secret: Option<&[u8]>,
-    caller: Caller,
-    arrival: &mut Arrival<R, W>,
-) -> Visited
-    requires rest { Clean H.IsIntact H.IsOpen host.old → IsAtRest H.IsSoundStore (H.seen host.old) }
-    requires going { IsGoing arrival.old }
-    ensures stays { StaysAtRest H.IsIntact H.IsOpen H.IsSoundStore H.seen H.left host.old host.new }
-    ensures visited { VisitedAs H.IsIntact H.IsOpen H.seen H.left H.shows (option_map (λ s. s.now) secret.entry) caller
-        (ends R.remaining R.transfers W.contents W.transfers arrival.old)
-        (ends R.remaining R.transfers W.contents W.transfers arrival.new) result host.old host.new }
-{
-    match caller {
-        Caller::Request => Visited::going_on(serve_arrival(alloc, routes, host, arrival)),
-        Caller::Operator => {
-            let reading = arrival.reading;
-            serve_line(
-                alloc,
-                routes,
-                host,
-                secret,
-                reading,
-                &mut arrival.reader,
-                &mut arrival.writer,
-            )
-        }
-    }
 }

@@ -105,6 +105,11 @@ impl<'a, C: Clock, E: Eprint> Acceptor for Sockets<'a, C, E> {
         Ok(caller)
     }
 
+    /// Each is served alone, since only the bytes of the current one are read.
+    fn accept_more(&mut self) -> bool {
+        false
+    }
+
     fn seconds(&mut self) -> io::Result<u64> {
         self.clock.seconds()
     }

@@ -10,8 +10,8 @@ pub returns-then-reading-gt-LAST_READING-clause-came_to : goal.returns-then-read
 returns-then-reading-gt-LAST_READING-clause-came_to g c =
     answered_fixed g.H.Storage.IsIntact g.H.Storage.IsOpen g.H.Storage.seen g.H.Storage.left (g.H.Storage.seen c.args.host.now).limits _ _ c.answer.result [] _ _ _ refl
     (took_nothing _ _) (gives_going _ _ _ _ c.requires.reads (gives_nothing _)) c.requires.reads refl (fixed_clock c.args.reading c.if-reading-gt-LAST_READING.true)
-    (c.answer.ensures.stamp ∙ c.left_out.ensures.stamp) (rw c.left_out.ensures.reply at c.answer.ensures.out) (rw c.left_out.ensures.reply at c.answer.ensures.took)
-    (rw c.left_out.ensures.reply at c.answer.ensures.ended)
+    (c.answer.ensures.stamp ∙ c.left_out-told.ensures.stamp) (rw c.left_out-told.ensures.reply at c.answer.ensures.out) (rw c.left_out-told.ensures.reply at c.answer.ensures.took)
+    (rw c.left_out-told.ensures.reply at c.answer.ensures.ended)
 
 pub returns-in-Ok-clause-came_to : goal.returns-in-Ok-clause-came_to
 returns-in-Ok-clause-came_to g c =
@@ -32,7 +32,7 @@ pub returns-in-Err-OutOfMemory-clause-came_to : goal.returns-in-Err-OutOfMemory-
 returns-in-Err-OutOfMemory-clause-came_to g c =
     let (taken, took, gave) = c.in-Err-OutOfMemory.ensures.within in
     let sent = c.answer-in-Err-OutOfMemory.ensures in
-    let left_out = c.left_out-in-Err-OutOfMemory.ensures in
+    let left_out = c.left_out-told-in-Err-OutOfMemory.ensures in
     answered_fixed g.H.Storage.IsIntact g.H.Storage.IsOpen g.H.Storage.seen g.H.Storage.left c.limits.result _ _ c.answer-in-Err-OutOfMemory.result taken _ _ _
     c.limits.ensures took gave (rw c.in-Err-OutOfMemory.field-0-is at c.in-Err-OutOfMemory.ensures.failed) refl (fixed_wanting c.args.reading c.if-reading-gt-LAST_READING.false)
     (sent.stamp ∙ left_out.stamp) (rw left_out.reply at sent.out) (rw left_out.reply at sent.took) (rw left_out.reply at sent.ended)

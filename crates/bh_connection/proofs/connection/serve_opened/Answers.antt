@@ -24,7 +24,7 @@ returns-in-Ok-clause-came_to g c = λ start begun opens gave.
 pub returns-in-Err-clause-came_to : goal.returns-in-Err-clause-came_to
 returns-in-Err-clause-came_to g c = λ start begun opens gave.
     let sent = c.answer.ensures in
-    let told = c.refuse_unread.ensures in
+    let told = c.refuse_unread-told.ensures in
     let opening = c.args.opening.now in
     unread g.H.Storage.IsIntact g.H.Storage.IsOpen g.H.Storage.seen g.H.Storage.left g.H.Storage.IsSoundStore (g.H.Storage.seen c.args.host.now).limits _ _ _ c.answer.result opening.bytes.items (announced_size opening.head) c.in-Err.refusal _ _ _ _
     refl c.requires.in_range c.requires.rest told.stays.intact opens refl (rw c.in-Err.is at c.requires.finds) gave c.requires.reads told.anew sent.stamp sent.out sent.took sent.ended

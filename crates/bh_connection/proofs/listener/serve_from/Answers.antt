@@ -1,182 +1,167 @@
-use Rattle.std.proofs.Common.{[], ◌∷◌, ◌++◌, refl, sym, ap, subst, inl, inr, ◌∙◌, arith, length-append, option_map}
+use Rattle.std.proofs.Common.{[], ◌∷◌, ◌++◌, refl, sym, ap, subst, inl, inr, ◌∙◌, arith, option_map}
 use Rattle.std.proofs.lemmas.Bool.{false≢true}
 use Rattle.std.specs.List.{flat_map}
-use Rattle.bh_http.proofs.TransferLemmas.{logs_nothing, logs_then}
+use Rattle.bh_http.proofs.TransferLemmas.{logs_then}
 use Rattle.bh_host.proofs.Resting.{stays_here, stays_then}
-use Rattle.bh_connection.specs.Listening.{calls_of, HasServedAll, is_shut}
-use Rattle.bh_connection.specs.Visits.{DidFor, IsAdmitted}
-use Rattle.bh_connection.proofs.ListeningLemmas.{logs_more, admitted_more, open_more, none_more, stopped_by, stop_is_open, nothing_came, visits_more, ran_nothing, ran_more, at_err}
+use Rattle.bh_connection.specs.Groups.{calls_of, in_groups}
+use Rattle.bh_connection.specs.Listening.{HasServedAll}
+use Rattle.bh_connection.proofs.ListeningLemmas.{count_more, open_more, none_more, stopped_by, none_come, more_come, ran_for, at_err}
 use Rattle.bh_connection.proofs.listener.serve_from.Goals as goal
 
-pub loop-served-init : goal.loop-served-init
-loop-served-init g c = record {
+pub groups-init : goal.groups-init
+groups-init g c = record {
   stays = stays_here c.args.host.now c.requires;
   operated = refl;
   alive = λ up. up;
-  ran = λ h. ran_nothing g.H.Storage.IsIntact g.H.Storage.IsOpen g.H.Storage.seen g.H.Storage.left g.H.BackUp.shows _ c.args.host.now;
-  listened = ([], refl, tt, tt, logs_nothing _, tt, nothing_came g.H.Storage.IsIntact g.H.Storage.IsOpen g.H.Storage.seen g.H.Storage.left g.H.BackUp.shows _ c.args.host.now);
+  within = omega arith;
+  listened = ([], refl, tt, tt, none_come g.H.Storage.IsIntact g.H.Storage.IsOpen g.H.Storage.seen g.H.Storage.left g.H.BackUp.shows _ _ _ c.args.host.now);
 }
 
-pub loop-served-preserved : goal.loop-served-preserved
-loop-served-preserved g c =
-    let so_far = c.loop-served.invariant in
-    let one = c.serve_next.ensures in
-    let (visits, count, going, none, log, admitted, served) = so_far.listened in
-    let (visit, is, told, stops) = c.in_ok-visited.ensures.comes in
+pub groups-preserved : goal.groups-preserved
+groups-preserved g c =
+    let so_far = c.groups.invariant in
+    let one = c.serve_group.ensures in
+    let (groups, count, going, none, come) = so_far.listened in
+    let (group, is) = c.in_ok-group.ensures.comes in
+    let next = more_come g.H.Storage.IsIntact g.H.Storage.IsOpen g.H.Storage.seen g.H.Storage.left g.H.BackUp.shows _ _ _ _ _ _ groups group _ _ _ _ so_far.operated one.stays.intact so_far.stays.limits come is in
     record {
       stays = stays_then so_far.stays one.stays;
       operated = one.operated ∙ so_far.operated;
       alive = λ _. sym c.is_lost.ensures ∙ c.if-is_lost.false;
-      ran = λ intact. ran_more g.H.Storage.IsIntact g.H.Storage.IsOpen g.H.Storage.seen g.H.Storage.left g.H.BackUp.shows _ _ _ _ intact (so_far.ran (one.stays.intact intact))
-          (subst (λ b. DidFor g.H.Storage.IsIntact g.H.Storage.IsOpen g.H.Storage.seen g.H.Storage.left g.H.BackUp.shows b c.loop-served.host c.serve_next.new.host) so_far.operated one.did);
+      within = omega (arith, c.in_ok-group.ensures.most, c.groups-test.true);
       listened = (
-        visits ++ visit ∷ [],
-        omega (arith, count, length-append visits (visit ∷ [])),
-        open_more visits visit going (ap is_shut told ∙ sym c.is_shut.ensures ∙ c.if-is_shut.false),
-        none_more visits visit none (stops ∙ c.if-visited.false),
-        logs_more _ _ _ visits visit log is.calls,
-        admitted_more _ visits visit admitted (subst (λ b. IsAdmitted b visit) so_far.operated is.admitted),
-        visits_more g.H.Storage.IsIntact g.H.Storage.IsOpen g.H.Storage.seen g.H.Storage.left g.H.BackUp.shows _ visits visit _ _ _ one.stays.intact so_far.stays.limits served is.came is.did,
+        groups ++ group ∷ [],
+        omega (arith, count, is.count, count_more groups group),
+        open_more groups group going (is.opened c.if-group-2.false),
+        none_more groups group none (is.going c.if-group.false),
+        next,
       );
     }
 
-pub returns-in_err-visited-clause-ran : goal.returns-in_err-visited-clause-ran
-returns-in_err-visited-clause-ran g c = λ intact.
-    let so_far = c.loop-served.invariant in
-    let one = c.serve_next.ensures in
-    ran_more g.H.Storage.IsIntact g.H.Storage.IsOpen g.H.Storage.seen g.H.Storage.left g.H.BackUp.shows _ _ _ _ intact (so_far.ran (one.stays.intact intact))
-    (subst (λ b. DidFor g.H.Storage.IsIntact g.H.Storage.IsOpen g.H.Storage.seen g.H.Storage.left g.H.BackUp.shows b c.loop-served.host c.serve_next.new.host) so_far.operated one.did)
-
-pub returns-in_err-visited-clause-listened : goal.returns-in_err-visited-clause-listened
-returns-in_err-visited-clause-listened g c =
-    let (visits, count, going, none, log, admitted, served) = c.loop-served.invariant.listened in
-    let (fault, is) = c.in_err-visited.ensures.comes in (
-      visits,
-      subst (λ x. HasServedAll g.H.Storage.IsIntact g.H.Storage.IsOpen g.H.Storage.seen g.H.Storage.left (option_map (λ s. s.now) c.args.secret) visits c.args.host.now x) (sym is.same) served,
-      admitted,
-      at_err c.from_residual.result _ c.from_residual.ensures.0 (none, inl (omega (arith, count, c.loop-served-test.true), going, (fault, is.which, logs_then _ _ _ (flat_map calls_of visits) fault log is.calls))),
-    )
-
-pub returns-clause-listened : goal.returns-clause-listened
-returns-clause-listened g c =
-    let (visits, count, going, none, log, admitted, served) = c.loop-served.invariant.listened in
-    (visits, served, admitted, (inl (omega (arith, count, c.loop-served-test.false, c.loop-served.auto.served-end), none), going, log))
-
-pub returns-in_err-visited-clause-stays : goal.returns-in_err-visited-clause-stays
-returns-in_err-visited-clause-stays g c = stays_then c.loop-served.invariant.stays c.serve_next.ensures.stays
-
 -- a stop
 
-pub returns-then-visited-clause-ran : goal.returns-then-visited-clause-ran
-returns-then-visited-clause-ran g c = λ intact.
-    let so_far = c.loop-served.invariant in
-    let one = c.serve_next.ensures in
-    ran_more g.H.Storage.IsIntact g.H.Storage.IsOpen g.H.Storage.seen g.H.Storage.left g.H.BackUp.shows _ _ _ _ intact (so_far.ran (one.stays.intact intact))
-    (subst (λ b. DidFor g.H.Storage.IsIntact g.H.Storage.IsOpen g.H.Storage.seen g.H.Storage.left g.H.BackUp.shows b c.loop-served.host c.serve_next.new.host) so_far.operated one.did)
+pub returns-then-group-clause-ran : goal.returns-then-group-clause-ran
+returns-then-group-clause-ran g c = λ intact.
+    let so_far = c.groups.invariant in
+    let one = c.serve_group.ensures in
+    let (groups, count, going, none, come) = so_far.listened in
+    let (group, is) = c.in_ok-group.ensures.comes in
+    let next = more_come g.H.Storage.IsIntact g.H.Storage.IsOpen g.H.Storage.seen g.H.Storage.left g.H.BackUp.shows _ _ _ _ _ _ groups group _ _ _ _ so_far.operated one.stays.intact so_far.stays.limits come is in
+    ran_for g.H.Storage.IsIntact g.H.Storage.IsOpen g.H.Storage.seen g.H.Storage.left g.H.BackUp.shows _ _ _ _ _ intact next.admitted next.served
 
-pub returns-then-visited-clause-stays : goal.returns-then-visited-clause-stays
-returns-then-visited-clause-stays g c = stays_then c.loop-served.invariant.stays c.serve_next.ensures.stays
+pub returns-then-group-clause-stays : goal.returns-then-group-clause-stays
+returns-then-group-clause-stays g c = stays_then c.groups.invariant.stays c.serve_group.ensures.stays
 
-pub returns-then-visited-clause-listened : goal.returns-then-visited-clause-listened
-returns-then-visited-clause-listened g c =
-    let so_far = c.loop-served.invariant in
-    let one = c.serve_next.ensures in
-    let (visits, count, going, none, log, admitted, served) = so_far.listened in
-    let (visit, is, told, stops) = c.in_ok-visited.ensures.comes in
-    let stop = stops ∙ c.if-visited.true in (
-      visits ++ visit ∷ [],
-      visits_more g.H.Storage.IsIntact g.H.Storage.IsOpen g.H.Storage.seen g.H.Storage.left g.H.BackUp.shows _ visits visit _ _ _ one.stays.intact so_far.stays.limits served is.came is.did,
-      admitted_more _ visits visit admitted (subst (λ b. IsAdmitted b visit) so_far.operated is.admitted),
-      (
-        inr (omega (arith, count, c.loop-served-test.true, length-append visits (visit ∷ [])), stopped_by visits visit none stop),
-        open_more visits visit going (stop_is_open visit is.noted stop),
-        logs_more _ _ _ visits visit log is.calls,
-      ),
-    )
+pub returns-then-group-clause-listened : goal.returns-then-group-clause-listened
+returns-then-group-clause-listened g c =
+    let so_far = c.groups.invariant in
+    let one = c.serve_group.ensures in
+    let (groups, count, going, none, come) = so_far.listened in
+    let (group, is) = c.in_ok-group.ensures.comes in
+    let next = more_come g.H.Storage.IsIntact g.H.Storage.IsOpen g.H.Storage.seen g.H.Storage.left g.H.BackUp.shows _ _ _ _ _ _ groups group _ _ _ _ so_far.operated one.stays.intact so_far.stays.limits come is in
+    (groups ++ group ∷ [], next.each, next.served, next.admitted, (inr (omega (arith, count, is.count, c.in_ok-group.ensures.most, c.groups-test.true, count_more groups group), stopped_by groups group none (is.stopped c.if-group.true).0), open_more groups group going (is.stopped c.if-group.true).1, next.calls))
 
-pub returns-then-visited-clause-lost : goal.returns-then-visited-clause-lost
-returns-then-visited-clause-lost g c = λ was now.
-    let (visits, count, going, none, log, admitted, served) = c.loop-served.invariant.listened in
-    let (visit, is, told, stops) = c.in_ok-visited.ensures.comes in
-    (visits, c.loop-served.host, visit, served, is.did)
+pub returns-then-group-clause-lost : goal.returns-then-group-clause-lost
+returns-then-group-clause-lost g c = λ was now.
+    let (groups, count, going, none, come) = c.groups.invariant.listened in
+    let (group, is) = c.in_ok-group.ensures.comes in
+    (in_groups groups, c.groups.host, group, come.served, is.did)
 
 -- a backup over which the host is lost
 
 pub returns-then-is_lost-clause-ran : goal.returns-then-is_lost-clause-ran
 returns-then-is_lost-clause-ran g c = λ intact.
-    let so_far = c.loop-served.invariant in
-    let one = c.serve_next.ensures in
-    ran_more g.H.Storage.IsIntact g.H.Storage.IsOpen g.H.Storage.seen g.H.Storage.left g.H.BackUp.shows _ _ _ _ intact (so_far.ran (one.stays.intact intact))
-    (subst (λ b. DidFor g.H.Storage.IsIntact g.H.Storage.IsOpen g.H.Storage.seen g.H.Storage.left g.H.BackUp.shows b c.loop-served.host c.serve_next.new.host) so_far.operated one.did)
+    let so_far = c.groups.invariant in
+    let one = c.serve_group.ensures in
+    let (groups, count, going, none, come) = so_far.listened in
+    let (group, is) = c.in_ok-group.ensures.comes in
+    let next = more_come g.H.Storage.IsIntact g.H.Storage.IsOpen g.H.Storage.seen g.H.Storage.left g.H.BackUp.shows _ _ _ _ _ _ groups group _ _ _ _ so_far.operated one.stays.intact so_far.stays.limits come is in
+    ran_for g.H.Storage.IsIntact g.H.Storage.IsOpen g.H.Storage.seen g.H.Storage.left g.H.BackUp.shows _ _ _ _ _ intact next.admitted next.served
 
 pub returns-then-is_lost-clause-stays : goal.returns-then-is_lost-clause-stays
-returns-then-is_lost-clause-stays g c = stays_then c.loop-served.invariant.stays c.serve_next.ensures.stays
+returns-then-is_lost-clause-stays g c = stays_then c.groups.invariant.stays c.serve_group.ensures.stays
 
 pub returns-then-is_lost-clause-listened : goal.returns-then-is_lost-clause-listened
 returns-then-is_lost-clause-listened g c =
-    let so_far = c.loop-served.invariant in
-    let one = c.serve_next.ensures in
-    let (visits, count, going, none, log, admitted, served) = so_far.listened in
-    let (visit, is, told, stops) = c.in_ok-visited.ensures.comes in (
-      visits ++ visit ∷ [],
-      visits_more g.H.Storage.IsIntact g.H.Storage.IsOpen g.H.Storage.seen g.H.Storage.left g.H.BackUp.shows _ visits visit _ _ _ one.stays.intact so_far.stays.limits served is.came is.did,
-      admitted_more _ visits visit admitted (subst (λ b. IsAdmitted b visit) so_far.operated is.admitted),
-      (
-        none_more visits visit none (stops ∙ c.if-visited.false),
-        inr (
-          record { before = visits; last = visit; all = refl; going = going; why = inl (sym c.is_lost.ensures ∙ c.if-is_lost.true) },
-          omega (arith, count, c.loop-served-test.true, length-append visits (visit ∷ [])),
-          logs_more _ _ _ visits visit log is.calls,
-        ),
-      ),
-    )
+    let so_far = c.groups.invariant in
+    let one = c.serve_group.ensures in
+    let (groups, count, going, none, come) = so_far.listened in
+    let (group, is) = c.in_ok-group.ensures.comes in
+    let next = more_come g.H.Storage.IsIntact g.H.Storage.IsOpen g.H.Storage.seen g.H.Storage.left g.H.BackUp.shows _ _ _ _ _ _ groups group _ _ _ _ so_far.operated one.stays.intact so_far.stays.limits come is in
+    (groups ++ group ∷ [], next.each, next.served, next.admitted, (none_more groups group none (is.going c.if-group.false), inr (record { before = groups; last = group; all = refl; going = going; why = inl (sym c.is_lost.ensures ∙ c.if-is_lost.true) }, omega (arith, count, is.count, c.in_ok-group.ensures.most, c.groups-test.true, count_more groups group), next.calls)))
 
 pub returns-then-is_lost-clause-lost : goal.returns-then-is_lost-clause-lost
 returns-then-is_lost-clause-lost g c = λ was now.
-    let (visits, count, going, none, log, admitted, served) = c.loop-served.invariant.listened in
-    let (visit, is, told, stops) = c.in_ok-visited.ensures.comes in
-    (visits, c.loop-served.host, visit, served, is.did)
+    let (groups, count, going, none, come) = c.groups.invariant.listened in
+    let (group, is) = c.in_ok-group.ensures.comes in
+    (in_groups groups, c.groups.host, group, come.served, is.did)
 
 -- a store that is shut
 
-pub returns-then-is_shut-clause-ran : goal.returns-then-is_shut-clause-ran
-returns-then-is_shut-clause-ran g c = λ intact.
-    let so_far = c.loop-served.invariant in
-    let one = c.serve_next.ensures in
-    ran_more g.H.Storage.IsIntact g.H.Storage.IsOpen g.H.Storage.seen g.H.Storage.left g.H.BackUp.shows _ _ _ _ intact (so_far.ran (one.stays.intact intact))
-    (subst (λ b. DidFor g.H.Storage.IsIntact g.H.Storage.IsOpen g.H.Storage.seen g.H.Storage.left g.H.BackUp.shows b c.loop-served.host c.serve_next.new.host) so_far.operated one.did)
+pub returns-then-group-2-clause-ran : goal.returns-then-group-2-clause-ran
+returns-then-group-2-clause-ran g c = λ intact.
+    let so_far = c.groups.invariant in
+    let one = c.serve_group.ensures in
+    let (groups, count, going, none, come) = so_far.listened in
+    let (group, is) = c.in_ok-group.ensures.comes in
+    let next = more_come g.H.Storage.IsIntact g.H.Storage.IsOpen g.H.Storage.seen g.H.Storage.left g.H.BackUp.shows _ _ _ _ _ _ groups group _ _ _ _ so_far.operated one.stays.intact so_far.stays.limits come is in
+    ran_for g.H.Storage.IsIntact g.H.Storage.IsOpen g.H.Storage.seen g.H.Storage.left g.H.BackUp.shows _ _ _ _ _ intact next.admitted next.served
 
-pub returns-then-is_shut-clause-stays : goal.returns-then-is_shut-clause-stays
-returns-then-is_shut-clause-stays g c = stays_then c.loop-served.invariant.stays c.serve_next.ensures.stays
+pub returns-then-group-2-clause-stays : goal.returns-then-group-2-clause-stays
+returns-then-group-2-clause-stays g c = stays_then c.groups.invariant.stays c.serve_group.ensures.stays
 
-pub returns-then-is_shut-clause-listened : goal.returns-then-is_shut-clause-listened
-returns-then-is_shut-clause-listened g c =
-    let so_far = c.loop-served.invariant in
-    let one = c.serve_next.ensures in
-    let (visits, count, going, none, log, admitted, served) = so_far.listened in
-    let (visit, is, told, stops) = c.in_ok-visited.ensures.comes in (
-      visits ++ visit ∷ [],
-      visits_more g.H.Storage.IsIntact g.H.Storage.IsOpen g.H.Storage.seen g.H.Storage.left g.H.BackUp.shows _ visits visit _ _ _ one.stays.intact so_far.stays.limits served is.came is.did,
-      admitted_more _ visits visit admitted (subst (λ b. IsAdmitted b visit) so_far.operated is.admitted),
-      (
-        none_more visits visit none (stops ∙ c.if-visited.false),
-        inr (
-          record { before = visits; last = visit; all = refl; going = going; why = inr (ap is_shut told ∙ sym c.is_shut.ensures ∙ c.if-is_shut.true) },
-          omega (arith, count, c.loop-served-test.true, length-append visits (visit ∷ [])),
-          logs_more _ _ _ visits visit log is.calls,
-        ),
-      ),
+pub returns-then-group-2-clause-listened : goal.returns-then-group-2-clause-listened
+returns-then-group-2-clause-listened g c =
+    let so_far = c.groups.invariant in
+    let one = c.serve_group.ensures in
+    let (groups, count, going, none, come) = so_far.listened in
+    let (group, is) = c.in_ok-group.ensures.comes in
+    let next = more_come g.H.Storage.IsIntact g.H.Storage.IsOpen g.H.Storage.seen g.H.Storage.left g.H.BackUp.shows _ _ _ _ _ _ groups group _ _ _ _ so_far.operated one.stays.intact so_far.stays.limits come is in
+    (groups ++ group ∷ [], next.each, next.served, next.admitted, (none_more groups group none (is.going c.if-group.false), inr (record { before = groups; last = group; all = refl; going = going; why = inr (is.shut c.if-group-2.true) }, omega (arith, count, is.count, c.in_ok-group.ensures.most, c.groups-test.true, count_more groups group), next.calls)))
+
+pub returns-then-group-2-clause-lost : goal.returns-then-group-2-clause-lost
+returns-then-group-2-clause-lost g c = λ was now. absurd (false≢true (sym (sym c.is_lost.ensures ∙ c.if-is_lost.false) ∙ now))
+
+-- a fault
+
+pub returns-in_err-group-clause-ran : goal.returns-in_err-group-clause-ran
+returns-in_err-group-clause-ran g c = λ intact.
+    let (groups, count, going, none, come) = c.groups.invariant.listened in
+    let (fault, is) = c.in_err-group.ensures.comes in
+    ran_for g.H.Storage.IsIntact g.H.Storage.IsOpen g.H.Storage.seen g.H.Storage.left g.H.BackUp.shows _ _ _ _ _ intact come.admitted
+    (subst (λ x. HasServedAll g.H.Storage.IsIntact g.H.Storage.IsOpen g.H.Storage.seen g.H.Storage.left (option_map (λ s. s.now) c.args.secret) (in_groups groups) c.args.host.now x) (sym is.same) come.served)
+
+pub returns-in_err-group-clause-listened : goal.returns-in_err-group-clause-listened
+returns-in_err-group-clause-listened g c =
+    let (groups, count, going, none, come) = c.groups.invariant.listened in
+    let (fault, is) = c.in_err-group.ensures.comes in (
+      groups,
+      come.each,
+      subst (λ x. HasServedAll g.H.Storage.IsIntact g.H.Storage.IsOpen g.H.Storage.seen g.H.Storage.left (option_map (λ s. s.now) c.args.secret) (in_groups groups) c.args.host.now x) (sym is.same) come.served,
+      come.admitted,
+      at_err c.from_residual.result _ c.from_residual.ensures.0 (none, inl (omega (arith, count, c.groups-test.true), going, (fault, is.which, logs_then _ _ _ (flat_map calls_of groups) fault come.calls is.calls))),
     )
 
--- it isn't lost but by that
+pub returns-in_err-group-clause-stays : goal.returns-in_err-group-clause-stays
+returns-in_err-group-clause-stays g c = stays_then c.groups.invariant.stays c.serve_group.ensures.stays
 
-pub returns-in_err-visited-clause-lost : goal.returns-in_err-visited-clause-lost
-returns-in_err-visited-clause-lost g c = λ was now.
-    let (fault, is) = c.in_err-visited.ensures.comes in
-    absurd (false≢true (sym (c.loop-served.invariant.alive was) ∙ ap g.H.BackUp.lost (sym is.same) ∙ now))
+pub returns-in_err-group-clause-lost : goal.returns-in_err-group-clause-lost
+returns-in_err-group-clause-lost g c = λ was now.
+    let (fault, is) = c.in_err-group.ensures.comes in
+    absurd (false≢true (sym (c.groups.invariant.alive was) ∙ ap g.H.BackUp.lost (sym is.same) ∙ now))
+
+-- all
+
+pub returns-clause-ran : goal.returns-clause-ran
+returns-clause-ran g c = λ intact.
+    let (groups, count, going, none, come) = c.groups.invariant.listened in
+    ran_for g.H.Storage.IsIntact g.H.Storage.IsOpen g.H.Storage.seen g.H.Storage.left g.H.BackUp.shows _ _ _ _ _ intact come.admitted come.served
+
+pub returns-clause-listened : goal.returns-clause-listened
+returns-clause-listened g c =
+    let so_far = c.groups.invariant in
+    let (groups, count, going, none, come) = so_far.listened in
+    (groups, come.each, come.served, come.admitted, (inl (omega (arith, count, so_far.within, c.groups-test.false), none), going, come.calls))
 
 pub returns-clause-lost : goal.returns-clause-lost
-returns-clause-lost g c = λ was now. absurd (false≢true (sym (c.loop-served.invariant.alive was) ∙ now))
-
-pub returns-then-is_shut-clause-lost : goal.returns-then-is_shut-clause-lost
-returns-then-is_shut-clause-lost g c = λ was now. absurd (false≢true (sym (sym c.is_lost.ensures ∙ c.if-is_lost.false) ∙ now))
+returns-clause-lost g c = λ was now. absurd (false≢true (sym (c.groups.invariant.alive was) ∙ now))
