@@ -1,6 +1,7 @@
 -- What is handed over: all the bytes of a connection's own request, once it is whole.
 use Rattle.std.specs.Prelude.{◌≡◌, ◌⊎◌, ◌++◌, true, false, [], drop, is_some}
 use Rattle.bh_types.specs.Limits.{HostLimits}
+use Rattle.bh_stage.specs.Joins.{Joins}
 use Rattle.bh_stage.specs.Records.{bytes_of, is_ended}
 use Rattle.bh_stage.specs.Spools.{rest_in}
 use Rattle.bh_stage.specs.Wholes.{IsWhole}
@@ -15,3 +16,7 @@ pub record IsHanded {R W : Type 0} (limits : HostLimits) (handed : Handed R W) :
   pub whole : is_some handed.reader.spool ≡ false
       → IsWhole limits handed.door (bytes_of handed.reader.inlet.given.items) ⊎ (is_ended handed.reader.inlet.given.items ≡ true)
   pub silent : bytes_of handed.writer.told.items ≡ []
+
+-- it may be applied together with others
+abbrev pub IsJoining : {R W : Type 0} → Handed R W → Type 0
+IsJoining handed = Joins handed.door (is_some handed.reader.spool) handed.reader.bytes.items

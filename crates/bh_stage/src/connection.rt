@@ -1,5 +1,9 @@
 //! A connection of a stage.
 
+ghost use Rattle.std.specs.Prelude.{◌≡◌, ◌≢◌, IfSome, is_some};
+ghost use Rattle.bh_stage.specs.Joins.{Joins};
+ghost use Rattle.bh_stage.specs.Places.{IsComing};
+
 use crate::draft::{Draft, Look};
 use crate::outbox::Outbox;
 use crate::record::{Inlet, Outlet, ROOM};
@@ -67,6 +71,16 @@ pub(crate) struct Connection<R, W> {
 pub(crate) struct Weight {
     pub(crate) memory: usize,
     pub(crate) file: u64,
+}
+
+/// What is awaited of a connection's request.
+#[derive(Clone, Copy, PartialEq, Eq)]
+pub(crate) enum Awaited {
+    Head,
+    /// The rest of it.
+    Rest,
+    /// Nothing: it is whole, or there is none.
+    Nothing,
 }
 
 /// What a step of a connection came to.
@@ -140,15 +154,6 @@ impl<R: Source + Drop, W: Sink + Shut + Drop> Connection<R, W> {
         }
     }
 
-    /// Whether its request comes, and whether that has its head: those without one go first.
-    pub(crate) fn rank(&self) -> Option<(bool, u64)> {
-        match &self.state {
-            State::Coming(draft, _) => Some((!draft.is_new(), self.number)),
-            State::Whole(_, _) | State::Served | State::Going(_, _) | State::Closing(_, _, _) =>
-                None,
-        }
-    }
-
     /// Whether it came less than a second ago.
     pub(crate) fn is_young(&self, now: u64) -> bool {
         now.saturating_sub(self.since) < GRACE
@@ -192,6 +197,26 @@ impl<R: Source + Drop, W: Sink + Shut + Drop> Connection<R, W> {
                 file: outbox.spread(),
             },
             State::Served | State::Closing(_, _, _) => Weight { memory: 0, file: 0 },
+        }
+    }
+
+    /// Its request, if that is whole and may be applied together with others. It is served from here
+    /// on.
+    pub(crate) fn take_joining(&mut self) -> Option<(Draft<R>, W)>
+        ensures { IfSome result (λ taken. Joins taken.0.door (is_some taken.0.spool) taken.0.kept.items) }
+    {
+        match replace(&mut self.state, State::Served) {
+            State::Whole(draft, writer) => {
+                if draft.may_join() {
+                    return Some((draft, writer));
+                }
+                self.state = State::Whole(draft, writer);
+                None
+            }
+            state => {
+                self.state = state;
+                None
+            }
         }
     }
 
@@ -260,6 +285,26 @@ impl<R: Source + Drop, W: Sink + Shut + Drop> Connection<R, W> {
             answer: &[],
             sent,
             took: now.saturating_sub(self.since),
+        }
+    }
+}
+
+impl<R: Source, W> Connection<R, W> {
+    /// What is awaited of its request.
+    pub(crate) fn awaited(&self) -> Awaited
+        ensures { result ≢ Awaited.Nothing → IsComing self.now.state }
+    {
+        match &self.state {
+            State::Coming(draft, _) => {
+                if draft.is_new() {
+                    Awaited::Head
+                } else {
+                    Awaited::Rest
+                }
+            }
+            State::Whole(_, _) | State::Served | State::Going(_, _) | State::Closing(_, _, _) => {
+                Awaited::Nothing
+            }
         }
     }
 }

@@ -2,13 +2,14 @@
 //! one, in a file.
 
 ghost use Rattle.std.specs.Prelude.{◌≡◌, ◌≢◌, ◌<◌, ◌≤◌, ◌++◌, true, false, is_some};
+ghost use Rattle.bh_stage.specs.Joins.{Joins};
 ghost use Rattle.bh_stage.specs.Records.{bytes_of, is_ended};
 ghost use Rattle.bh_stage.specs.Spools.{rest_in};
 ghost use Rattle.bh_stage.specs.Wholes.{IsWhole, IsReached};
 
 use crate::record::{Inlet, ROOM};
 use crate::spool::{Spool, Spools, keep, written_in};
-use crate::whole::{Door, Extent, extent_of};
+use crate::whole::{Door, Extent, extent_of, may_join};
 use bh_link::ends::Source;
 use bh_types::limits::Limits;
 use std::alloc::Global;
@@ -100,6 +101,13 @@ impl<R: Source> Draft<R> {
     /// The first bytes of it, at least its head once that came.
     pub(crate) fn first(&self) -> &[u8] {
         self.kept.as_slice()
+    }
+
+    /// Whether it may be applied together with others.
+    pub(crate) fn may_join(&self) -> bool
+        ensures { result ≡ true → Joins self.now.door (is_some self.now.spool) self.now.kept.items }
+    {
+        self.spool.is_none() && may_join(self.door, self.kept.as_slice())
     }
 
     /// How many bytes of it are in memory, or are to come there.

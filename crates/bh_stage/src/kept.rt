@@ -1,8 +1,9 @@
 //! The reader of a request that was kept.
 
-ghost use Rattle.std.specs.Prelude.{◌≡◌, ◌≤◌, ◌<◌, ◌+◌, ◌++◌, false, length, drop, take, is_some, vec_len, IfOk, OnErr, IfSome};
+ghost use Rattle.std.specs.Prelude.{◌≡◌, ◌≤◌, ◌<◌, ◌+◌, ◌++◌, true, false, length, drop, take, is_some, vec_len, IfOk, OnErr, IfSome};
 ghost use Rattle.std.specs.Io.{ReadsAtMost};
 ghost use Rattle.std.specs.Io.KnownBytes.{ReadConsumes, Consumes, IsAtEnd};
+ghost use Rattle.bh_stage.specs.Joins.{Joins};
 ghost use Rattle.bh_stage.specs.Records.{bytes_of, told_unless};
 ghost use Rattle.bh_stage.specs.Spools.{rest_in, ReturnsAll};
 
@@ -10,6 +11,7 @@ use crate::copying::{copy_piece, copy_rest};
 use crate::draft::Draft;
 use crate::record::{Inlet, ROOM};
 use crate::spool::{Spool, get, written_in};
+use crate::whole::{Door, may_join};
 use bh_link::ends::Source;
 use http_server::Log;
 use std::io;
@@ -62,6 +64,13 @@ impl<R: Source + Drop> Kept<R> {
         ensures { result ≡ self.inlet }
     {
         self.inlet
+    }
+
+    /// Whether it may be applied together with others, if it came to this listener.
+    pub fn may_join(&self, door: Door) -> bool
+        ensures { result ≡ true → Joins door (is_some self.now.spool) self.now.bytes.items }
+    {
+        self.spool.is_none() && may_join(door, self.bytes.as_slice())
     }
 
     /// How many bytes came.

@@ -8,6 +8,8 @@ pub mod draft;
 pub mod kept;
 pub mod order;
 pub mod outbox;
+mod patience;
+mod places;
 pub mod record;
 pub mod spool;
 mod spooled;

@@ -40,6 +40,11 @@ impl Order {
         self.queue.is_empty()
     }
 
+    /// The one that is handed over next, if there is one.
+    pub fn first(&self) -> Option<Turn> {
+        self.queue.front().copied()
+    }
+
     /// A connection's request became whole.
     pub fn push(&mut self, turn: Turn) -> Result<(), AllocError>
         ensures handed { self.new.handed ≡ self.old.handed }

@@ -48,6 +48,8 @@ pub struct Outbox<W> {
     /// How many bytes went out in all.
     went: u64,
     allowance: Allowance,
+    /// For how many milliseconds its writer may still wait for its socket.
+    patience: u64,
     ghost within: { sent ≤ vec_len held },
     ghost all: { lost ≡ false → ReturnsAll spool → bytes_of told.items
         ≡ bytes_of outlet.taken.items ++ (drop sent held.items ++ rest_in spool) },
@@ -68,6 +70,7 @@ impl<W: Sink> Outbox<W> {
             lost: false,
             went: 0,
             allowance,
+            patience: allowance.milliseconds,
         }
     }
 
@@ -82,6 +85,13 @@ impl<W: Sink> Outbox<W> {
     /// How many bytes went out.
     pub fn went(&self) -> u64 {
         self.went
+    }
+
+    /// For how many milliseconds its writer waited for its socket.
+    pub(crate) fn waited(&self) -> u64
+        ensures { result ≡ self.now.allowance.milliseconds - self.now.patience }
+    {
+        self.allowance.milliseconds.saturating_sub(self.patience)
     }
 
     /// How many bytes of it are in memory.
@@ -208,9 +218,7 @@ impl<W: Sink + Patient + Spools> Outbox<W> {
             match self.send() {
                 Ok(0) => return Err(io::Error::from(ErrorKind::WriteZero)),
                 Ok(_) => {}
-                Err(error) => self
-                    .outlet
-                    .wait_after(error, &mut self.allowance.milliseconds)?,
+                Err(error) => self.outlet.wait_after(error, &mut self.patience)?,
             }
         }
         Err(too_late())

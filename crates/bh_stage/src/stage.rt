@@ -1,14 +1,17 @@
 //! Many connections in one thread. Between two requests all sockets move; a request is handed over
 //! once it is whole, and its answer is sent while others come.
 
-ghost use Rattle.std.specs.Prelude.{◌≡◌, [], IfOk, IfSome};
-ghost use Rattle.bh_stage.specs.Staged.{IsHanded};
+ghost use Rattle.std.specs.Prelude.{◌≡◌, [], IfOk, IfSome, is_some};
+ghost use Rattle.bh_stage.specs.Joins.{Joins};
+ghost use Rattle.bh_stage.specs.Staged.{IsHanded, IsJoining};
 
 use crate::connection::{Connection, State, Step, Weight};
 use crate::draft::{Draft, Look, MOST_KEPT};
 use crate::kept::Kept;
 use crate::order::{Order, Turn};
 use crate::outbox::{Allowance, MOST_HELD, Outbox};
+use crate::patience::Patience;
+use crate::places::Places;
 use crate::waiting::too_late;
 use crate::whole::Door;
 use crate::wires::{Accepted, Came, Wires};
@@ -45,9 +48,19 @@ const PAUSE: u64 = 100;
 /// How many milliseconds to wait for a client to close, after its answer went out.
 const CLOSING: u64 = 1_000;
 
-/// How many milliseconds an answer that has no room in files may wait for its socket in all, while
-/// every other connection waits for it.
-const HELD_UP: u64 = 250;
+/// How many requests are handed over before the next turn, if some of them are served together.
+const MOST_HANDED: u32 = 64;
+
+/// How many bytes requests have, at most, that are served together.
+const MOST_TOGETHER: usize = 1_048_576;
+
+/// How much of an answer may wait, if its request is served together with one before: the answer to that
+/// one may have all other room.
+const JOINED: Allowance = Allowance {
+    memory: LEAST_KEPT,
+    file: 0,
+    milliseconds: 0,
+};
 
 /// How connections are served.
 #[derive(Clone, Copy)]
@@ -82,13 +95,14 @@ pub struct Stage<W: Wires> {
     ready: VecDeque<usize>,
     told: Vec<usize>,
     order: Order,
+    places: Places,
     /// The number of the next connection.
     next: u64,
     /// The time of this turn, in milliseconds. It doesn't pass while a request is served.
     now: u64,
     /// How many milliseconds requests were served.
     away: u64,
-    /// When the last request was handed over.
+    /// When the last request was handed over, or the last one taken back after it.
     left: u64,
     /// When deadlines were looked at.
     looked: u64,
@@ -99,6 +113,10 @@ pub struct Stage<W: Wires> {
     /// How many requests were handed over since the last turn, and how many milliseconds they took.
     handed: u32,
     busy: u64,
+    /// How many bytes the requests have that are served together now.
+    together: usize,
+    /// For how long answers without room may hold everybody up.
+    patience: Patience,
     /// How many bytes of all connections are in memory and in files, or are to come there.
     memory: usize,
     files: u64,
@@ -110,8 +128,9 @@ pub struct Stage<W: Wires> {
 
 impl<W: Wires + Drop> Stage<W> {
     /// All memory that grows with the number of connections is taken here.
-    pub fn new(alloc: Global, wires: W, measures: Measures) -> Result<Stage<W>, AllocError> {
+    pub fn new(alloc: Global, mut wires: W, measures: Measures) -> Result<Stage<W>, AllocError> {
         let places = measures.connections;
+        let patience = Patience::new(wires.milliseconds());
         Ok(Stage {
             alloc,
             wires,
@@ -120,6 +139,7 @@ impl<W: Wires + Drop> Stage<W> {
             ready: VecDeque::with_capacity(alloc, places)?,
             told: Vec::with_capacity(alloc, places)?,
             order: Order::new(alloc, places)?,
+            places: Places::new(alloc, places)?,
             next: 0,
             now: 0,
             away: 0,
@@ -129,6 +149,8 @@ impl<W: Wires + Drop> Stage<W> {
             is_crowded: false,
             handed: 0,
             busy: 0,
+            together: 0,
+            patience,
             memory: 0,
             files: 0,
             is_short: false,
@@ -164,19 +186,38 @@ impl<W: Wires + Drop> Stage<W> {
             if self.order.is_empty() || self.handed >= HANDED || self.busy >= BUSY {
                 self.turn(limits)?;
             }
-            if let Some(handed) = self.next_whole(limits) {
+            let now = self.wires.milliseconds();
+            if let Some(handed) = self.next_whole(limits, now) {
                 self.handed = self.handed.saturating_add(1);
-                self.left = self.wires.milliseconds();
+                self.left = now;
                 return Ok(Some(handed));
             }
-            if self.wires.milliseconds() >= until {
+            if now >= until {
                 return Ok(None);
             }
         }
         Ok(None)
     }
 
-    /// Takes back the ends of a connection that was served. If its answer is as it should be, it is
+    /// Hands over another request, to be served together with the last one that was handed over: the
+    /// next one, if it is whole already, a short one of a client, and in memory. Nothing is read, and
+    /// nothing waited for. `None` also if 64 were handed over since sockets moved last, or if those that
+    /// are served together have 1 MiB.
+    pub fn accept_more(&mut self, limits: &Limits) -> Option<Handed<W::Reader, W::Writer>>
+        ensures handed { IfSome result (IsHanded limits.now) }
+        ensures joins { IfSome result IsJoining }
+    {
+        if self.handed >= MOST_HANDED {
+            return None;
+        }
+        let turn = self.order.first()?;
+        let (draft, writer) = self.take_joining(turn)?;
+        self.handed = self.handed.saturating_add(1);
+        handed_over(self.alloc, limits, turn, draft, writer, JOINED)
+    }
+
+    /// Takes back the ends of a connection that was served. Of several that were handed over together,
+    /// each counts the time since the one before it was taken back. If its answer is as it should be, it is
     /// sent as its socket takes it; if not, the connection is closed.
     pub fn close(
         &mut self,
@@ -185,7 +226,10 @@ impl<W: Wires + Drop> Stage<W> {
         writer: Outbox<W::Writer>,
         is_answered: bool,
     ) {
-        let took = self.wires.milliseconds().saturating_sub(self.left);
+        let now = self.wires.milliseconds();
+        let took = now.saturating_sub(self.left);
+        self.left = now;
+        self.patience.spend(writer.waited());
         self.away = self.away.saturating_add(took);
         self.busy = self.busy.saturating_add(took);
         let deadline = self.now.saturating_add(self.measures.timeout);
@@ -216,13 +260,13 @@ impl<W: Wires + Drop> Stage<W> {
         }
     }
 
-    /// The request that became whole first, if there is one.
-    fn next_whole(&mut self, limits: &Limits) -> Option<Handed<W::Reader, W::Writer>>
+    /// The request that became whole first, if there is one, at that time of the clock.
+    fn next_whole(&mut self, limits: &Limits, now: u64) -> Option<Handed<W::Reader, W::Writer>>
         ensures { IfSome result (IsHanded limits.now) }
     {
         let turn = self.order.next()?;
-        let allowance = self.allowance();
         let alloc = self.alloc;
+        let allowance = self.allowance(now);
         let connection = self.connections.get_mut(turn.key)?;
         if connection.number != turn.number {
             return None;
@@ -231,6 +275,7 @@ impl<W: Wires + Drop> Stage<W> {
         match replace(&mut connection.state, State::Served) {
             State::Whole(draft, writer) => {
                 self.subtract(weight);
+                self.together = weight.memory;
                 handed_over(alloc, limits, turn, draft, writer, allowance)
             }
             state => {
@@ -240,12 +285,32 @@ impl<W: Wires + Drop> Stage<W> {
         }
     }
 
-    /// How much of the next answer may wait.
-    fn allowance(&self) -> Allowance {
+    /// The request of a turn, which is the next, if it may be served together with the last ones that
+    /// were handed over.
+    fn take_joining(&mut self, turn: Turn) -> Option<(Draft<W::Reader>, W::Writer)>
+        ensures { IfSome result (λ taken. Joins taken.0.door (is_some taken.0.spool) taken.0.kept.items) }
+    {
+        let connection = self.connections.get_mut(turn.key)?;
+        let weight = connection.weight();
+        let together = self.together.saturating_add(weight.memory);
+        if connection.number != turn.number || together > MOST_TOGETHER {
+            return None;
+        }
+        let taken = connection.take_joining()?;
+        let _ = self.order.next();
+        self.subtract(weight);
+        self.together = together;
+        Some(taken)
+    }
+
+    /// How much of the next answer may wait: what is left of memory, of files, and of the time for which
+    /// everybody may be held up.
+    fn allowance(&mut self, now: u64) -> Allowance {
+        self.patience.refill(now);
         Allowance {
             memory: self.most_of(MOST_HELD),
             file: self.measures.files.saturating_sub(self.files),
-            milliseconds: self.measures.timeout.min(HELD_UP),
+            milliseconds: self.measures.timeout.min(self.patience.left()),
         }
     }
 
@@ -359,8 +424,17 @@ impl<W: Wires + Drop> Stage<W> {
         let since = self.now.saturating_add(self.away);
         let deadline = self.now.saturating_add(self.measures.timeout);
         let connection = Connection::new(self.alloc, number, since, deadline, came);
-        if let Ok(key) = self.connections.insert(connection) {
+        let Ok(key) = self.connections.insert(connection) else {
+            return;
+        };
+        if self
+            .places
+            .push(Turn { number, key }, &self.connections)
+            .is_ok()
+        {
             self.step(key, limits);
+        } else {
+            self.end(key);
         }
     }
 
@@ -368,22 +442,13 @@ impl<W: Wires + Drop> Stage<W> {
         self.connections.len() >= self.measures.connections
     }
 
-    /// The key of the connection that gives its place to the next, if there are as many as may be:
-    /// the oldest one without a head, or else the oldest one whose request comes. If that came less
-    /// than a second ago, the next one waits.
-    fn place(&self) -> Option<usize> {
-        let mut found: Option<(usize, (bool, u64))> = None;
+    /// The key of the connection that gives its place to the next, if there are as many as may be. If
+    /// that came less than a second ago, the next one waits.
+    fn place(&mut self) -> Option<usize> {
         if !self.is_full() {
             return None;
         }
-        for (key, connection) in self.connections.iter() {
-            if let Some(rank) = connection.rank() {
-                if found.is_none_or(|(_, other)| rank < other) {
-                    found = Some((key, rank));
-                }
-            }
-        }
-        let (key, _) = found?;
+        let key = self.places.first(&self.connections)?;
         let now = self.now.saturating_add(self.away);
         match self.connections.get(key) {
             Some(connection) if !connection.is_young(now) => Some(key),
@@ -573,7 +638,8 @@ fn handed_over<R: Source + Drop, W: Sink + Drop>(
     writer: W,
     allowance: Allowance,
 ) -> Option<Handed<R, W>>
-    ensures { IfSome result (IsHanded limits.now) }
+    ensures handed { IfSome result (IsHanded limits.now) }
+    ensures joins { Joins draft.door (is_some draft.spool) draft.kept.items → IfSome result IsJoining }
 {
     if draft.number() != turn.number {
         return None;

@@ -1,6 +1,6 @@
 //! When a request is whole.
 
-ghost use Rattle.std.specs.Prelude.{◌≡◌, ◌≢◌, ◌+◌, ℕ};
+ghost use Rattle.std.specs.Prelude.{◌≡◌, ◌≢◌, ◌≤◌, ◌+◌, ℕ, true, length};
 ghost use Rattle.bh_stage.specs.Wholes.{Extends};
 
 use bh_http::arriving::{Arriving, MAX_HEAD, search};
@@ -26,6 +26,19 @@ pub enum Extent {
     Bytes(usize),
     /// More than can be counted.
     TooLong,
+}
+
+/// How many bytes a request has, at most, that is applied together with others: a head, and 64 KiB.
+const MOST_JOINED: usize = 81_920;
+
+/// Whether a request that is whole may be applied together with others: a client's, if it is short and
+/// a put or a delete. The answers to these are short, too.
+pub(crate) fn may_join(door: Door, bytes: &[u8]) -> bool
+    ensures client { result ≡ true → door ≡ Door.Clients }
+    ensures short { result ≡ true → length bytes.now ≤ 81920 }
+{
+    let writes = bytes.starts_with(b"PUT ") || bytes.starts_with(b"DELETE ");
+    door == Door::Clients && bytes.len() <= MOST_JOINED && writes
 }
 
 /// How many bytes a request, or a line, has that begins with these.
