@@ -41,14 +41,15 @@ _bucketd() {
         stop) words=" --operator-port --operator-socket --operator-secret-file --help " ;;
         health) words=" --operator-port --operator-socket --operator-secret-file --help " ;;
         metrics) words=" --operator-port --operator-socket --operator-secret-file --help " ;;
-        help) [ "$COMP_CWORD" -gt 2 ] || words=" script init tenant-add quota key-add key-remove keys usage tenants report check sweep backup export import serve tell stop health metrics " ;;
+        clock-accept) words=" --operator-port --operator-socket --operator-secret-file --help " ;;
+        help) [ "$COMP_CWORD" -gt 2 ] || words=" script init tenant-add quota key-add key-remove keys usage tenants report check sweep backup export import serve tell stop health metrics clock-accept " ;;
         esac
         # No option comes twice.
         for option in "${COMP_WORDS[@]:2:COMP_CWORD - 2}"; do
             words=${words/ $option / }
         done
     else
-        words=" script init tenant-add quota key-add key-remove keys usage tenants report check sweep backup export import serve tell stop health metrics help --help --version "
+        words=" script init tenant-add quota key-add key-remove keys usage tenants report check sweep backup export import serve tell stop health metrics clock-accept help --help --version "
     fi
     mapfile -t COMPREPLY < <(compgen -W "$words" -- "$word")
 }

@@ -69,6 +69,7 @@ pub record IsServing (path : List ℕ) (asked : ServeTask) (serving : Serving) :
   pub timeout : serving.manner.timeout ≡ asked.timeout
   pub logged : serving.manner.is_logged ≡ asked.is_logged
   pub connections : serving.connections ≡ asked.connections
+  pub file : string_bytes serving.file ≡ path
   pub spool : string_bytes serving.spool ≡ spool_name path asked.spool
   pub clock_step : serving.clock_step ≡ asked.clock_step
 

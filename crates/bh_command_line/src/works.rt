@@ -83,6 +83,7 @@ fn serving_of(rt: &HostRuntime, path: &str, asked: ServeTask) -> Result<Serving,
         count,
         manner: Manner { timeout, is_logged },
         connections,
+        file: String::from_str(rt.alloc(), path)?,
         spool: spool_of(rt.alloc(), path, spool)?,
         clock_step,
     })

@@ -1,6 +1,6 @@
 -- The first line of a reader.
 use Rattle.std.specs.Prelude.{◌≡◌, ◌≤◌, ◌==◌, ℕ, nat_lt, List, [], ◌∷◌, length, Option, Some, None, option_map, option_and_then}
-use Rattle.std.specs.Prelude.{if◌then◌else◌}
+use Rattle.std.specs.Prelude.{if◌then◌else◌, position, take, unwrap_or}
 use Rattle.std.specs.Io.KnownBytes.{Consumes}
 use Rattle.bh_link.specs.Taking.{all_of}
 
@@ -8,6 +8,10 @@ use Rattle.bh_link.specs.Taking.{all_of}
 abbrev pub before_feed : List ℕ → Option (List ℕ)
 before_feed [] = None
 before_feed (b ∷ rest) = if b == 10 then Some [] else option_map (λ line. b ∷ line) (before_feed rest)
+
+-- the bytes before the first line feed, or all of them
+abbrev pub first_line : List ℕ → List ℕ
+first_line bytes = unwrap_or (option_map (λ n. take n bytes) (position (λ b. b == 10) bytes)) bytes
 
 -- with its line feed a line has at most 16,384 bytes
 abbrev pub short_line : List ℕ → Option (List ℕ)

@@ -1,9 +1,9 @@
 //! A line that asks a server about itself.
-ghost use Rattle.std.specs.Prelude.{◌≡◌, IfOk, option_map, option_and_then};
+ghost use Rattle.std.specs.Prelude.{◌≡◌, IfOk, option_map};
 ghost use Rattle.serde_json.specs.View.{view};
 ghost use Rattle.bh_operator.specs.Asked as spec;
-ghost use Rattle.bh_operator.specs.Orders.{admitted as admitted_by};
 
+use crate::line::first_line;
 use crate::object::{has_at, has_members, text_at, value_of};
 use crate::order::{admitted, with_at};
 use serde_json::Value;
@@ -16,18 +16,31 @@ pub enum Asked {
     Health,
     /// What it has counted since its start.
     Metrics,
+    /// To take the clock's present reading as right.
+    ClockAccept,
+}
+
+/// What the first line of an operator's bytes asks, as [`asked_of_line`] does. It may lack its line
+/// feed.
+pub fn asked_of(
+    alloc: Global,
+    secret: Option<&[u8]>,
+    bytes: &[u8],
+) -> Result<Option<Asked>, AllocError>
+    ensures { IfOk result (λ asked. asked ≡ spec.asked_of (option_map (λ s. s.now) secret.entry) bytes.now) }
+{
+    asked_of_line(alloc, secret, first_line(bytes))
 }
 
 /// What a line asks; `None` if it isn't such a line. If there is a secret, the line begins with it
-/// and a space. Then comes a JSON object (RFC 8259), `{"op":"health"}` or `{"op":"metrics"}`. Its
-/// `at` is optional and ignored.
+/// and a space. Then comes a JSON object (RFC 8259) with one member, the `op`: `health`, `metrics` or
+/// `clock-accept`. Its `at` is optional and ignored.
 pub fn asked_of_line(
     alloc: Global,
     secret: Option<&[u8]>,
     line: &[u8],
 ) -> Result<Option<Asked>, AllocError>
-    ensures { IfOk result (λ asked. asked
-        ≡ option_and_then spec.asked_with_at (admitted_by (option_map (λ s. s.now) secret.entry) line.now)) }
+    ensures { IfOk result (λ asked. asked ≡ spec.asked_of_line (option_map (λ s. s.now) secret.entry) line.now) }
 {
     match admitted(secret, line) {
         Some(object) => asked_with_at(alloc, object),
@@ -73,6 +86,7 @@ fn asked_named(op: &str) -> Option<Asked>
     match op {
         "health" => Some(Asked::Health),
         "metrics" => Some(Asked::Metrics),
+        "clock-accept" => Some(Asked::ClockAccept),
         _ => None,
     }
 }

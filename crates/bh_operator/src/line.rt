@@ -1,8 +1,9 @@
 //! Reads one line from a reader.
-ghost use Rattle.std.specs.Prelude.{◌≡◌, ◌++◌, ◌∷◌, ℕ, List, [], false, vec_items, IfOk, IfErr, OnOk};
+ghost use Rattle.std.specs.Prelude.{◌≡◌, ◌==◌, ◌<◌, ◌++◌, ◌∷◌, ℕ, List, [], false, length, position, vec_items, IfOk, IfErr, IfSome, OnOk};
 ghost use Rattle.std.specs.Option.{option_map};
 ghost use Rattle.bh_link.specs.Taking.{is_fault};
 ghost use Rattle.bh_http.specs.Transfers.{Gives};
+ghost use Rattle.bh_operator.specs.Lines as spec;
 ghost use Rattle.bh_operator.specs.Lines.{TookLine, TookPart};
 
 use bh_link::ends::Source;
@@ -41,6 +42,24 @@ pub fn take_line<R: Source>(
         push(&mut line, byte)?;
     }
     Ok(None)
+}
+
+/// The bytes before the first line feed, or all of them.
+pub fn first_line(bytes: &[u8]) -> &[u8]
+    ensures { result.now ≡ spec.first_line bytes.now }
+{
+    match feed_in(bytes) {
+        Some(end) => &bytes[..end],
+        None => bytes,
+    }
+}
+
+/// The place of the first line feed.
+fn feed_in(bytes: &[u8]) -> Option<usize>
+    ensures place { result ≡ position (λ b. b == 10) bytes.now }
+    ensures within { IfSome result (λ at. at < length bytes.now) }
+{
+    bytes.iter().position(|byte| *byte == b'\n')
 }
 
 fn push(line: &mut Vec<u8>, byte: u8) -> Result<(), AllocError>

@@ -43,5 +43,6 @@ fn server_words<'a>(asked: ServerAsked) -> &'a str
         ServerAsked::Stop => "{\"op\":\"stop\"}",
         ServerAsked::Health => "{\"op\":\"health\"}",
         ServerAsked::Metrics => "{\"op\":\"metrics\"}",
+        ServerAsked::ClockAccept => "{\"op\":\"clock-accept\"}",
     }
 }

@@ -1,6 +1,6 @@
 -- What a server counts from its start on.
 use Rattle.std.specs.Prelude.{ℕ, zero, suc, ◌+◌, ◌-◌, ◌^◌, Bool, List, [], ◌∷◌, codes, min, nat_eq, nat_le, position, unwrap_or}
-use Rattle.std.specs.Prelude.{if◌then◌else◌, slice_index_or, slice_set, Option, Some, None}
+use Rattle.std.specs.Prelude.{if◌then◌else◌, fold, slice_index_or, slice_set, take, Option, Some, None}
 use Rattle.std.specs.List.{starts_with, slice_get}
 use Rattle.bh_wires.specs.declared.figures.Class.{Class}
 use Rattle.bh_wires.specs.declared.figures.Class.TheVariants.{Well, Elsewhere, Refused, Failed, Unanswered}
@@ -29,6 +29,27 @@ class_of_digit (Some digit) =
 
 abbrev pub class_of : List ℕ → Class
 class_of response = class_of_digit (slice_get response 9)
+
+abbrev pub methods : List Method
+methods = Get ∷ Head ∷ Put ∷ Post ∷ Delete ∷ Other ∷ []
+
+abbrev pub classes : List Class
+classes = Well ∷ Elsewhere ∷ Refused ∷ Failed ∷ Unanswered ∷ []
+
+abbrev pub method_word : Method → List ℕ
+method_word Get = codes "GET"
+method_word Head = codes "HEAD"
+method_word Put = codes "PUT"
+method_word Post = codes "POST"
+method_word Delete = codes "DELETE"
+method_word Other = codes "other"
+
+abbrev pub class_word : Class → List ℕ
+class_word Well = codes "2xx"
+class_word Elsewhere = codes "3xx"
+class_word Refused = codes "4xx"
+class_word Failed = codes "5xx"
+class_word Unanswered = codes "none"
 
 abbrev pub method_place : Method → ℕ
 method_place Get = 0
@@ -84,6 +105,23 @@ with_line it = record it { lines = more it.lines 1 }
 abbrev pub with_step : Figures → ℕ → Figures
 with_step it took = record it { steps = more it.steps 1; swept = more it.swept took }
 
+-- the moment of the last event that counted
+abbrev pub with_stamp : Figures → Option ℕ → Figures
+with_stamp it None = it
+with_stamp it (Some moment) = record it { stamp = Some moment }
+
+-- ---- what was counted
+
+abbrev pub count_of : Figures → Method → Class → ℕ
+count_of it method class = slice_index_or (row_of it method) (class_place class) 0
+
+abbrev pub total : List ℕ → ℕ
+total counts = fold more 0 counts
+
+-- of the requests, those that took at most so long: those of its bucket and of the ones before
+abbrev pub within : Figures → ℕ → ℕ
+within it bound = total (take (bucket_of bound + 1) it.buckets)
+
 -- nothing was counted
 abbrev pub zeros : ℕ → List ℕ
 zeros zero = []
@@ -99,4 +137,5 @@ none = record {
   lines = 0;
   steps = 0;
   swept = 0;
+  stamp = None;
 }

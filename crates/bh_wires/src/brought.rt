@@ -6,6 +6,7 @@ ghost use Rattle.bh_wires.specs.Ends.{remaining_in, contents_in};
 
 use bh_link::ends::{Sink, Source};
 use bh_stage::kept::Kept;
+use bh_stage::order::Turn;
 use bh_stage::outbox::Outbox;
 use bh_stage::spool::Spools;
 use bh_stage::waiting::Patient;
@@ -23,10 +24,18 @@ pub enum Brought<R> {
     Nobody,
 }
 
+/// Which connection is answered, and since when it is served.
+#[derive(Clone, Copy)]
+pub struct Going {
+    pub turn: Turn,
+    pub since: u64,
+}
+
 /// The answer, with its first bytes for the log.
 #[derive(Drop)]
 pub struct Replying<W> {
     pub outbox: Option<Outbox<W>>,
+    pub going: Option<Going>,
     pub(crate) first: Vec<u8>,
     /// How many of them are kept.
     most: usize,
@@ -35,11 +44,17 @@ pub struct Replying<W> {
 }
 
 impl<W> Replying<W> {
-    pub(crate) fn new(alloc: Global, outbox: Option<Outbox<W>>, most: usize) -> Replying<W>
+    pub(crate) fn new(
+        alloc: Global,
+        outbox: Option<Outbox<W>>,
+        going: Option<Going>,
+        most: usize,
+    ) -> Replying<W>
         ensures { result.outbox ≡ outbox }
     {
         Replying {
             outbox,
+            going,
             first: Vec::new(alloc),
             most,
             is_own: false,
@@ -50,6 +65,7 @@ impl<W> Replying<W> {
     pub(crate) fn own(alloc: Global, most: usize) -> Replying<W> {
         Replying {
             outbox: None,
+            going: None,
             first: Vec::new(alloc),
             most,
             is_own: true,

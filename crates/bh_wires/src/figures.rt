@@ -1,9 +1,9 @@
-//! What a server counts from its start on, and tells in the text format of Prometheus (0.0.4).
+//! What a server counts from its start on.
 
 ghost use Rattle.std.specs.Prelude.{◌≡◌, ◌<◌, IfSome, length, nat_le, position};
 ghost use Rattle.bh_wires.specs.Figures as spec;
 
-use std::fmt;
+use bh_types::moment::Moment;
 
 /// A request's method.
 #[derive(Clone, Copy)]
@@ -27,7 +27,7 @@ pub enum Class {
     Unanswered,
 }
 
-const METHODS: [Method; 6] = [
+pub(crate) const METHODS: [Method; 6] = [
     Method::Get,
     Method::Head,
     Method::Put,
@@ -36,7 +36,7 @@ const METHODS: [Method; 6] = [
     Method::Other,
 ];
 
-const CLASSES: [Class; 5] = [
+pub(crate) const CLASSES: [Class; 5] = [
     Class::Well,
     Class::Elsewhere,
     Class::Refused,
@@ -45,7 +45,7 @@ const CLASSES: [Class; 5] = [
 ];
 
 /// The milliseconds up to which the buckets of a request's time go; the last bucket has no bound.
-const BOUNDS: [u64; 12] = [1, 2, 5, 10, 25, 50, 100, 250, 500, 1_000, 5_000, 30_000];
+pub(crate) const BOUNDS: [u64; 12] = [1, 2, 5, 10, 25, 50, 100, 250, 500, 1_000, 5_000, 30_000];
 
 impl Method {
     /// The method of a request, by its first bytes.
@@ -84,7 +84,9 @@ impl Method {
         }
     }
 
-    fn word<'a>(self) -> &'a str {
+    pub(crate) fn word<'a>(self) -> &'a str
+        ensures { result.now ≡ spec.method_word self }
+    {
         match self {
             Method::Get => "GET",
             Method::Head => "HEAD",
@@ -123,7 +125,9 @@ impl Class {
         }
     }
 
-    fn word<'a>(self) -> &'a str {
+    pub(crate) fn word<'a>(self) -> &'a str
+        ensures { result.now ≡ spec.class_word self }
+    {
         match self {
             Class::Well => "2xx",
             Class::Elsewhere => "3xx",
@@ -138,18 +142,20 @@ impl Class {
 #[derive(Clone, Copy)]
 pub struct Figures {
     /// How many requests were served, by method and class.
-    requests: [[u64; 5]; 6],
+    pub(crate) requests: [[u64; 5]; 6],
     /// How many took a time of each bucket, and the milliseconds of all of them.
-    buckets: [u64; 13],
-    took: u64,
+    pub(crate) buckets: [u64; 13],
+    pub(crate) took: u64,
     /// Bytes of requests, and of responses.
-    received: u64,
-    sent: u64,
+    pub(crate) received: u64,
+    pub(crate) sent: u64,
     /// Lines of operators.
-    lines: u64,
+    pub(crate) lines: u64,
     /// Steps of the server's own sweeps, and their milliseconds.
-    steps: u64,
-    swept: u64,
+    pub(crate) steps: u64,
+    pub(crate) swept: u64,
+    /// The last moment at which an event counted; `None` before the first one.
+    pub(crate) stamp: Option<Moment>,
 }
 
 impl Figures {
@@ -166,6 +172,7 @@ impl Figures {
             lines: 0,
             steps: 0,
             swept: 0,
+            stamp: None,
         }
     }
 
@@ -209,6 +216,46 @@ impl Figures {
         self.lines = self.lines.saturating_add(1);
     }
 
+    /// Keeps the moment of an event, if it counted.
+    pub fn note_stamp(&mut self, stamp: Option<Moment>)
+        ensures { self.new ≡ spec.with_stamp self.old stamp }
+    {
+        if stamp.is_some() {
+            self.stamp = stamp;
+        }
+    }
+
+    /// How many requests took at most so many milliseconds.
+    pub(crate) fn within(&self, bound: u64) -> u64
+        ensures { result ≡ spec.within self.now bound }
+    {
+        total(&self.buckets[..bucket_of(bound) + 1])
+    }
+
+    /// The last moment at which an event counted, in seconds since 1970.
+    pub(crate) fn last_stamp(&self) -> Option<u64>
+        ensures { result ≡ self.now.stamp }
+    {
+        match self.stamp {
+            Some(stamp) => Some(stamp.seconds()),
+            None => None,
+        }
+    }
+
+    /// How many requests were served.
+    pub(crate) fn timed(&self) -> u64
+        ensures { result ≡ spec.total self.now.buckets }
+    {
+        total(&self.buckets)
+    }
+
+    /// How many requests of a method were answered so.
+    pub(crate) fn count_of(&self, method: Method, class: Class) -> u64
+        ensures { result ≡ spec.count_of self.now method class }
+    {
+        self.requests[method.place()][class.place()]
+    }
+
     /// Counts a step of a sweep, with its milliseconds.
     pub fn count_step(&mut self, took: u64)
         ensures { self.new ≡ spec.with_step self.old took }
@@ -216,119 +263,6 @@ impl Figures {
         self.steps = self.steps.saturating_add(1);
         self.swept = self.swept.saturating_add(took);
     }
-}
-
-/// The page that Prometheus reads (text format 0.0.4): each name begins with `bucketd_server_`.
-impl fmt::Display for Figures {
-    fn fmt<W: fmt::Write>(&self, f: &mut fmt::Formatter<W>) -> fmt::Result {
-        self.write_requests(f)?;
-        self.write_times(f)?;
-        write_count(f, "received_bytes", "Bytes of requests.", self.received)?;
-        write_count(f, "sent_bytes", "Bytes of responses.", self.sent)?;
-        write_count(f, "lines", "Lines of operators.", self.lines)?;
-        self.write_sweeps(f)
-    }
-}
-
-impl Figures {
-    fn write_requests<W: fmt::Write>(&self, f: &mut fmt::Formatter<W>) -> fmt::Result {
-        write_head(
-            f,
-            "requests_total",
-            "Requests, by method and class of status.",
-            "counter",
-        )?;
-        for method in &METHODS {
-            self.write_method(f, *method)?;
-        }
-        Ok(())
-    }
-
-    /// The lines of a method, of each class that was met.
-    fn write_method<W: fmt::Write>(
-        &self,
-        f: &mut fmt::Formatter<W>,
-        method: Method,
-    ) -> fmt::Result {
-        for class in &CLASSES {
-            let count = self.requests[method.place()][class.place()];
-            let (method, class) = (method.word(), class.word());
-            writeln!(
-                f,
-                "bucketd_server_requests_total{{method=\"{method}\",status=\"{class}\"}} {count}"
-            )?;
-        }
-        Ok(())
-    }
-
-    fn write_times<W: fmt::Write>(&self, f: &mut fmt::Formatter<W>) -> fmt::Result {
-        write_head(
-            f,
-            "request_seconds",
-            "Time that requests were served.",
-            "histogram",
-        )?;
-        let mut count: u64 = 0;
-        for place in 0..BOUNDS.len() {
-            count = count.saturating_add(self.buckets[place]);
-            let bound = Seconds(BOUNDS[place]);
-            writeln!(
-                f,
-                "bucketd_server_request_seconds_bucket{{le=\"{bound}\"}} {count}"
-            )?;
-        }
-        let all = count.saturating_add(self.buckets[BOUNDS.len()]);
-        let took = Seconds(self.took);
-        writeln!(
-            f,
-            "bucketd_server_request_seconds_bucket{{le=\"+Inf\"}} {all}"
-        )?;
-        writeln!(f, "bucketd_server_request_seconds_sum {took}")?;
-        writeln!(f, "bucketd_server_request_seconds_count {all}")
-    }
-
-    fn write_sweeps<W: fmt::Write>(&self, f: &mut fmt::Formatter<W>) -> fmt::Result {
-        write_count(
-            f,
-            "sweep_steps",
-            "Steps of the server's own sweeps.",
-            self.steps,
-        )?;
-        write_head(f, "sweep_seconds_total", "Time of these steps.", "counter")?;
-        let swept = Seconds(self.swept);
-        writeln!(f, "bucketd_server_sweep_seconds_total {swept}")
-    }
-}
-
-/// Milliseconds, printed as seconds.
-#[derive(Clone, Copy)]
-struct Seconds(u64);
-
-impl fmt::Display for Seconds {
-    fn fmt<W: fmt::Write>(&self, f: &mut fmt::Formatter<W>) -> fmt::Result {
-        write!(f, "{}.{:03}", self.0 / 1_000, self.0 % 1_000)
-    }
-}
-
-fn write_head<W: fmt::Write>(
-    f: &mut fmt::Formatter<W>,
-    name: &str,
-    help: &str,
-    kind: &str,
-) -> fmt::Result {
-    writeln!(f, "# HELP bucketd_server_{name} {help}")?;
-    writeln!(f, "# TYPE bucketd_server_{name} {kind}")
-}
-
-fn write_count<W: fmt::Write>(
-    f: &mut fmt::Formatter<W>,
-    name: &str,
-    help: &str,
-    count: u64,
-) -> fmt::Result {
-    writeln!(f, "# HELP bucketd_server_{name}_total {help}")?;
-    writeln!(f, "# TYPE bucketd_server_{name}_total counter")?;
-    writeln!(f, "bucketd_server_{name}_total {count}")
 }
 
 /// The bucket of a time.
@@ -345,4 +279,15 @@ fn bucket_in(bounds: &[u64], took: u64) -> Option<usize>
     ensures within { IfSome result (λ place. place < length bounds.now) }
 {
     bounds.iter().position(|bound| took <= *bound)
+}
+
+/// The sum of counts.
+fn total(counts: &[u64]) -> u64
+    ensures { result ≡ spec.total counts.now }
+{
+    let mut sum: u64 = 0;
+    for count in counts {
+        sum = sum.saturating_add(*count);
+    }
+    sum
 }

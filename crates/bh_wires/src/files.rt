@@ -1,9 +1,11 @@
-//! The files of a server's long requests and answers.
+//! The files of a server's long requests and answers, and the sizes of its host's.
 
 ghost use Rattle.std.specs.Prelude.{◌≡◌, [], IfOk};
 ghost use Rattle.bh_stage.specs.Spools.{rest_of};
 
+use crate::page::Sizes;
 use bh_stage::spool::Spool;
+use std::alloc::AllocError;
 use std::fs::{File, Files, OpenOptions};
 use std::io::ErrorKind;
 use std::os::unix::fs::OpenOptionsExt;
@@ -18,6 +20,60 @@ pub(crate) struct Site<'a, N, C> {
     pub(crate) net: &'a N,
     pub(crate) clock: &'a C,
     pub(crate) path: &'a str,
+    /// The host's files, if their names are known.
+    pub(crate) files: &'a Option<HostFiles>,
+}
+
+impl<'a, N: Files<File = File>, C> Site<'a, N, C> {
+    /// How many bytes the host's files have.
+    pub(crate) fn sizes(&self) -> Sizes {
+        match self.files {
+            Some(files) => files.sizes(self.net),
+            None => Sizes {
+                file: None,
+                log: None,
+            },
+        }
+    }
+}
+
+/// The paths of a host's files.
+#[derive(Drop)]
+pub(crate) struct HostFiles {
+    file: String,
+    /// Of its write-ahead log, which stands beside the file that a link names.
+    log: String,
+}
+
+impl HostFiles {
+    /// Of the host in a file.
+    pub(crate) fn of<N: Files<File = File> + AllocGlobal>(
+        net: &N,
+        path: &str,
+    ) -> Result<HostFiles, AllocError> {
+        let file = match fs::canonicalize(net, path) {
+            Ok(real) => String::from_str(net.alloc(), real.as_str())?,
+            Err(_) => String::from_str(net.alloc(), path)?,
+        };
+        let log = format!(in net.alloc(); "{file}-wal")?;
+        Ok(HostFiles { file, log })
+    }
+
+    /// How many bytes they have.
+    fn sizes<N: Files<File = File>>(&self, files: &N) -> Sizes {
+        Sizes {
+            file: size_of(files, self.file.as_str()),
+            log: size_of(files, self.log.as_str()),
+        }
+    }
+}
+
+/// A file's bytes, if the system tells.
+fn size_of<N: Files<File = File>>(files: &N, path: &str) -> Option<u64> {
+    match fs::metadata(files, path) {
+        Ok(data) => Some(data.len()),
+        Err(_) => None,
+    }
 }
 
 impl<'a, N: Files<File = File> + AllocGlobal, C> Site<'a, N, C> {

@@ -1,22 +1,30 @@
 //! A stage as what a server accepts connections of.
 
-ghost use Rattle.std.specs.Prelude.{◌≡◌, ⊤, true, is_some, IsSomeAnd};
-ghost use Rattle.bh_host.specs.declared.reply.Caller.TheVariants.{Operator};
+ghost use Rattle.std.specs.Prelude.{◌≡◌, ⊤, true, false, Some, None, Ok, is_some, option_map, IfOk, IsSomeAnd};
+ghost use Rattle.std.specs.String.{string_bytes};
+ghost use Rattle.bh_host.specs.declared.reply.Caller.TheVariants.{Operator, Request};
+ghost use Rattle.bh_stage.specs.Staged.{IsHanded, IsJoining};
+ghost use Rattle.bh_stage.specs.declared.whole.Door.TheVariants.{Clients};
+ghost use Rattle.bh_operator.specs.declared.asked.Asked.TheVariants.{Health, Metrics};
+ghost use Rattle.bh_wires.specs.Answers.{HasAccepted, StaysUnless, asked_by, caller_at, health_text as health};
 ghost use Rattle.bh_wires.specs.Ends.{IsBrought};
 ghost use Rattle.bh_wires.specs.Pace.{taken_as, measured_by};
+ghost use Rattle.bh_wires.specs.Page.{page};
+ghost use Rattle.bh_wires.specs.declared.page.Sizes.{Sizes};
 ghost use Rattle.bh_wires.specs.Sweeping.{IsAgain};
 
-use crate::brought::{Brought, Replying};
+use crate::answers::{accepted_text, health_text};
+use crate::brought::{Brought, Going, Replying};
 use crate::figures::Figures;
-use crate::log::{Entry, Note, note_of};
+use crate::log::{ClockNews, Entry, Note, note_of};
 use crate::pace::Pace;
+use crate::page::{Sizes, page_text};
 use crate::sweeping::{REPLY, Sweeping};
 use bh_connection::{Acceptor, Arrival, Clock, End, Served};
 use bh_host::Caller;
 use bh_link::link::Link;
-use bh_operator::asked::{Asked, asked_of_line};
+use bh_operator::asked::{Asked, asked_of};
 use bh_stage::kept::Kept;
-use bh_stage::order::Turn;
 use bh_stage::outbox::Outbox;
 use bh_stage::stage::{Handed, Stage};
 use bh_stage::whole::Door;
@@ -42,8 +50,12 @@ pub trait Backing {
     /// How many seconds ago the machine was started.
     fn uptime(&mut self) -> io::Result<u64>;
 
-    /// Told once that the clock is too far ahead, and once that it is back, with its reading.
-    fn tell_clock(&mut self, reading: u64, is_away: bool);
+    /// Told once that the clock is too far ahead, and once that it is back or was taken as right, with
+    /// its reading.
+    fn tell_clock(&mut self, reading: u64, news: ClockNews);
+
+    /// How many bytes the host's files have.
+    fn sizes(&mut self) -> Sizes;
 
     /// Accepts nothing more.
     fn leave(&mut self);
@@ -64,7 +76,7 @@ pub struct Terms<'a, C> {
     pub is_logged: bool,
 }
 
-/// A stage, with the connection that is served.
+/// A stage, with the connections that are served.
 #[derive(Drop)]
 pub struct Front<'a, W: Wires, C> {
     alloc: Global,
@@ -82,9 +94,9 @@ pub struct Front<'a, W: Wires, C> {
     caller: Caller,
     /// What was accepted and isn't served yet.
     accepted: Option<Handed<W::Reader, W::Writer>>,
-    /// Which connection is served, and since when.
-    served: Option<Turn>,
+    /// Since when, and whether others may be served together with it: an operator's line is served alone.
     since: u64,
+    may_join: bool,
     figures: Figures,
     /// When sweeps are due, and their order, unless it is being carried out. Without a port for
     /// operators there are none, since a sweep is an operator's order.
@@ -92,6 +104,7 @@ pub struct Front<'a, W: Wires, C> {
     pub(crate) sweep: Option<Cursor<Vec<u8>>>,
     /// When the step that is served began, if one is.
     began: Option<u64>,
+    ghost alone: { may_join ≡ true → caller ≡ Request },
 }
 
 impl<'a, W: Wires + Drop, C> Front<'a, W, C> {
@@ -103,6 +116,7 @@ impl<'a, W: Wires + Drop, C> Front<'a, W, C> {
         sweep: Option<Cursor<Vec<u8>>>,
     ) -> Front<'a, W, C>
         ensures operated { result.has_operators ≡ terms.entry.has_operators }
+        ensures secret { result.secret ≡ terms.entry.secret }
         ensures sweep { result.sweep ≡ sweep }
     {
         let now = stage.wires().milliseconds();
@@ -117,8 +131,8 @@ impl<'a, W: Wires + Drop, C> Front<'a, W, C> {
             is_logged: terms.is_logged,
             caller: Caller::Request,
             accepted: None,
-            served: None,
             since: now,
+            may_join: false,
             figures: Figures::new(),
             sweeping: Sweeping::new(now),
             sweep,
@@ -165,8 +179,10 @@ impl<'a, W: Wires + Backing + Drop, C> Front<'a, W, C> {
         let was_away = self.pace.is_away();
         let taken = self.pace.take(reading, uptime);
         let is_away = self.pace.is_away();
-        if is_away != was_away {
-            self.stage.wires().tell_clock(reading, is_away);
+        match (was_away, is_away) {
+            (false, true) => self.stage.wires().tell_clock(reading, ClockNews::Leapt),
+            (true, false) => self.stage.wires().tell_clock(reading, ClockNews::Back),
+            (true, true) | (false, false) => {}
         }
         taken
     }
@@ -182,6 +198,7 @@ impl<'a, W: Wires + Backing + Drop, C> Front<'a, W, C> {
         if begins {
             self.began = Some(now);
             self.caller = Caller::Operator;
+            self.may_join = false;
         }
         begins
     }
@@ -190,69 +207,27 @@ impl<'a, W: Wires + Backing + Drop, C> Front<'a, W, C> {
     fn admit(&mut self, handed: Handed<W::Reader, W::Writer>) -> Caller
         ensures admitted { result ≡ Operator → self.old.has_operators ≡ true }
         ensures operated { self.new.has_operators ≡ self.old.has_operators }
+        ensures accepted { self.new.accepted ≡ Some handed }
+        ensures caller { self.new.caller ≡ result }
+        ensures client { handed.door ≡ Clients → result ≡ Request }
     {
         let caller = caller_of(handed.door, self.has_operators);
         self.since = self.stage.wires().milliseconds();
+        self.may_join = caller == Caller::Request && handed.reader.may_join(handed.door);
         self.accepted = Some(handed);
         self.caller = caller;
         caller
     }
 
-    /// Answers a line that asks the server about itself: it isn't logged, and doesn't count as
-    /// served. Returns any other request.
-    fn unless_asked(
-        &mut self,
-        handed: Handed<W::Reader, W::Writer>,
-    ) -> Option<Handed<W::Reader, W::Writer>>
-        ensures { self.new.has_operators ≡ self.old.has_operators }
-    {
-        match self.asked_by(&handed) {
-            Some(asked) => {
-                self.tell(asked, handed);
-                None
-            }
-            None => Some(handed),
-        }
-    }
-
-    /// What an operator's line asks. If memory runs out, it is taken for another line.
-    fn asked_by(&self, handed: &Handed<W::Reader, W::Writer>) -> Option<Asked>
-        ensures { is_some result ≡ true → self.now.has_operators ≡ true }
+    /// What an operator's line asks of the server; a client's request asks nothing of it.
+    fn asked_by(&self, handed: &Handed<W::Reader, W::Writer>) -> Result<Option<Asked>, AllocError>
+        ensures asked { IfOk result (λ asked. asked ≡ asked_by (caller_at handed.now.door self.now.has_operators)
+            (option_map (λ s. s.now) self.now.secret) handed.now.reader.bytes.items) }
+        ensures clients { handed.now.door ≡ Clients → result ≡ Ok None }
     {
         match caller_of(handed.door, self.has_operators) {
-            Caller::Request => None,
-            Caller::Operator => {
-                let line = first_line(handed.reader.first());
-                asked_of_line(self.alloc, self.secret, line).unwrap_or(None)
-            }
-        }
-    }
-
-    /// Answers a line. If memory runs out, its connection is closed.
-    fn tell(&mut self, asked: Asked, handed: Handed<W::Reader, W::Writer>)
-        ensures { self.new.has_operators ≡ self.old.has_operators }
-    {
-        self.figures.count_line();
-        self.stage.wires().note(handed.turn.key, Note::Nothing);
-        let mut writer = Link::new(handed.writer);
-        let is_answered = match self.text_of(asked) {
-            Ok(text) => writer.send(text.as_bytes()) == text.len(),
-            Err(_) => false,
-        };
-        self.stage.close(handed.turn, handed.reader, writer.into_inner(), is_answered);
-    }
-
-    /// While the clock is too far ahead, all requests are refused so.
-    fn text_of(&self, asked: Asked) -> Result<String, AllocError> {
-        match asked {
-            Asked::Health if self.pace.is_away() => {
-                String::from_str(self.alloc, "30 ClockOutOfRange\n")
-            }
-            Asked::Health => String::from_str(self.alloc, "health ok\n"),
-            Asked::Metrics => {
-                let figures = self.figures;
-                format!(in self.alloc; "{figures}")
-            }
+            Caller::Request => Ok(None),
+            Caller::Operator => asked_of(self.alloc, self.secret, handed.reader.first()),
         }
     }
 
@@ -273,11 +248,17 @@ impl<'a, W: Wires + Backing + Drop, C> Front<'a, W, C> {
         };
         match self.accepted.take() {
             Some(handed) => {
-                self.served = Some(handed.turn);
-                let writer = Replying::new(self.alloc, Some(handed.writer), noted);
+                let going = Going {
+                    turn: handed.turn,
+                    since: self.since,
+                };
+                let writer = Replying::new(self.alloc, Some(handed.writer), Some(going), noted);
                 (Brought::Request(handed.reader), writer)
             }
-            None => (Brought::Nobody, Replying::new(self.alloc, None, noted)),
+            None => (
+                Brought::Nobody,
+                Replying::new(self.alloc, None, None, noted),
+            ),
         }
     }
 
@@ -294,8 +275,8 @@ impl<'a, W: Wires + Backing + Drop, C> Front<'a, W, C> {
         self.sweep = Some(line);
     }
 
-    /// Counts the connection that was served, and what it may have written.
-    fn count(&mut self, reader: &Kept<W::Reader>, response: &[u8], served: Served)
+    /// Counts a connection that was served since then, and what it may have written.
+    fn count(&mut self, since: u64, reader: &Kept<W::Reader>, response: &[u8], served: Served)
         ensures { self.new.has_operators ≡ self.old.has_operators }
     {
         let now = self.stage.wires().milliseconds();
@@ -303,7 +284,7 @@ impl<'a, W: Wires + Backing + Drop, C> Front<'a, W, C> {
         self.sweeping.count(request, received);
         match self.caller {
             Caller::Request => {
-                let took = now.saturating_sub(self.since);
+                let took = now.saturating_sub(since);
                 self.figures
                     .count_request(request, response, received, served.sent, took);
             }
@@ -311,7 +292,7 @@ impl<'a, W: Wires + Backing + Drop, C> Front<'a, W, C> {
         }
     }
 
-    /// The connection that was served is handed back.
+    /// A connection that was served is handed back.
     fn close_connection(
         &mut self,
         reading: u64,
@@ -321,18 +302,95 @@ impl<'a, W: Wires + Backing + Drop, C> Front<'a, W, C> {
     )
         ensures { self.new.has_operators ≡ self.old.has_operators }
     {
-        let (Some(turn), Some(outbox)) = (self.served.take(), writer.outbox) else {
+        let (Some(going), Some(outbox)) = (writer.going, writer.outbox) else {
             return;
         };
         let first = writer.first.as_slice();
-        self.count(&reader, first, served);
+        self.count(going.since, &reader, first, served);
         if self.is_logged {
             if let Some(note) = self.note_of(reading, &reader, first, served) {
-                self.stage.wires().note(turn.key, note);
+                self.stage.wires().note(going.turn.key, note);
             }
         }
         let is_answered = served.ended == End::Whole || served.ended == End::StoreFailed;
-        self.stage.close(turn, reader, outbox, is_answered);
+        self.stage.close(going.turn, reader, outbox, is_answered);
+    }
+}
+
+impl<'a, W: Wires + Backing + Drop, C: Clock> Front<'a, W, C> {
+    /// Answers a line that asks the server about itself: it isn't logged, and doesn't count as
+    /// served. Returns any other request. If memory runs out, it is taken for another line.
+    fn unless_asked(
+        &mut self,
+        handed: Handed<W::Reader, W::Writer>,
+    ) -> Option<Handed<W::Reader, W::Writer>>
+        ensures operated { self.new.has_operators ≡ self.old.has_operators }
+        ensures clients { handed.door ≡ Clients → result ≡ Some handed }
+        ensures clock { handed.door ≡ Clients → self.new.pace ≡ self.old.pace }
+    {
+        match self.asked_by(&handed).unwrap_or(None) {
+            Some(asked) => {
+                self.tell(asked, handed);
+                None
+            }
+            None => Some(handed),
+        }
+    }
+
+    /// Answers a line. If memory runs out, its connection is closed.
+    fn tell(&mut self, asked: Asked, handed: Handed<W::Reader, W::Writer>)
+        ensures operated { self.new.has_operators ≡ self.old.has_operators }
+        ensures clock { StaysUnless asked self.old.pace self.new.pace }
+    {
+        self.figures.count_line();
+        self.stage.wires().note(handed.turn.key, Note::Nothing);
+        let mut writer = Link::new(handed.writer);
+        let is_answered = match self.answer(asked) {
+            Ok(text) => writer.send(text.as_bytes()) == text.len(),
+            Err(_) => false,
+        };
+        self.stage.close(handed.turn, handed.reader, writer.into_inner(), is_answered);
+    }
+
+    fn answer(&mut self, asked: Asked) -> Result<String, AllocError>
+        ensures operated { self.new.has_operators ≡ self.old.has_operators }
+        ensures clock { StaysUnless asked self.old.pace self.new.pace }
+        ensures metrics { asked ≡ Metrics → IfOk result (λ text. (sizes : Sizes) × (string_bytes text ≡ page self.old.figures sizes)) }
+        ensures health { asked ≡ Health → IfOk result (λ text. string_bytes text ≡ health self.old.pace.is_away) }
+    {
+        match asked {
+            Asked::Health => health_text(self.alloc, self.pace.is_away()),
+            Asked::Metrics => self.metrics_text(),
+            Asked::ClockAccept => {
+                let reading = self.accept_clock();
+                accepted_text(self.alloc, reading)
+            }
+        }
+    }
+
+    /// The page of what was counted, and of how large the files are now.
+    fn metrics_text(&mut self) -> Result<String, AllocError>
+        ensures operated { self.new.has_operators ≡ self.old.has_operators }
+        ensures clock { self.new.pace ≡ self.old.pace }
+        ensures text { IfOk result (λ text. (sizes : Sizes) × (string_bytes text ≡ page self.old.figures sizes)) }
+    {
+        let sizes = self.stage.wires().sizes();
+        page_text(self.alloc, &self.figures, sizes)
+    }
+
+    /// Takes the clock's present reading as right, and returns it; `None` if it can't be read or is
+    /// out of range.
+    fn accept_clock(&mut self) -> Option<u64>
+        ensures operated { self.new.has_operators ≡ self.old.has_operators }
+        ensures clock { HasAccepted self.old.pace result self.new.pace }
+    {
+        let reading = self.clock.seconds().ok()?;
+        let uptime = self.stage.wires().uptime().ok()?;
+        if !self.pace.accept(reading, uptime) {
+            return None;
+        }
+        self.stage.wires().tell_clock(reading, ClockNews::Accepted);
+        Some(reading)
     }
 }
 
@@ -360,6 +418,28 @@ impl<'a, W: Wires + Backing + Drop, C: Clock> Acceptor for Front<'a, W, C> {
         Err(io::Error::from(ErrorKind::TimedOut))
     }
 
+    /// Brings the next request that is whole, if it and the current one may be applied together: both are
+    /// clients'. Any other one stays the next.
+    fn accept_more(&mut self) -> bool
+        ensures calls { ⊤ }
+        ensures operated { self.new.has_operators ≡ self.old.has_operators }
+        ensures clients { result ≡ true → (self.old.caller ≡ Request) × (self.new.caller ≡ Request) }
+        ensures joins { result ≡ true → IsSomeAnd self.new.accepted IsJoining }
+        ensures whole { result ≡ true → IsSomeAnd self.new.accepted (IsHanded self.old.limits) }
+        ensures same { result ≡ false → self.new.accepted ≡ self.old.accepted }
+    {
+        if !self.may_join {
+            return false;
+        }
+        match self.stage.accept_more(&self.limits) {
+            Some(handed) => {
+                let _ = self.admit(handed);
+                true
+            }
+            None => false,
+        }
+    }
+
     fn seconds(&mut self) -> io::Result<u64> {
         let reading = self.clock.seconds()?;
         let uptime = self.stage.wires().uptime()?;
@@ -379,6 +459,7 @@ impl<'a, W: Wires + Backing + Drop, C: Clock> Acceptor for Front<'a, W, C> {
         ensures calls { ⊤ }
         ensures operated { self.new.has_operators ≡ self.old.has_operators }
     {
+        self.figures.note_stamp(served.stamp);
         let writer = arrival.writer.into_inner();
         match arrival.reader.into_inner() {
             Brought::Request(reader) => {
@@ -392,18 +473,12 @@ impl<'a, W: Wires + Backing + Drop, C: Clock> Acceptor for Front<'a, W, C> {
 
 /// Who connected at a listener.
 fn caller_of(door: Door, has_operators: bool) -> Caller
-    ensures { result ≡ Operator → has_operators ≡ true }
+    ensures admitted { result ≡ Operator → has_operators ≡ true }
+    ensures client { door ≡ Clients → result ≡ Request }
+    ensures caller { result ≡ caller_at door has_operators }
 {
     match (door, has_operators) {
         (Door::Operators, true) => Caller::Operator,
         (Door::Operators, false) | (Door::Clients, _) => Caller::Request,
-    }
-}
-
-/// The bytes before the first line feed.
-fn first_line(bytes: &[u8]) -> &[u8] {
-    match bytes.iter().position(|byte| *byte == b'\n') {
-        Some(end) => &bytes[..end],
-        None => bytes,
     }
 }

@@ -2,6 +2,7 @@
 //! that mio tells of, as what bh_connection serves.
 #![tactic(auto)]
 
+mod answers;
 mod brought;
 mod ends;
 pub mod figures;
@@ -12,12 +13,14 @@ mod listener;
 mod log;
 mod many;
 pub mod pace;
+mod page;
 mod socket_file;
 mod sockets;
 pub mod sweeping;
 mod uptime;
 
 pub use front::{Backing, Front};
-pub use log::Note;
+pub use log::{ClockNews, Note};
 pub use many::{Places, serve_many};
+pub use page::Sizes;
 pub use sockets::Sockets;

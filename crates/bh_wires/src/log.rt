@@ -90,13 +90,32 @@ pub(crate) fn line_of(
     Ok(Some(line?))
 }
 
-/// What is told of a clock that is too far ahead, or back.
-pub(crate) fn clock_line(alloc: Global, reading: u64, is_away: bool) -> Result<String, AllocError> {
+/// What is told of a clock.
+#[derive(Clone, Copy)]
+pub enum ClockNews {
+    /// It is too far ahead.
+    Leapt,
+    /// It is no longer too far ahead.
+    Back,
+    /// An operator took its reading as right.
+    Accepted,
+}
+
+/// What is told of a clock, at its reading, and what an operator may do.
+pub(crate) fn clock_line(
+    alloc: Global,
+    reading: u64,
+    news: ClockNews,
+) -> Result<String, AllocError> {
     let time = time_text(alloc, reading)?;
-    if is_away {
-        format!(in alloc; "the clock leapt to {time}: requests are refused until it is back")
-    } else {
-        format!(in alloc; "the clock is back at {time}")
+    match news {
+        ClockNews::Leapt => {
+            format!(in alloc;
+                "the clock leapt to {time}: requests are refused until it is back; if it is right, order clock-accept"
+            )
+        }
+        ClockNews::Back => format!(in alloc; "the clock is back at {time}"),
+        ClockNews::Accepted => format!(in alloc; "the clock is taken as right at {time}"),
     }
 }
 

@@ -5,7 +5,7 @@ ghost use Rattle.bh_connection.specs.Listening.{WasLost, WasVisited, WereCounted
 ghost use Rattle.bh_connection.specs.Visits.{RanFor};
 ghost use Rattle.bh_wires.specs.Sweeping.{IsOwnLine};
 
-use crate::files::Site;
+use crate::files::{HostFiles, Site};
 use crate::front::{Backing, Front, Terms};
 use crate::group::group_number;
 use crate::listener::Listener;
@@ -36,6 +36,8 @@ const OTHER_FILES: usize = 64;
 pub struct Places<'a> {
     /// How many connections there are at most.
     pub connections: usize,
+    /// The path of the host's file, whose size is told to operators.
+    pub file: &'a str,
     /// How the names of files begin that are made for requests and answers too long for memory. They
     /// have mode 0600, and their names are removed at once.
     pub spool: &'a str,
@@ -77,10 +79,13 @@ pub fn serve_many<N: Net + Files<File = File> + AllocGlobal + Eprint, H: BackUp,
         count result host.old host.new }
 {
     let limits = host.limits();
+    // Without memory for their names, the sizes of these aren't told.
+    let files = HostFiles::of(net, places.file).ok();
     let site = Site {
         net,
         clock,
         path: places.spool,
+        files: &files,
     };
     let mut front = front_on(&site, limits, ports, manner, places)?;
     let served = serve_from(net.alloc(), routes, host, &mut front, secret(ports), count);

@@ -1,8 +1,8 @@
 //! A clock that leaps ahead while a server runs. A reading that is too far ahead is taken as one that
 //! is out of range, so that nothing is stamped with it: stamps don't go back.
 
-ghost use Rattle.std.specs.Prelude.{◌≡◌};
-ghost use Rattle.bh_wires.specs.Pace.{is_ahead, is_behind, taken_as, measured_by};
+ghost use Rattle.std.specs.Prelude.{◌≡◌, true};
+ghost use Rattle.bh_wires.specs.Pace.{accepted, is_ahead, is_behind, is_in_range, taken_as, measured_by};
 
 use bh_types::moment::LAST_READING;
 
@@ -45,6 +45,21 @@ impl Pace {
         self.is_away = runs_away(reading, self.last, now, self.step);
         self.last = next_last(reading, self.last, now, self.step);
         taken
+    }
+
+    /// Takes a reading as right, after the machine ran `now` seconds: the next ones are measured by it
+    /// alone. Returns whether it did: one that is out of range isn't taken.
+    pub fn accept(&mut self, reading: u64, now: u64) -> bool
+        ensures accepted { self.new ≡ accepted self.old reading now }
+        ensures told { result ≡ is_in_range reading }
+        ensures taken { result ≡ true → taken_as reading self.new.last now self.new.step ≡ reading }
+    {
+        if reading > LAST_READING {
+            return false;
+        }
+        self.last = Some(Accepted { reading, at: now });
+        self.is_away = false;
+        true
     }
 
     /// Whether the last reading was too far ahead.

@@ -4,7 +4,8 @@ use crate::ends::{Reading, Writing, halves};
 use crate::files::Site;
 use crate::front::Backing;
 use crate::listener::{Listener, Stream};
-use crate::log::{Entry, Note, clock_line, line_of, note_of};
+use crate::log::{ClockNews, Entry, Note, clock_line, line_of, note_of};
+use crate::page::Sizes;
 use crate::socket_file::SocketFile;
 use crate::uptime::uptime;
 use bh_connection::Clock;
@@ -273,10 +274,14 @@ impl<'a, N: Files<File = File> + Eprint, C> Backing for Sockets<'a, N, C> {
     }
 
     /// Writes it to standard error. If that can't be written, it is lost.
-    fn tell_clock(&mut self, reading: u64, is_away: bool) {
-        if let Ok(line) = clock_line(self.alloc, reading, is_away) {
+    fn tell_clock(&mut self, reading: u64, news: ClockNews) {
+        if let Ok(line) = clock_line(self.alloc, reading, news) {
             let _ = eprintln!(self.site.net; "{line}");
         }
+    }
+
+    fn sizes(&mut self) -> Sizes {
+        self.site.sizes()
     }
 
     /// Closes the listeners, and removes their files.

@@ -46,6 +46,7 @@ leaf-fine subcommand.Tell = record { fine = ((refl, inl (refl, refl), tt), ((ref
 leaf-fine subcommand.Stop = record { fine = ((refl, inl (refl, refl), tt), ((refl, inl (refl, refl), tt), ((refl, inl (refl, refl), tt), ((refl, inr (inr refl), tt), tt)))); once = refl; negates = refl }
 leaf-fine subcommand.Health = record { fine = ((refl, inl (refl, refl), tt), ((refl, inl (refl, refl), tt), ((refl, inl (refl, refl), tt), ((refl, inr (inr refl), tt), tt)))); once = refl; negates = refl }
 leaf-fine subcommand.Metrics = record { fine = ((refl, inl (refl, refl), tt), ((refl, inl (refl, refl), tt), ((refl, inl (refl, refl), tt), ((refl, inr (inr refl), tt), tt)))); once = refl; negates = refl }
+leaf-fine subcommand.ClockAccept = record { fine = ((refl, inl (refl, refl), tt), ((refl, inl (refl, refl), tt), ((refl, inl (refl, refl), tt), ((refl, inr (inr refl), tt), tt)))); once = refl; negates = refl }
 
 limits-given : (rows : List Row) (v w : Text) (n m : ℕ) → first_of (codes "min-part") rows ≡ Some v → number_of 64 v ≡ Some n
     → first_of (codes "max-body") rows ≡ Some w → number_of 64 w ≡ Some m → n ≤ 2 ^ 30 → 1 ≤ m → m ≤ 2 ^ 30
@@ -200,3 +201,4 @@ leaf-told subcommand.Tell words e =
 leaf-told subcommand.Stop words e = refl
 leaf-told subcommand.Health words e = refl
 leaf-told subcommand.Metrics words e = refl
+leaf-told subcommand.ClockAccept words e = refl

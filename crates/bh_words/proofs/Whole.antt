@@ -144,7 +144,7 @@ subs_told = (
                   inl (leaf-told chosen.Tenants),
                   (
                     inl (leaf-told chosen.Report),
-                    (inl (leaf-told chosen.Check), (inl (leaf-told chosen.Sweep), (inl (leaf-told chosen.Backup), (inl (leaf-told chosen.Export), (inl (leaf-told chosen.Import), (inl (leaf-told chosen.Serve), (inl (leaf-told chosen.Tell), (inl (leaf-told chosen.Stop), (inl (leaf-told chosen.Health), (inl (leaf-told chosen.Metrics), (inr (refl, refl), tt))))))))))),
+                    (inl (leaf-told chosen.Check), (inl (leaf-told chosen.Sweep), (inl (leaf-told chosen.Backup), (inl (leaf-told chosen.Export), (inl (leaf-told chosen.Import), (inl (leaf-told chosen.Serve), (inl (leaf-told chosen.Tell), (inl (leaf-told chosen.Stop), (inl (leaf-told chosen.Health), (inl (leaf-told chosen.Metrics), (inl (leaf-told chosen.ClockAccept), (inr (refl, refl), tt)))))))))))),
                   ),
                 ),
               ),

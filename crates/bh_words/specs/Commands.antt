@@ -33,6 +33,7 @@ word subcommand.Tell = codes "tell"
 word subcommand.Stop = codes "stop"
 word subcommand.Health = codes "health"
 word subcommand.Metrics = codes "metrics"
+word subcommand.ClockAccept = codes "clock-accept"
 
 -- where an operator's order is carried out: on a file, or by a server
 abbrev whereabouts : List OptionName
@@ -68,13 +69,14 @@ options subcommand.Tell = Port ∷ Socket ∷ SecretFile ∷ Order ∷ []
 options subcommand.Stop = server
 options subcommand.Health = server
 options subcommand.Metrics = server
+options subcommand.ClockAccept = server
 
 abbrev pub subcommands : List Subcommand
 subcommands = subcommand.Script ∷ subcommand.Init ∷ subcommand.TenantAdd ∷ subcommand.Quota ∷ subcommand.KeyAdd
     ∷ subcommand.KeyRemove ∷ subcommand.Keys ∷ subcommand.Usage ∷ subcommand.Tenants ∷ subcommand.Report ∷ subcommand.Check
     ∷ subcommand.Sweep
     ∷ subcommand.Backup ∷ subcommand.Export ∷ subcommand.Import ∷ subcommand.Serve ∷ subcommand.Tell
-    ∷ subcommand.Stop ∷ subcommand.Health ∷ subcommand.Metrics ∷ []
+    ∷ subcommand.Stop ∷ subcommand.Health ∷ subcommand.Metrics ∷ subcommand.ClockAccept ∷ []
 
 -- a command with these options
 abbrev pub shape : Text → List OptionName → Shape

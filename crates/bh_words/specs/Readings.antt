@@ -21,7 +21,7 @@ use Rattle.bh_words.specs.declared.lines.ClockTyped.{ClockTyped}
 use Rattle.bh_words.specs.declared.lines.Leap.{Leap}
 use Rattle.bh_words.specs.declared.lines.Leap.TheVariants.{Days, Any}
 use Rattle.bh_words.specs.declared.lines.ServerAsked.{ServerAsked}
-use Rattle.bh_words.specs.declared.lines.ServerAsked.TheVariants.{Stop, Health, Metrics}
+use Rattle.bh_words.specs.declared.lines.ServerAsked.TheVariants.{Stop, Health, Metrics, ClockAccept}
 use Rattle.bh_words.specs.declared.options.OptionName.{OptionName}
 use Rattle.bh_words.specs.declared.options.OptionName.TheVariants as option
 use Rattle.bh_words.specs.declared.subcommands.Subcommand.{Subcommand}
@@ -274,6 +274,7 @@ line_at subcommand.Tell = tell
 line_at subcommand.Stop = at_server Stop
 line_at subcommand.Health = at_server Health
 line_at subcommand.Metrics = at_server Metrics
+line_at subcommand.ClockAccept = at_server ClockAccept
 
 abbrev pub subcommand_named : Text → Option Subcommand
 subcommand_named name = find (λ s. bytes_eq (commands.word s) name) subcommands

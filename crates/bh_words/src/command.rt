@@ -38,7 +38,7 @@ fn with_subcommands<'a>(
     Ok(command)
 }
 
-static SUBCOMMANDS: [Subcommand; 20] = [
+static SUBCOMMANDS: [Subcommand; 21] = [
     Subcommand::Script,
     Subcommand::Init,
     Subcommand::TenantAdd,
@@ -59,6 +59,7 @@ static SUBCOMMANDS: [Subcommand; 20] = [
     Subcommand::Stop,
     Subcommand::Health,
     Subcommand::Metrics,
+    Subcommand::ClockAccept,
 ];
 
 fn subcommand_command<'a>(alloc: Global, subcommand: Subcommand) -> Result<Command<'a>, AllocError>

@@ -107,6 +107,8 @@ pub enum ServerAsked {
     Health,
     /// What it has counted since its start.
     Metrics,
+    /// To take the clock's present reading as right.
+    ClockAccept,
 }
 
 /// An operator's order. Names, secrets and quotas are unchecked: the host checks their ranges.

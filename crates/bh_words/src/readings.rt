@@ -50,6 +50,7 @@ fn line_of(
         Subcommand::Stop => at_server(alloc, given, ServerAsked::Stop),
         Subcommand::Health => at_server(alloc, given, ServerAsked::Health),
         Subcommand::Metrics => at_server(alloc, given, ServerAsked::Metrics),
+        Subcommand::ClockAccept => at_server(alloc, given, ServerAsked::ClockAccept),
     }
 }
 

@@ -34,6 +34,7 @@ pub(crate) enum Subcommand {
     Stop,
     Health,
     Metrics,
+    ClockAccept,
 }
 
 static SCRIPT: [OptionName; 6] = [BlockSize, MinPart, MaxBody, CacheBlocks, CacheBytes, Digest];
@@ -195,6 +196,10 @@ impl Subcommand {
             Subcommand::Stop => ("stop", "Ends a running server"),
             Subcommand::Health => ("health", "Prints whether a running server answers requests"),
             Subcommand::Metrics => ("metrics", "Prints what a running server has counted"),
+            Subcommand::ClockAccept => (
+                "clock-accept",
+                "Makes a running server take the present time of its clock as right",
+            ),
         }
     }
 
@@ -217,7 +222,8 @@ impl Subcommand {
             Subcommand::Import => &IMPORT,
             Subcommand::Serve => &SERVE,
             Subcommand::Tell => &TELL,
-            Subcommand::Stop | Subcommand::Health | Subcommand::Metrics => &AT_SERVER,
+            Subcommand::Stop | Subcommand::Health | Subcommand::Metrics | Subcommand::ClockAccept =>
+                &AT_SERVER,
         }
     }
 
@@ -246,6 +252,7 @@ impl Subcommand {
             "stop" => Some(Subcommand::Stop),
             "health" => Some(Subcommand::Health),
             "metrics" => Some(Subcommand::Metrics),
+            "clock-accept" => Some(Subcommand::ClockAccept),
             _ => None,
         }
     }

@@ -1,0 +1,7 @@
+use Rattle.std.proofs.Common.{◌≡◌, take}
+use Rattle.bh_wires.specs.Figures.{total}
+use Rattle.bh_wires.proofs.figures.total.Given as goal
+
+-- the sum so far
+abbrev pub invariant-loop-count : goal.invariant-loop-count
+invariant-loop-count l = l.sum ≡ total (take l.count-index l.counts)
