@@ -3,11 +3,12 @@
 
     bench/clients.py [--only PARTS] [--turns N] [--seconds S] [--before BEFORE] [PROGRAM [BEFORE]]
 
-PROGRAM: crates/bucketd/out/bucketd; BEFORE: another one, which is beside it in the parts latency, rates and one. PARTS, with commas:
+PROGRAM: crates/bucketd/out/bucketd; BEFORE: another one, which is beside it in the parts latency, rates, one and synced. PARTS, with commas:
 beside: GETs of 1 KiB by 8 clients, in turns of a server with nobody else, and of one that also has 1,000 silent clients, 300 who send
 1 KiB of a body each 50 ms, and 300 who asked for 16 MiB and read nothing; latency: GETs of 1 KiB by one, alone and beside 8 who put
 16 MiB of new bytes over and over; rates: puts of new bytes and gets, 1 KiB each, by 64 clients, beside nginx's DAV and radosgw; one: the
-same by one client, without those; memory: with nobody, 1,000 silent clients, and 300 who sent half of 128 KiB and wait.
+same by one client, without those; synced: puts by one client and by 64, where each sync takes 5 ms longer; memory: with nobody, 1,000
+silent clients, and 300 who sent half of 128 KiB and wait.
 
 It needs Debian's wrk; nginx-light, and radosgw with ceph-mon, ceph-osd and ceph-common, are left out where they aren't there. Files lie
 in a new folder of /dev/shm (FOLDER in the environment names another place), but the 4 GB of answers that nobody reads in one of the
@@ -19,6 +20,7 @@ import multiprocessing
 import os
 import resource
 import statistics
+import subprocess
 import sys
 import tempfile
 import threading
@@ -48,7 +50,7 @@ class Strangers:
 
     @staticmethod
     def settled(server):
-        """Seconds until ten GETs, one after another, took less than 100 ms each: an answer without room in files holds up the others."""
+        """Seconds until ten GETs, one after another, took less than 100 ms each: answers without room in files may hold up the others."""
         begun, quick = time.monotonic(), 0
         while quick < 10 and time.monotonic() - begun < 150:
             quick = quick + 1 if server.get("/key0", BODY) < 100 else 0
@@ -159,6 +161,18 @@ def in_turns(o, folder, clients, more=lambda folder: []):
         print(f"| {method}, {name} | {cells(turns[1:])} | {ratio:.2f} |", flush=True)
 
 
+def synced(o, folder):
+    """Puts where each sync takes 5 ms longer: those that share a transaction share its syncs."""
+    library = os.path.join(folder, "late_sync.so")
+    subprocess.run(["cc", "-O2", "-shared", "-fPIC", "-o", library, os.path.join(os.path.dirname(__file__), "late_sync.c")], check=True)
+    print(f"\n| PUT of 1 KiB, a sync 5 ms longer | {HEADS} |\n|---|---|---|---|---|")
+    for name, program in o.programs:
+        server, target = bucketd(name, program, folder, LD_PRELOAD=library)
+        with server:
+            for clients in (1, 64):
+                print(f"| {name}, clients: {clients} | {cells([ask(target, 'PUT', clients, o.seconds) for _ in range(o.turns)])} |", flush=True)
+
+
 def memory(o, folder):
     with bucketd("bucketd", o.program, folder)[0] as server:
         told = {"nobody": server.memory("VmRSS")}
@@ -181,7 +195,8 @@ def memory(o, folder):
         print(f"| {name} | {size:.1f} |", flush=True)
 
 
-PARTS = {"beside": beside, "latency": latency, "rates": lambda o, folder: in_turns(o, folder, 64, others), "one": lambda o, folder: in_turns(o, folder, 1), "memory": memory}
+PARTS = {"beside": beside, "latency": latency, "rates": lambda o, folder: in_turns(o, folder, 64, others), "one": lambda o, folder: in_turns(o, folder, 1), "synced": synced,
+         "memory": memory}
 
 
 def main():

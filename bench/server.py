@@ -93,11 +93,11 @@ class PlainServer(Asked):
 class Server(Asked, host.Server):
     """`bucketd serve` on a host in a folder, which is made with the tenant green and its bucket where it isn't there."""
 
-    def __init__(self, program, folder, *words, digest="sha256", limits=(), count=COUNT):
+    def __init__(self, program, folder, *words, digest="sha256", limits=(), count=COUNT, **env):
         self.file = os.path.join(folder, "host")
         is_new = not os.path.exists(self.file)
         if is_new:
             make_host(program, self.file, ["green"], "--digest", digest, *limits)
-        host.Server.__init__(self, program, self.file, *words, count=count)
+        host.Server.__init__(self, program, self.file, *words, count=count, **env)
         if is_new:
             self.put("", b"")

@@ -88,9 +88,9 @@ def cells(turns):
 HEADS = "a second | us each | ms: median, 99 % | processor, ms"
 
 
-def bucketd(name, program, folder, *words):
-    """On a new host with all keys: the server, and it as one that is asked."""
-    server = Server(program, tempfile.mkdtemp(dir=folder), *words)
+def bucketd(name, program, folder, *words, **env):
+    """On a new host with all keys: the server, in an environment with these variables, and it as one that is asked."""
+    server = Server(program, tempfile.mkdtemp(dir=folder), *words, **env)
     for it in KEYS:
         server.put(it, BODY)
     return server, Target(name, server.port, server.end, fields=FIELDS, spent=server.spent)

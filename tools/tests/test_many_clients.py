@@ -352,6 +352,40 @@ def test_files_are_short(expect, program, folder):
         expect("requests beside 3 who don't read, where 256 bodies have all room in files", is_answered and took < 0.5 * server.timeout, f"{took:.2f} s")
 
 
+@pytest.mark.proved
+@pytest.mark.cost(60)
+def test_answers_without_room(expect, program, folder, disk_folder):
+    """Answers that nobody reads take all room in files: more of them hold up others for a moment, all together, and are cut off."""
+    if not is_fast(program):
+        return expect.skip("answers without room", "2 GiB of answers take a slow program too long")
+    with server_of(program, folder, "--connections", "450", "--spool", disk_folder, timeout=200) as server:
+        server.get("PUT", "/plans", b"")
+        large, small, get = os.urandom(16 << 20), os.urandom(1000), request("green", "GET", "/plans/large")
+        assert [server.get("PUT", f"/plans/{name}", body)[0] for name, body in [("large", large), ("small", small)]] == [200, 200]
+        # requests may have half of the 4 GiB of files, and answers the rest
+        announced = [server.socket() for _ in range(128)]
+        for it in announced:
+            it.sendall(request("green", "PUT", "/plans/no", b"a" * 1024, secret="anothersecret", length=16 << 20))
+        deaf = [server.socket(room=4096) for _ in range(200)]
+        for it in deaf:
+            it.sendall(get)
+        # (requests are done in order, so these are done when the next one is)
+        filled = server.get("GET", "/plans/small")[2] == small
+        time.sleep(1.1)
+        more, begun = [server.socket(room=4096) for _ in range(60)], time.monotonic()
+        for it in more:
+            it.sendall(get)
+        told = [server.get("GET", "/plans/small")[2] for _ in range(10)]
+        took = time.monotonic() - begun
+        expect("ten gets beside 60 who don't read, where 200 who don't read have all room in files", filled and told == [small] * 10 and took < 1.5, f"{took:.2f} s")
+        cut = sum(len(all_of(it)) < len(large) for it in more)
+        expect("most of the 60 are cut off", cut > 50, cut)
+        time.sleep(1.1)
+        expect("one that reads has all", server.get("GET", "/plans/large")[2] == large)
+        for it in [*announced, *deaf]:
+            it.close()
+
+
 # ---- sweeps of its own
 
 
@@ -400,7 +434,7 @@ def test_clock_that_leaps(expect, program, folder):
         expect("a clock that is ahead by less", server.get("PUT", "/plans/x", b"abc")[0] == 200 and not of_clock(server), of_clock(server))
         clock.set(now + 100_000)
         told = [server.get("PUT", "/plans/x", b"def")[0], server.get("GET", "/plans/x")[0]]
-        expect("by more: requests are refused", told == [500, 500] and [it.split(":")[-1] for it in of_clock(server)] == [" requests are refused until it is back"], f"{told} {of_clock(server)}")
+        expect("by more: requests are refused", told == [500, 500] and [it.split(": ")[-1] for it in of_clock(server)] == ["requests are refused until it is back; if it is right, order clock-accept"], f"{told} {of_clock(server)}")
         clock.set(now + 501)
         told, lines = server.get("GET", "/plans/x"), of_clock(server)
         expect("it is back: they are answered", told[0] == 200 and told[2] == b"abc" and len(lines) == 2 and "the clock is back" in lines[1], f"{told} {lines}")

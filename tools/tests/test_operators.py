@@ -9,7 +9,7 @@ import time
 
 import pytest
 
-from host import PATIENCE, all_of, is_fast, make_host, request, run
+from host import PATIENCE, Clock, all_of, is_fast, make_host, request, run
 from test_serve import BUSY, Served
 
 SECRET = "Correct;horse:9battery"
@@ -249,9 +249,9 @@ def test_public_port(it, expect):
     answer = it.exchange(line + b"\r\n\r\n")
     told = it.order(op="usage", tenant="public")
     expect("an operator's line on the public port", answer.startswith(b"HTTP/1.1 400 ") and told == "42 NoSuchTenant\n", f"{answer} {told}")
-    for op in ("health", "metrics", "stop"):
+    for op in OWN:
         answer = it.exchange(b'{"op":"%s"}\n\r\n\r\n' % op.encode())
-        expect(f"{op} on the public port", answer.startswith(b"HTTP/1.1 400 ") and b"health ok" not in answer and b"bucketd_server" not in answer, answer)
+        expect(f"{op} on the public port", answer.startswith(b"HTTP/1.1 400 ") and not any(word in answer for word in (b"health ok", b"bucketd_server", b"accepted")), answer)
     expect("the server goes on after these", it.get("HEAD", "/plans")[0] == 200)
 
 
@@ -367,6 +367,9 @@ def test_many_tenants(program, folder, expect):
         expect("and printed by bucketd tell", printed == (told.removesuffix("\n"), 0), f"{printed[1]} {printed[0][:100]}")
 
 
+OWN = ("stop", "health", "metrics", "clock-accept")
+
+
 def figures(page):
     """The names in a page of Prometheus' text format, with their numbers."""
     return {name: float(number) for name, number in re.findall(r"^([a-z_]+(?:\{[^}]*\})?) ([0-9.]+)$", page, re.M)}
@@ -374,9 +377,13 @@ def figures(page):
 
 def test_about_itself(program, file, expect):
     """What a server tells of itself: its lines change nothing, aren't logged, and don't count as served."""
+    begun = int(time.time())
     with Operated(program, file, "--log", count=4) as it:
         told = it.tell({"op": "health"})
         expect("health", told == ("health ok", 0), f"{told}")
+        expect("no timestamp before a request", "last_stamp" not in it.order(op="metrics"))
+        told = it.order(op="clock-accept")
+        expect("a clock that isn't ahead is accepted", re.fullmatch(r"accepted (\d+)\n", told) and begun <= int(told.split()[1]) <= time.time(), told)
         asked = [it.get("PUT", "/plans", b"")[0], it.get("PUT", "/plans/a", b"x" * 3000)[0], it.get("GET", "/plans/none")[0]]
         page = it.order(op="metrics", at=5)
         found, name = figures(page), 'bucketd_server_requests_total{method="%s",status="%s"}'
@@ -386,6 +393,9 @@ def test_about_itself(program, file, expect):
         expect("and their times", times == [3, 3, 3] and found.get("bucketd_server_request_seconds_sum", -1) >= 0, page)
         bytes_found = [found.get(f"bucketd_server_{of}_bytes_total", 0) for of in ("received", "sent")]
         expect("and their bytes", 3000 < bytes_found[0] < 6000 and 100 < bytes_found[1] < 6000, f"{bytes_found}")
+        sizes = [os.path.getsize(file + tail) for tail in ("", "-wal")]
+        expect("and tell the sizes of the host's files", [found.get(f"bucketd_server_{of}_bytes") for of in ("file", "log")] == sizes, f"{sizes} {page}")
+        expect("and the last timestamp", begun <= found.get("bucketd_server_last_stamp_seconds", 0) <= time.time(), f"{begun} {page}")
         expect("no name of a tenant, bucket or object is in them", not any(word in page for word in ("green", "plans")), page)
         port = {"BUCKETD_OPERATOR_PORT": str(it.door)}
         for name, words, environment in (("by its port", ["--operator-port", str(it.door)], {}), ("by the environment", [], port),
@@ -402,9 +412,6 @@ def test_about_itself(program, file, expect):
         expect("three requests and one bad line are four", it.process.returncode == 0, it.process.returncode)
         logged = [text for text in it.lines() if " operator " in text]
         expect("only the bad line is logged", len(logged) == 1 and "bad_line" in logged[0], f"{logged}")
-
-
-OWN = ("stop", "health", "metrics")
 
 
 def test_stop(program, folder, file, expect):
@@ -439,3 +446,42 @@ def test_no_server_named(program, folder, file, expect, name):
                                (["--operator-port", "1", "--operator-socket", "none"], {})):
         told, status, _ = run(program, folder, name, *words, **environment)
         expect(f"bucketd {name} {' '.join(words)} {environment}", status == 2 and told.startswith("error: "), f"{status} {told}")
+
+
+def test_clock_is_accepted(program, folder, file, expect):
+    """A clock that leapt is refused until an operator accepts it: no other question does, and no client. Then it is the measure."""
+    now, step = int(time.time()), 600
+    clock = Clock(folder, now)
+    with Operated(program, file, "--log", "--clock-step", str(step), timeout=60, **clock.env) as it:
+        def put(name):
+            return it.get("PUT", f"/plans/{name}", b"x")[0]
+
+        def news():
+            return [text for text in it.lines() if "clock" in text]
+
+        asked = it.get("PUT", "/plans", b"")[0], put("a")
+        clock.set(now + 100_000)
+        expect("a leap is refused", asked == (200, 200) and put("b") == 500, f"{asked}")
+        expect("standard error names the order", len(news()) == 1 and "clock-accept" in news()[0], f"{news()}")
+        told = [it.tell({"op": "health"}), it.order(op="metrics")[:6], it.exchange(b'{"op":"clock-accept"}\n\r\n\r\n')[:13]]
+        expect("health says so, and a client's line is no order", told == [("30 ClockOutOfRange", 1), "# HELP", b"HTTP/1.1 500 "], f"{told}")
+        expect("it is refused unasked", put("b") == 500)
+        told = run(program, None, "clock-accept", "--operator-port", str(it.door))[:2]
+        expect("bucketd clock-accept", told == (f"accepted {clock.now}", 0), f"{told}")
+        expect("then it is taken", (put("b"), it.tell({"op": "health"})) == (200, ("health ok", 0)) and len(news()) == 2, f"{news()}")
+        stamp = figures(it.order(op="metrics")).get("bucketd_server_last_stamp_seconds")
+        expect("and stamped", stamp == clock.now, f"{stamp}")
+        clock.set(clock.now + step)
+        expect("it is the measure: a step more", put("c") == 200)
+        clock.set(clock.now + 100_000)
+        expect("and a second leap is refused", put("d") == 500 and len(news()) == 3, f"{news()}")
+        clock.set(now + 10)
+        expect("it goes on by itself when the clock is back", put("d") == 200 and len(news()) == 4, f"{news()}")
+        told = it.order(op="clock-accept")
+        clock.set(now + 90_000)
+        expect("an earlier reading is the measure too, once accepted", (told, put("e")) == (f"accepted {now + 10}\n", 500), told)
+        clock.set(250_000_000_001)
+        expect("a reading out of range isn't accepted", it.tell({"op": "clock-accept"}) == ("30 ClockOutOfRange", 1))
+        clock.set(now + 20)
+        expect("and is no measure", put("e") == 200)
+        expect("none of these orders is logged", not [text for text in it.lines() if " operator " in text], f"{it.lines()}")
