@@ -1,0 +1,21 @@
+-- The steps by which functions that make or change a record are walked.
+pub use Rattle.std.proofs.Common.{◌≡◌, ℕ, List, [], ◌∷◌, refl, ap, MutBor}
+pub use Rattle.std.proofs.raw_atomic.Walks.{proved}
+pub use base.Logic.{id⊢}
+pub use base.Fml.{ftrue, flft}
+pub use mir.Syntax.{named}
+pub use mir.Val.{Val, vunit, vstruct, vcons, vnil}
+pub use contract.Running.{tables}
+pub use types.Kit.{‵, raw, ◌⊛◌, at_ret, ◌$◌, ◌∵◌, !, qed, done, move, keep, drop, use1, split, join, fsplit, fsplit3, fjoin, feq_i, suffices, frame, group}
+pub use types.Run.{enter, of_opd, unit_lit, no_more, and_then, exec, returns}
+pub use types.Part.{agg}
+pub use types.ByLocal.{alloc_all, pass_all, free_all, look_at, get, sets, env}
+pub use denote.Builtin.{u8, u64}
+pub use denote.Exit.{yes}
+pub use denote.Ref.{MutRef, mut_vals, mut_Tells}
+pub use denote.Shadow.{pure_i}
+pub use denote.Signature.{plain}
+pub use denote.Slice.{ShrSlice, shr_slice_vals, shr_slice_Tells}
+pub use denote.Steps.{nothing, opens, closes}
+pub use denote.Triple.Entry.{on_entry}
+pub use denote.Triple.Walked.{Stays, walk_of, says, stay_ref, Goes-ref, stay_none_slice, Goes-none_slice, ends_at}

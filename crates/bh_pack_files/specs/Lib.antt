@@ -1,0 +1,4 @@
+pub mod Files
+pub mod Guard
+pub mod Names
+pub mod Note
