@@ -179,7 +179,7 @@ fn refused(rt: &HostRuntime, path: &str, folder: &str) -> io::Result<()> {
     open_one(rt, &mut shelf, 0, 11)?;
     symlink(rt, two.as_str(), one.as_str())?;
     open_one(rt, &mut shelf, 0, 0)?;
-    println!(rt; "make pack 0: {}", shelf.folder.make_pack(0).is_ok())?;
+    println!(rt; "new pack 0: {}", shelf.folder.make_pack(0).is_ok())?;
     open_one(rt, &mut shelf, 0, 0)?;
     println!(rt;
         "pack 1 has {} bytes",
