@@ -376,8 +376,9 @@ def test_answers_without_room(expect, program, folder, disk_folder):
         for it in more:
             it.sendall(get)
         told = [server.get("GET", "/plans/small")[2] for _ in range(10)]
+        # (a quarter of a second for each of the 60 would be 15)
         took = time.monotonic() - begun
-        expect("ten gets beside 60 who don't read, where 200 who don't read have all room in files", filled and told == [small] * 10 and took < 1.5, f"{took:.2f} s")
+        expect("ten gets beside 60 who don't read, where 200 who don't read have all room in files", filled and told == [small] * 10 and took < 6, f"{took:.2f} s")
         cut = sum(len(all_of(it)) < len(large) for it in more)
         expect("most of the 60 are cut off", cut > 50, cut)
         time.sleep(1.1)
