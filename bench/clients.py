@@ -164,7 +164,7 @@ def in_turns(o, folder, clients, more=lambda folder: []):
 def synced(o, folder):
     """Puts where each sync takes 5 ms longer: those that share a transaction share its syncs."""
     library = os.path.join(folder, "late_sync.so")
-    subprocess.run(["cc", "-O2", "-shared", "-fPIC", "-o", library, os.path.join(os.path.dirname(__file__), "late_sync.c")], check=True)
+    subprocess.run(["cc", "-O2", "-shared", "-fPIC", "-o", library, os.path.join(os.path.dirname(__file__), "../tools/preload/late_sync.c")], check=True)
     print(f"\n| PUT of 1 KiB, a sync 5 ms longer | {HEADS} |\n|---|---|---|---|---|")
     for name, program in o.programs:
         server, target = bucketd(name, program, folder, LD_PRELOAD=library)

@@ -387,6 +387,29 @@ def test_answers_without_room(expect, program, folder, disk_folder):
             it.close()
 
 
+# ---- groups
+
+
+@pytest.mark.proved
+def test_groups_share_syncs(expect, program, folder, library):
+    """Puts that are whole at one moment share a transaction: where each sync takes 5 ms longer, they take much less than one after another."""
+    if not is_fast(program):
+        return expect.skip("puts that share a transaction", "64 of them take a slow program longer than its syncs")
+    with server_of(program, folder, LD_PRELOAD=library("late_sync")) as server:
+        server.get("PUT", "/plans", b"")
+        begun = time.monotonic()
+        alone = [server.get("PUT", f"/plans/alone{number}", b"a" * 100)[0] for number in range(16)]
+        each, clients = (time.monotonic() - begun) / 16, [server.socket() for _ in range(64)]
+        begun = time.monotonic()
+        for number, it in enumerate(clients):
+            it.sendall(request("green", "PUT", f"/plans/x{number}", b"b" * 100))
+        told = [Answer(all_of(it), "PUT").status for it in clients]
+        took = time.monotonic() - begun
+        expect("64 puts at once", alone == [200] * 16 and told == [200] * 64 and took < 32 * each, f"{1000 * took:.0f} ms, {1000 * each:.1f} ms alone")
+        stored = [server.get("GET", f"/plans/x{number}")[2] for number in range(64)]
+        expect("all are stored", stored == [b"b" * 100] * 64)
+
+
 # ---- sweeps of its own
 
 
