@@ -1,12 +1,12 @@
 #!/usr/bin/env python3
-"""Times the first opening of a host's file of version 1 and of 2, which brings it over, beside that of the same host of version 3.
+"""Times the first opening of a host's file of each earlier version, which brings it over, beside that of the same host of version 4.
 
     bench/migration.py [PROGRAM [MEGABYTES..]]      the proved program, and files of 1 and 100 MB
 
 A host is filled by `serve` with objects of 4 MiB and closed; Python's sqlite3 drops the tables that the earlier version hasn't and
 sets the number back, and each page gets its sum. Copies of such a file, and of the one that it becomes, are opened in turns, 9 times
 each, by a `serve` that is killed once it listens: the least and the middle of its seconds of a processor, and the pages that the
-opening has left in the log. Ends with 1 where bringing over a file adds 50 ms to the least, or writes 30 pages.
+opening has left in the log. Ends with 1 where bringing over a file adds 50 ms to the least, or writes 40 pages.
 """
 import os
 import shutil
@@ -20,9 +20,9 @@ from server import SHARED_MEMORY, Server, proved_program
 
 PAGE, HEAD, FRAME = 4096, 32, 4096 + 24
 TURNS = 9
-MOST_MILLISECONDS, MOST_PAGES = 50, 30
+MOST_MILLISECONDS, MOST_PAGES = 50, 40
 # The last tables, of each version.
-TABLES = {3: ["tallies"], 2: ["retains", "locks"]}
+TABLES = {4: ["garbage", "rights", "upload_notes", "notes", "placed", "packs"], 3: ["tallies"], 2: ["retains", "locks"]}
 
 
 def set_back(file, version):
@@ -64,26 +64,26 @@ def opened(program, file, kept):
 def measured(program, megabytes):
     folder = tempfile.mkdtemp(prefix="migration-", dir=SHARED_MEMORY)
     try:
-        file, kept = make(program, folder, PAGE, True), {it: os.path.join(folder, f"version-{it}") for it in (1, 2, 3)}
+        file, kept = make(program, folder, PAGE, True), {it: os.path.join(folder, f"version-{it}") for it in (1, 2, 3, 4)}
         with Server(program, folder) as on:
             on.ask("PUT", "", b"")
         fill(program, folder, megabytes * 10**6)
         used(program, file)
-        for version in (2, 1):
+        for version in (3, 2, 1):
             set_back(file, version)
             shutil.copy(file, kept[version])
         used(program, file)
-        shutil.move(file, kept[3])
-        if [version_of(it) for it in kept.values()] != [1, 2, 3]:
+        shutil.move(file, kept[4])
+        if [version_of(it) for it in kept.values()] != [1, 2, 3, 4]:
             sys.exit(f"versions {[version_of(it) for it in kept.values()]}")
         turns = [[opened(program, file, it) for it in kept.values()] for _ in range(TURNS)]
         length, is_well, least = os.path.getsize(kept[1]) / 1e6, True, []
-        for at, name in enumerate(("1, brought over", "2, brought over", "3")):
+        for at, name in enumerate(("1, brought over", "2, brought over", "3, brought over", "4")):
             seconds, pages = [it[at][0] for it in turns], max(it[at][1] for it in turns)
             least.append(min(seconds))
             print(f"| {length:.0f} | {name} | {min(seconds):.3f} | {statistics.median(seconds):.3f} | {pages} |", flush=True)
             is_well = is_well and pages < MOST_PAGES
-        return is_well and (max(least) - least[2]) * 1000 < MOST_MILLISECONDS
+        return is_well and (max(least) - least[3]) * 1000 < MOST_MILLISECONDS
     finally:
         shutil.rmtree(folder)
 

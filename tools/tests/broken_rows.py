@@ -23,6 +23,11 @@ BROKEN = [
     ("a tally's markers", "UPDATE tallies SET markers = 1", "tallies: not how many versions, markers and objects the tenant has, row 1 of tenants"),
     ("a tally's objects", "UPDATE tallies SET objects = 0", "tallies: not how many versions, markers and objects the tenant has, row 1 of tenants"),
     ("a tally that is missing", "DELETE FROM tallies", "tallies: not as many rows as tenants"),
+    ("a pack", "INSERT INTO packs VALUES (1, 0, 0)", "packs: a row, and this program fills no such table, row 1"),
+    ("a note", "INSERT INTO notes SELECT tenant, seq, x'00' FROM versions", "notes: a row, and this program fills no such table, row 1"),
+    ("a note of an upload", "INSERT INTO upload_notes SELECT tenant, upload, x'00' FROM uploads", "upload_notes: a row, and this program fills no such table, row 1"),
+    ("rights", "INSERT INTO rights SELECT tenant, name, 'all' FROM keys", "rights: a row, and this program fills no such table, row 1"),
+    ("bytes that nothing names", "INSERT INTO garbage VALUES (1, 0)", "garbage: a row, and this program fills no such table, row 1"),
     ("a byte of a block", "UPDATE blocks SET bytes = x'61616162' WHERE rowid = 1", "blocks: another digest than that of its bytes, row 1"),
     ("a block once more", "INSERT INTO blocks SELECT digest, 1, bytes FROM blocks WHERE rowid = 1; INSERT INTO uses SELECT digest, 1, 0 FROM blocks WHERE rowid = 1",
      "blocks: the bytes of another block, row 6"),
@@ -52,4 +57,6 @@ WITHOUT_PARENT = [
     ("a block that is missing", "checked", "DELETE FROM blocks WHERE rowid = 2; DELETE FROM uses WHERE rowid = 2"),
     ("a lock of no bucket", "locked", "INSERT INTO locks VALUES ('green', 'none')"),
     ("a date of no version", "locked", "UPDATE retains SET seq = 77"),
+    ("a place in no pack", "checked", "INSERT INTO placed SELECT digest, ord, 1, 0, 4, 7 FROM blocks WHERE rowid = 1"),
+    ("rights of no key", "checked", "INSERT INTO rights VALUES ('green', 'none', 'all')"),
 ]

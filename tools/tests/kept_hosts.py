@@ -9,6 +9,8 @@ READ = [("GET", it, "") for it in """/ /?usage /plans?list-type=2 /plans/a /plan
 /kept/a?versionId=0000000000000001 /kept/b /kept?uploads /kept/v?uploadId=0000000000000001""".split()]
 # Of a file of version 2 too, which has a locked bucket and a version with a date.
 READ_DATED = [("GET", "/vault?object-lock", ""), ("GET", "/vault/x?retention", "")]
+# The tables of version 4 that nothing fills yet.
+UNFILLED = ("packs", "placed", "notes", "upload_notes", "rights", "garbage")
 HOSTS = os.path.join(CRATES, "examples/data/hosts")
 
 
@@ -28,8 +30,10 @@ def told_by(name):
 
 
 def versions_of(database):
-    """The number that a host's row has, and how many rows of locks, of dates and of tallies there are; none where it has no such
-    tables."""
+    """The number that a host's row has, and how many rows of locks, of dates and of tallies there are, and of all the tables that
+    nothing fills; none where it has no such tables."""
     tables = {name for (name,) in database.execute("SELECT name FROM sqlite_master WHERE type = 'table'")}
-    counts = [database.execute(f"SELECT count(*) FROM {it}").fetchone()[0] if it in tables else None for it in ("locks", "retains", "tallies")]
-    return (database.execute("SELECT version FROM host").fetchone()[0], *counts)
+    count = lambda it: database.execute(f"SELECT count(*) FROM {it}").fetchone()[0]
+    counts = [count(it) if it in tables else None for it in ("locks", "retains", "tallies")]
+    unfilled = sum(map(count, UNFILLED)) if tables >= set(UNFILLED) else None
+    return (database.execute("SELECT version FROM host").fetchone()[0], *counts, unfilled)

@@ -518,8 +518,12 @@ def test_commands(expect, program, folder, library, ordered, full, name, at):
 # ---- the first opening of an earlier program's file
 
 # What each kept file is as it stands, and once it is brought over, which is one commit.
-STEPS = {"version-1": [(1, None, None, None), (3, 0, 0, 1)], "version-2": [(2, 1, 1, None), (3, 1, 1, 1)]}
-USED = {"version-1": 41, "version-2": 50}
+STEPS = {
+    "version-1": [(1, None, None, None, None), (4, 0, 0, 1, 0)],
+    "version-2": [(2, 1, 1, None, None), (4, 1, 1, 1, 0)],
+    "version-3": [(3, 1, 1, 1, None), (4, 1, 1, 1, 0)],
+}
+USED = {"version-1": 41, "version-2": 50, "version-3": 50}
 OPENING = ("usage", "--tenant", "green", "--force")
 
 

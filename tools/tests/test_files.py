@@ -319,7 +319,7 @@ def test_files_of_earlier_programs(on, name):
         on.note(f"{name} {turn}", answers == told_by(name), [it for it in zip(reads, answers, told_by(name)) if it[1] != it[2]])
         found = versions_of(opened(on, name)), texts_of(on, name)
         dated = 0 if name == "version-1" else 1
-        on.note(f"{name} {turn}: its version and its tables", found == ((3, dated, dated, 1), wanted_tables), found)
+        on.note(f"{name} {turn}: its version and its tables", found == ((4, dated, dated, 1, 0), wanted_tables), found)
     dates = ask(on, name, *(request("green$k1", "GET", f"/kept/a?retention&versionId={n:016x}") for n in (1, 2)))
     on.note(f"{name}: no version of an open bucket has a date", [it.split(b"\r\n\r\n")[1] for it in dates] == [b"{}"] * 2, dates)
     on.expect(f"a sweep of {name}", sweep(name, 100, "--force"), 0, "sweep uploads 0 blocks 2 complete\n")
@@ -330,7 +330,7 @@ def test_file_of_an_earlier_program_opened_by_a_command(on):
     shutil.copy(os.path.join(HOSTS, "version-1"), on.path("by-command"))
     on.expect("version-1 opened by a command that asks", usage("by-command", "green") + ["--force"], 0, "usage green bytes 41 quota 1000000\n")
     found = versions_of(opened(on, "by-command"))
-    on.note("which makes it of this version", found == (3, 0, 0, 1), found)
+    on.note("which makes it of this version", found == (4, 0, 0, 1, 0), found)
 
 
 def copy_kept(on):
@@ -346,12 +346,13 @@ def texts_of(on, file):
 @pytest.mark.cost(40)
 @pytest.mark.proved
 def test_files_of_no_earlier_program(on):
-    """Files of version 1 or 2 with another number, or other tables, are no hosts, and stay as they are."""
+    """Files of earlier versions with another number, or other tables, are no hosts, and stay as they are."""
     copy_kept(on)
     for name, change in (
         ("version 1 told as 0", "UPDATE host SET version = 0"),
         ("version 1 told as 2", "UPDATE host SET version = 2"),
         ("version 1 told as 3", "UPDATE host SET version = 3"),
+        ("version 1 told as 4", "UPDATE host SET version = 4"),
         ("version 1 without its row", "DELETE FROM host"),
         ("version 1 with locks", "CREATE TABLE locks (tenant TEXT NOT NULL, bucket TEXT NOT NULL, PRIMARY KEY (tenant, bucket)) STRICT"),
         ("version 1 with an index more", "CREATE INDEX more ON host (latest)"),
@@ -360,6 +361,11 @@ def test_files_of_no_earlier_program(on):
         ("version 2 without its row", "DELETE FROM host"),
         ("version 2 with tallies", "CREATE TABLE tallies (tenant TEXT NOT NULL PRIMARY KEY) STRICT"),
         ("version 2 without dates", "DROP TABLE retains"),
+        ("version 3 told as 2", "UPDATE host SET version = 2"),
+        ("version 3 told as 4", "UPDATE host SET version = 4"),
+        ("version 3 without its row", "DELETE FROM host"),
+        ("version 3 with packs", "CREATE TABLE packs (pack INT NOT NULL PRIMARY KEY) STRICT"),
+        ("version 3 without tallies", "DROP TABLE tallies"),
     ):
         rebuilt(on, name, name[: len("version 1")].replace(" ", "-") + "-kept", change)
         on.expect(name, tenant_add(name, "blue", "--force"), 1, "47 NotAHostFile\n", same=name, says=f"bucketd: {name}: ")
@@ -370,7 +376,7 @@ def test_files_of_no_earlier_program(on):
     ):
         rebuilt(on, name, "version-1-kept", texts=change)
         on.expect(name, tenant_add(name, "blue", "--force"), 1, "47 NotAHostFile\n", same=name, says=f"bucketd: {name}: ")
-    for name in ("version 1", "version 2"):
+    for name in ("version 1", "version 2", "version 3"):
         rebuilt(on, f"{name} written by SQLite", name.replace(" ", "-") + "-kept")
         on.expect(f"the tables of {name}, written by SQLite", tenant_add(f"{name} written by SQLite", "blue", "--force"), 0, "tenant blue\n")
 
@@ -407,7 +413,7 @@ def test_check_of_no_file(on):
 @pytest.mark.cost(60)
 def test_check_of_rows(on, every, checked):
     """A check of a file in which something isn't so."""
-    on.expect("check of a host to break", check("checked"), 0, "sound\n", alone="checked", says="bucketd: checked: reading 13 tables\n")
+    on.expect("check of a host to break", check("checked"), 0, "sound\n", alone="checked", says="bucketd: checked: reading 19 tables\n")
     check_broken(on, "checked", some(on, every, BROKEN))
 
 
@@ -449,14 +455,14 @@ def test_check_of_rows_without_a_parent(on, checked, locked):
 @pytest.mark.proved
 def test_check_of_earlier_files(on):
     copy_kept(on)
-    for version, tables, stays in ((1, 10, (1, None, None, None)), (2, 12, (2, 1, 1, None))):
+    for version, tables, stays in ((1, 10, (1, None, None, None, None)), (2, 12, (2, 1, 1, None, None)), (3, 13, (3, 1, 1, 1, None))):
         kept = f"version-{version}-kept"
         on.expect(f"check of a host of version {version}", check(kept), 0, "sound\n", same=kept, says=f"bucketd: {kept}: reading {tables} tables\n")
         found = versions_of(opened(on, kept))
         on.note("which stays one", found == stays, found)
         name, change, told = BROKEN[0]
         check_broken(on, kept, [(f"{name}, in version {version}", change, told)])
-        new = broken(on, f"another number, in version {version}", kept, "UPDATE host SET version = 3")
+        new = broken(on, f"another number, in version {version}", kept, "UPDATE host SET version = 4")
         on.expect(f"check of {new}", check(new), 1, "47 NotAHostFile\n", same=new)
 
 

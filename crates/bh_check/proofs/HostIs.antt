@@ -1,5 +1,5 @@
 -- The rows that were checked are typed rows.
-use Rattle.std.proofs.Common.{◌≡◌, ℕ, pos, ◌+◌, sum_by, filter, Bool, true, false, ◌&&◌, List, [], ◌∷◌, map, refl, sym, ap, ap₂, ◌∙◌}
+use Rattle.std.proofs.Common.{◌≡◌, ℕ, pos, ◌+◌, sum_by, filter, Bool, true, false, ◌&&◌, List, [], ◌∷◌, ◌++◌, map, flat_map, refl, sym, ap, ap₂, ◌∙◌}
 use Rattle.std.specs.List.{AllByRecursion}
 use Rattle.std.specs.Ordering.{int_eq}
 use Rattle.sqlite.specs.Effect.{Database}
@@ -11,13 +11,13 @@ use Rattle.sqlite_typed.specs.Tests.{bytes_eq}
 use Rattle.bh_rows.specs.Form.{AreRows, typed}
 use Rattle.bh_tables.specs.Schema.{Octets, host_schema}
 use Rattle.bh_tables.specs.Bodies.{resolved, resolved_part, same_name}
-use Rattle.bh_tables.specs.Typed.{Totals, totals_of, tables_in, raw, AreHeld, TenantColumns, UploadColumns, VersionRow, PartRow, tenant_columns, upload_columns, tenant_form, stored_tenant_form, upload_form, stored_upload_form, block_form, ref_form, tally_form, version_of, part_of, bytes_used, bytes_kept}
+use Rattle.bh_tables.specs.Typed.{Totals, totals_of, tables_in, raw, unfilled_trees, AreHeld, TenantColumns, UploadColumns, VersionRow, PartRow, tenant_columns, upload_columns, tenant_form, stored_tenant_form, upload_form, stored_upload_form, block_form, ref_form, tally_form, version_of, part_of, bytes_used, bytes_kept}
 use Rattle.bh_tables.proofs.StoredLemmas.{Uses, Keeps, held_shown}
 use Rattle.bh_stored.specs.Cells.{is_fit}
 use Rattle.bh_stored.specs.Fits.{AreFit, tenant_kinds, upload_kinds, use_kinds, tally_kinds}
 use Rattle.bh_stored.specs.Stored.{seen}
 use Rattle.bh_stored.specs.declared.stored.Edition.{Edition}
-use Rattle.bh_stored.specs.declared.stored.Edition.TheVariants.{First, Second, Third}
+use Rattle.bh_stored.specs.declared.stored.Edition.TheVariants.{First, Second, Third, Fourth}
 use Rattle.bh_check.specs.Checked.{IsChecked}
 use Rattle.bh_check.specs.Holds.{owner, first_two, number_at, version_bytes, part_bytes, upload_bytes, block_refs, Holds}
 use Rattle.bh_check.specs.Tallies.{AreTallied}
@@ -38,6 +38,12 @@ tallies_kept : (edition : Edition) (trees : Trees) → AreTallied edition (seen 
 tallies_kept First trees tallied fit = refl
 tallies_kept Second trees tallied fit = refl
 tallies_kept Third trees tallied fit = tallies_counted (seen Third trees) (trees 30) (trees 1) (all_from_test (is_fit tally_kinds) (trees 30) fit.fit) tallied
+tallies_kept Fourth trees tallied fit = tallies_counted (seen Fourth trees) (trees 30) (trees 1) (all_from_test (is_fit tally_kinds) (trees 30) fit.fit) tallied
+
+-- no table has a row that nothing fills
+none_filled : (d : Trees) (ts : List ℕ) → AllByRecursion (λ t. d t ≡ []) ts → flat_map d ts ≡ []
+none_filled d [] h = refl
+none_filled d (t ∷ ts) h = ap₂ ◌++◌ h.0 (none_filled d ts h.1)
 
 module _ (edition : Edition) (digest : Octets → Octets) (trees : Trees) (c : IsChecked edition digest (seen edition trees)) where
   abbrev d : Trees
@@ -89,5 +95,6 @@ module _ (edition : Edition) (digest : Octets → Octets) (trees : Trees) (c : I
     retains = retains_are (d 28) c.fits.retains;
     tallies = tallies_are (d 30) c.fits.tallies;
     tallied = tallies_kept edition trees c.tallies c.fits.tallies;
+    unfilled = none_filled d unfilled_trees c.fits.unfilled;
     counts = counts_are (block_refs d) (typed ref_form (d 12)) (refs_counted d) (d 23) (d 10) (all_from_test (is_fit use_kinds) (d 23) c.fits.uses.fit) c.counts;
   }

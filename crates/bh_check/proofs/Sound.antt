@@ -12,11 +12,11 @@ use Rattle.sqlite_typed.specs.Tests.{bytes_eq}
 use Rattle.sqlite_typed.proofs.TestLemmas.{same_bytes}
 use Rattle.bh_model.specs.QuotaLaws.{IsBounded}
 use Rattle.bh_model.specs.State.{State, used}
-use Rattle.bh_tables.specs.Schema.{Octets, first_schema, second_schema, host_schema}
+use Rattle.bh_tables.specs.Schema.{Octets, first_schema, second_schema, third_schema, host_schema}
 use Rattle.bh_tables.specs.Bodies.{first}
 use Rattle.bh_tables.specs.Hosts.{with_version, is_of_version, brought_over, tables_opened}
 use Rattle.bh_tables.specs.Typed.{Tables, tables_in, HostRow, TenantRow, BlockRow, tenant_of, block_of}
-use Rattle.bh_tables.proofs.HostTests.{host_opens, first_opens, second_opens}
+use Rattle.bh_tables.proofs.HostTests.{host_opens, first_opens, second_opens, third_opens}
 use Rattle.bh_view.specs.Blocks.{AreDigests}
 use Rattle.bh_view.specs.Bodies.{AreBounded, IsSoundHost}
 use Rattle.bh_view.specs.Sound.{IsTenantRow, AreSound, IsSound}
@@ -26,7 +26,7 @@ use Rattle.bh_view.proofs.UsedLemmas.{used_is}
 use Rattle.bh_view.proofs.ViewLemmas.{own_row}
 use Rattle.bh_stored.specs.Stored.{seen}
 use Rattle.bh_stored.specs.declared.stored.Edition.{Edition}
-use Rattle.bh_stored.specs.declared.stored.Edition.TheVariants.{First, Second, Third}
+use Rattle.bh_stored.specs.declared.stored.Edition.TheVariants.{First, Second, Third, Fourth}
 use Rattle.bh_check.specs.Checked.{IsChecked, MakesSound}
 use Rattle.bh_check.specs.Holds.{version_bytes, part_bytes, Holds}
 use Rattle.bh_check.specs.declared.rows.Table.TheVariants as table
@@ -51,8 +51,8 @@ module _ (edition : Edition) (digest : Octets → Octets) (trees : Trees) (c : I
   abbrev host : HostRow
   host = c.host.host
 
-  alone : shown.host ≡ with_version 3 host ∷ []
-  alone = ap (map (with_version 3)) c.host.alone
+  alone : shown.host ≡ with_version 4 host ∷ []
+  alone = ap (map (with_version 4)) c.host.alone
 
   latest_is : latest_of shown ≡ c.latest
   unfolding latest_of
@@ -74,7 +74,7 @@ module _ (edition : Edition) (digest : Octets → Octets) (trees : Trees) (c : I
   are_sound t = subst (λ n. AreSound n (rows_of t shown)) (sym latest_is) (rows_sound t)
 
   is_sound : IsSound shown
-  is_sound = record { host = record { row = with_version 3 host; alone = alone; good = c.host.good.good }; tenants = are_sound; stored = stored_are edition digest trees c sound }
+  is_sound = record { host = record { row = with_version 4 host; alone = alone; good = c.host.good.good }; tenants = are_sound; stored = stored_are edition digest trees c sound }
 
   -- ---- what a tenant uses is at most 2^60 bytes
 
@@ -111,13 +111,20 @@ module _ (edition : Edition) (digest : Octets → Octets) (trees : Trees) (c : I
 -- ---- of each edition
 
 module _ (digest : Octets → Octets) (d : Trees) where
-  third_sound : IsDatabase (record { schema = host_schema; trees = d }) → IsChecked Third digest (seen Third d) → IsSoundHost digest (tables_opened (record { schema = host_schema; trees = d }))
-  third_sound sound c =
+  fourth_sound : IsDatabase (record { schema = host_schema; trees = d }) → IsChecked Fourth digest (seen Fourth d) → IsSoundHost digest (tables_opened (record { schema = host_schema; trees = d }))
+  fourth_sound sound c =
       let db : Database = record { schema = host_schema; trees = d } in
       let host = c.host.host in
-      let hosts : map (with_version 3) (tables_in db).host ≡ (tables_in db).host =
-      ap (map (with_version 3)) c.host.alone ∙ ap (λ n. with_version n host ∷ []) (sym c.host.good.version_is) ∙ sym c.host.alone in
-      subst (IsSoundHost digest) (ap (λ rows. record (tables_in db) { host = rows }) hosts ∙ sym (host_opens db (record { schema = refl; held = held_is Third digest d c })))
+      let hosts : map (with_version 4) (tables_in db).host ≡ (tables_in db).host =
+      ap (map (with_version 4)) c.host.alone ∙ ap (λ n. with_version n host ∷ []) (sym c.host.good.version_is) ∙ sym c.host.alone in
+      subst (IsSoundHost digest) (ap (λ rows. record (tables_in db) { host = rows }) hosts ∙ sym (host_opens db (record { schema = refl; held = held_is Fourth digest d c })))
+      (sound_tables Fourth digest d c (subst (λ (s : Schema). IsDatabase (record { schema = s; trees = d })) (over_is Fourth) sound))
+
+  third_sound : IsDatabase (record { schema = third_schema; trees = d }) → IsChecked Third digest (seen Third d) → IsSoundHost digest (tables_opened (record { schema = third_schema; trees = d }))
+  third_sound sound c =
+      let db : Database = record { schema = third_schema; trees = d } in
+      subst (IsSoundHost digest)
+      (sym (third_opens db (record { third = record { schema = refl; held = held_is Third digest d c }; version = ap (list_all (is_of_version 3)) c.host.alone ∙ ap (λ n. (n == 3) && true) c.host.good.version_is })))
       (sound_tables Third digest d c (subst (λ (s : Schema). IsDatabase (record { schema = s; trees = d })) (over_is Third) sound))
 
   second_sound : IsDatabase (record { schema = second_schema; trees = d }) → IsChecked Second digest (seen Second d) → IsSoundHost digest (tables_opened (record { schema = second_schema; trees = d }))
@@ -138,3 +145,4 @@ pub makes_sound : MakesSound
 makes_sound First digest d sound c = first_sound digest d sound c
 makes_sound Second digest d sound c = second_sound digest d sound c
 makes_sound Third digest d sound c = third_sound digest d sound c
+makes_sound Fourth digest d sound c = fourth_sound digest d sound c

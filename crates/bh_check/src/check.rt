@@ -6,7 +6,7 @@ ghost use Rattle.sqlite.specs.Tree.{Trees};
 ghost use Rattle.sqlite.specs.Held.{state};
 ghost use Rattle.sqlite_trees.specs.View.{IsClean};
 ghost use Rattle.bh_tables.specs.Hosts.{tables_opened};
-ghost use Rattle.bh_tables.specs.Schema.{Octets, first_schema, second_schema, host_schema};
+ghost use Rattle.bh_tables.specs.Schema.{Octets, first_schema, second_schema, third_schema, host_schema};
 ghost use Rattle.bh_view.specs.Bodies.{IsSoundHost};
 ghost use Rattle.bh_schema.specs.Layer.{IsStateClean};
 ghost use Rattle.bh_stored.specs.Fits.{AreAllFit};
@@ -44,11 +44,16 @@ const FIRST_TABLES: usize = 10;
 /// The number of tables of a host of version 2.
 const SECOND_TABLES: usize = 12;
 
+/// The number of tables of a host of version 3.
+const THIRD_TABLES: usize = 13;
+
 /// The edition of a host with this number of tables.
 fn edition_with(tables: usize) -> Edition
     ensures { result ≡ edition_with tables }
 {
-    if SECOND_TABLES < tables {
+    if THIRD_TABLES < tables {
+        Edition::Fourth
+    } else if SECOND_TABLES < tables {
         Edition::Third
     } else if FIRST_TABLES < tables {
         Edition::Second
@@ -65,6 +70,7 @@ fn version_of(edition: Edition) -> u64
         Edition::First => 1,
         Edition::Second => 2,
         Edition::Third => 3,
+        Edition::Fourth => 4,
     }
 }
 
@@ -169,6 +175,7 @@ fn check_tallies(alloc: Global, stored: &Stored, edition: Edition) -> Result<(),
         Edition::First => Ok(()),
         Edition::Second => Ok(()),
         Edition::Third => check_each_tally(alloc, stored),
+        Edition::Fourth => check_each_tally(alloc, stored),
     }
 }
 
@@ -295,7 +302,8 @@ pub fn check_connection<S: Alter + Drop, D: Digester, W: Watch>(
 ) -> (Result<Option<Flaw>, StoreError>, S)
     requires schema { IsStateClean (state S.Store connection)
         → ((state S.Store connection).now.schema ≡ first_schema)
-        ⊎ (((state S.Store connection).now.schema ≡ second_schema) ⊎ ((state S.Store connection).now.schema ≡ host_schema)) }
+        ⊎ (((state S.Store connection).now.schema ≡ second_schema)
+        ⊎ (((state S.Store connection).now.schema ≡ third_schema) ⊎ ((state S.Store connection).now.schema ≡ host_schema))) }
     ensures sound { IfOk result.0 (λ found. found ≡ None → IsClean (S.Store.view result.1) → IsTrue (S.Store.view result.1).is_open
         → IsStateClean (state S.Store connection) × IsSoundHost D.digest_of (tables_opened (state S.Store connection).now)) }
 {

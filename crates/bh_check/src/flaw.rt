@@ -9,6 +9,8 @@ use std::fmt;
 pub enum Flaw {
     /// In the tree of this number the row's columns aren't those of its table.
     Columns(u32, u64),
+    /// In the tree of this number there is this row, of a table that nothing fills yet.
+    Filled(u32, u64),
     /// The host's row is missing, repeated, of another version than its tables, or out of range.
     Host,
     /// A row is invalid for its table: alone, in its counts or sizes, or in its locks or dates.
@@ -53,6 +55,7 @@ impl From<Failure> for Stop {
         match failure {
             Failure::Store(error) => Stop::Store(error),
             Failure::Misfit(tree, row) => Stop::Flaw(Flaw::Columns(tree, row)),
+            Failure::Filled(tree, row) => Stop::Flaw(Flaw::Filled(tree, row)),
             Failure::TooMuch => Stop::Flaw(Flaw::TooMuch),
         }
     }
@@ -73,7 +76,13 @@ fn table_in<'a>(tree: u32) -> &'a str {
         23 => "uses",
         26 => "locks",
         28 => "retains",
-        _ => "tallies",
+        30 => "tallies",
+        32 => "packs",
+        34 => "placed",
+        37 => "notes",
+        39 => "upload_notes",
+        41 => "rights",
+        _ => "garbage",
     }
 }
 
@@ -105,6 +114,11 @@ impl fmt::Display for Flaw {
             Flaw::Columns(tree, row) => write!(
                 f,
                 "{}: other columns than a host's, row {row}",
+                table_in(*tree)
+            ),
+            Flaw::Filled(tree, row) => write!(
+                f,
+                "{}: a row, and this program fills no such table, row {row}",
                 table_in(*tree)
             ),
             Flaw::Host => f.write_str("host: not one row of this version, with values in range"),

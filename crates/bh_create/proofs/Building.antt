@@ -8,7 +8,7 @@ use Rattle.bh_types.specs.declared.block_digest.BlockDigest.{BlockDigest}
 use Rattle.bh_model.specs.QuotaLaws.{IsBounded}
 use Rattle.bh_model.specs.State.{Octets}
 use Rattle.bh_tables.specs.Schema.{no_schema}
-use Rattle.bh_tables.specs.Made.{with_tallies}
+use Rattle.bh_tables.specs.Made.{with_garbage}
 use Rattle.bh_tables.specs.Typed.{Tables, no_rows, tables_in}
 use Rattle.bh_tables.specs.Hosts.{tables_shown}
 use Rattle.bh_tables.proofs.HostTests.{host_shows}
@@ -139,24 +139,24 @@ unfolding standing
 begun_making old new empty is = record { inside = ap (λ (x : Standing). x.inside) is; blank = record { schema_is = ap (λ (x : Standing). x.now.schema) is ∙ empty; blank = tt } }
 
 -- all tables are made
-made_host : (s : State) → IsMaking with_tallies s → IsInside (standing s) × (tables_in (standing s).now ≡ no_rows)
+made_host : (s : State) → IsMaking with_garbage s → IsInside (standing s) × (tables_in (standing s).now ≡ no_rows)
 unfolding standing
 made_host s making =
     let it = blank_host s (subst (λ schema. IsBlank schema s) all_made making.blank) in
     (record { inside = making.inside; host = it.0 }, it.1)
 
-pub made_empty : (s : State) → IsMaking with_tallies s → (tables_in (standing s).now).host ≡ []
+pub made_empty : (s : State) → IsMaking with_garbage s → (tables_in (standing s).now).host ≡ []
 made_empty s making = ap (λ (t : Tables). t.host) (made_host s making).1
 
-pub made_inside : (s : State) → IsMaking with_tallies s → IsInside (standing s)
+pub made_inside : (s : State) → IsMaking with_garbage s → IsInside (standing s)
 made_inside s making = (made_host s making).0
 
 -- the host's row is added
-pub filled : (old new : State) (min_part max_body digest : ℕ) → IsMaking with_tallies old
-    → Holds (record (tables_in (standing old).now) { host = (tables_in (standing old).now).host ++ record { version = 3; latest = 0; min_part = min_part; max_body = max_body; digest = digest } ∷ [] }) (standing new)
+pub filled : (old new : State) (min_part max_body digest : ℕ) → IsMaking with_garbage old
+    → Holds (record (tables_in (standing old).now) { host = (tables_in (standing old).now).host ++ record { version = 4; latest = 0; min_part = min_part; max_body = max_body; digest = digest } ∷ [] }) (standing new)
     → Holds (new_host min_part max_body digest) (standing new)
 filled old new min_part max_body digest making it =
-    record { within = it.within; is = it.is ∙ ap (λ (t : Tables). record t { host = t.host ++ record { version = 3; latest = 0; min_part = min_part; max_body = max_body; digest = digest } ∷ [] }) (made_host old making).1 }
+    record { within = it.within; is = it.is ∙ ap (λ (t : Tables). record t { host = t.host ++ record { version = 4; latest = 0; min_part = min_part; max_body = max_body; digest = digest } ∷ [] }) (made_host old making).1 }
 
 -- it has no body, and no tenant
 new_sound : (digest : Octets → Octets) (tables : Tables) (min_part max_body number : ℕ) → tables ≡ new_host min_part max_body number → IsSound tables → ((t : Octets) → view tables t ≡ None) → IsSoundHost digest tables

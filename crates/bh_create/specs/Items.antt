@@ -10,7 +10,7 @@ use Rattle.bh_rows.proofs.CreateLemmas.{Makes as Creates}
 use Rattle.bh_rows.proofs.IndexErrors.{IsFreeIndex}
 use Rattle.bh_rows.specs.Index.{Indexes}
 use Rattle.bh_tables.specs.Made as made
-use Rattle.bh_tables.specs.Schema.{no_schema, first_schema, second_schema}
+use Rattle.bh_tables.specs.Schema.{no_schema, first_schema, second_schema, third_schema}
 use Rattle.bh_create.specs.declared.tables.Item.{Item}
 use Rattle.bh_create.specs.declared.tables.Item.TheVariants as item
 
@@ -33,6 +33,12 @@ after item.UsesByCount = made.with_uses_by_count
 after item.Locks = made.with_locks
 after item.Retains = made.with_retains
 after item.Tallies = made.with_tallies
+after item.Packs = made.with_packs
+after item.Placed = made.with_placed
+after item.Notes = made.with_notes
+after item.UploadNotes = made.with_upload_notes
+after item.Rights = made.with_rights
+after item.Garbage = made.with_garbage
 
 abbrev pub before : Item → Schema
 before item.Host = no_schema
@@ -53,6 +59,12 @@ before item.UsesByCount = after item.Uses
 before item.Locks = first_schema
 before item.Retains = after item.Locks
 before item.Tallies = second_schema
+before item.Packs = third_schema
+before item.Placed = after item.Packs
+before item.Notes = after item.Placed
+before item.UploadNotes = after item.Notes
+before item.Rights = after item.UploadNotes
+before item.Garbage = after item.Rights
 
 -- the SQL of its table, over the schema before it, which has no conflict with it
 pub record IsTableText (item : Item) (sql : List ℕ) : Type 0 where

@@ -1,8 +1,8 @@
 ghost use Rattle.std.specs.Prelude.{◌≡◌, true, IfErr};
 ghost use Rattle.sqlite.specs.Held.{state};
 ghost use Rattle.bh_rows.specs.Means.{is_trouble};
-ghost use Rattle.bh_tables.specs.Schema.{no_schema};
-ghost use Rattle.bh_tables.specs.Made.{with_uses_by_count, with_retains, with_tallies};
+ghost use Rattle.bh_tables.specs.Schema.{no_schema, third_schema};
+ghost use Rattle.bh_tables.specs.Made.{with_uses_by_count, with_retains, with_tallies, with_placed, with_garbage};
 ghost use Rattle.bh_schema.specs.Layer.{IsIntact, IsStateClean};
 ghost use Rattle.bh_create.specs.Creation.{IsMaking, Makes};
 ghost use Rattle.bh_create.specs.Items.{before, after, IsTextOf, Lead};
@@ -30,6 +30,12 @@ enum Item {
     Locks,
     Retains,
     Tallies,
+    Packs,
+    Placed,
+    Notes,
+    UploadNotes,
+    Rights,
+    Garbage,
 }
 
 /// The tables and indexes of a host of version 1.
@@ -50,6 +56,25 @@ const FIRST: [Item; 15] = [
     Item::Uses,
     Item::UsesByCount,
 ];
+
+/// The SQL of the tables that version 4 added.
+const PACKS: &str =
+    "CREATE TABLE packs (pack INT NOT NULL PRIMARY KEY CHECK (pack >= 0), length INTEGER NOT NULL CHECK (length >= 0) CHECK (length <= 4611686018427387904), live INTEGER NOT NULL CHECK (live >= 0) CHECK (live <= 4611686018427387904)) STRICT";
+
+const PLACED: &str =
+    "CREATE TABLE placed (digest BLOB NOT NULL, ord INTEGER NOT NULL CHECK (ord >= 0), pack INTEGER NOT NULL CHECK (pack >= 0), place INTEGER NOT NULL CHECK (place >= 0) CHECK (place <= 4611686018427387904), size INTEGER NOT NULL CHECK (size >= 0) CHECK (size <= 4611686018427387904), sum INTEGER NOT NULL, PRIMARY KEY (digest, ord), UNIQUE (pack, place), FOREIGN KEY (digest, ord) REFERENCES blocks ON DELETE RESTRICT, FOREIGN KEY (pack) REFERENCES packs ON DELETE RESTRICT) STRICT";
+
+const NOTES: &str =
+    "CREATE TABLE notes (tenant TEXT NOT NULL, seq INTEGER NOT NULL CHECK (seq >= 0), note BLOB NOT NULL, PRIMARY KEY (tenant, seq), FOREIGN KEY (tenant, seq) REFERENCES versions ON DELETE RESTRICT) STRICT";
+
+const UPLOAD_NOTES: &str =
+    "CREATE TABLE upload_notes (tenant TEXT NOT NULL, upload INTEGER NOT NULL CHECK (upload >= 0), note BLOB NOT NULL, PRIMARY KEY (tenant, upload), FOREIGN KEY (tenant, upload) REFERENCES uploads ON DELETE RESTRICT) STRICT";
+
+const RIGHTS: &str =
+    "CREATE TABLE rights (tenant TEXT NOT NULL, name TEXT NOT NULL, rights TEXT NOT NULL, PRIMARY KEY (tenant, name), FOREIGN KEY (tenant, name) REFERENCES keys ON DELETE RESTRICT) STRICT";
+
+const GARBAGE: &str =
+    "CREATE TABLE garbage (id INTEGER PRIMARY KEY CHECK (id = 1), bytes INTEGER NOT NULL CHECK (bytes >= 0) CHECK (bytes <= 4611686018427387904)) STRICT";
 
 impl Item {
     /// Its SQL.
@@ -90,6 +115,12 @@ impl Item {
                 "CREATE TABLE retains (tenant TEXT NOT NULL, seq INTEGER NOT NULL CHECK (seq >= 0), until INTEGER NOT NULL CHECK (until >= 0), PRIMARY KEY (tenant, seq), FOREIGN KEY (tenant, seq) REFERENCES versions ON DELETE RESTRICT) STRICT",
             Item::Tallies =>
                 "CREATE TABLE tallies (tenant TEXT NOT NULL PRIMARY KEY REFERENCES tenants ON DELETE RESTRICT, versions INTEGER NOT NULL CHECK (versions >= 0) CHECK (versions <= 4611686018427387904), markers INTEGER NOT NULL CHECK (markers >= 0) CHECK (markers <= 4611686018427387904), objects INTEGER NOT NULL CHECK (objects >= 0) CHECK (objects <= 4611686018427387904)) STRICT",
+            Item::Packs => PACKS,
+            Item::Placed => PLACED,
+            Item::Notes => NOTES,
+            Item::UploadNotes => UPLOAD_NOTES,
+            Item::Rights => RIGHTS,
+            Item::Garbage => GARBAGE,
         }
     }
 }
@@ -138,13 +169,39 @@ pub fn create_second_tables<S: Alter>(connection: &mut Connection<S>) -> Result<
     Ok(())
 }
 
-/// Creates the tables of a host and their indexes, without rows.
-pub fn create_tables<S: Alter>(connection: &mut Connection<S>) -> Result<(), Error>
+/// Creates the tables of a host of version 3 and their indexes, without rows.
+pub fn create_third_tables<S: Alter>(connection: &mut Connection<S>) -> Result<(), Error>
     requires { IsStateClean (state S.Store connection.old) → IsMaking no_schema (state S.Store connection.old) }
     ensures makes { Makes with_tallies (state S.Store connection.old) (state S.Store connection.new) result }
     ensures trouble { IfErr result (λ e. IsIntact (state S.Store connection.new) → is_trouble e ≡ true) }
 {
     create_second_tables(connection)?;
     create_item(connection, Item::Tallies)?;
+    Ok(())
+}
+
+/// Creates the tables of packs and of places in them, without rows, after those of version 3.
+fn create_pack_tables<S: Alter>(connection: &mut Connection<S>) -> Result<(), Error>
+    requires { IsStateClean (state S.Store connection.old) → IsMaking third_schema (state S.Store connection.old) }
+    ensures makes { Makes with_placed (state S.Store connection.old) (state S.Store connection.new) result }
+    ensures trouble { IfErr result (λ e. IsIntact (state S.Store connection.new) → is_trouble e ≡ true) }
+{
+    create_item(connection, Item::Packs)?;
+    create_item(connection, Item::Placed)?;
+    Ok(())
+}
+
+/// Creates the tables of a host and their indexes, without rows.
+pub fn create_tables<S: Alter>(connection: &mut Connection<S>) -> Result<(), Error>
+    requires { IsStateClean (state S.Store connection.old) → IsMaking no_schema (state S.Store connection.old) }
+    ensures makes { Makes with_garbage (state S.Store connection.old) (state S.Store connection.new) result }
+    ensures trouble { IfErr result (λ e. IsIntact (state S.Store connection.new) → is_trouble e ≡ true) }
+{
+    create_third_tables(connection)?;
+    create_pack_tables(connection)?;
+    create_item(connection, Item::Notes)?;
+    create_item(connection, Item::UploadNotes)?;
+    create_item(connection, Item::Rights)?;
+    create_item(connection, Item::Garbage)?;
     Ok(())
 }

@@ -1,4 +1,4 @@
-//! Replies to operators about one tenant.
+//! Replies to operators about one tenant, and a tenant's removal.
 
 ghost use Rattle.bh_model.specs.Operations as machine;
 ghost use Rattle.bh_storage.specs.Answers.{command_answer_view};
@@ -7,6 +7,7 @@ ghost use Rattle.bh_dispatch.specs.Operating.{CarriesOut};
 
 use bh_storage::answer::CommandAnswer;
 use bh_storage::error::StepError;
+use bh_types::moment::Moment;
 use bh_types::names::TenantName;
 use bh_types::refusal::Refusal;
 use bh_usage::{keys, usage};
@@ -26,6 +27,26 @@ pub fn show_usage<S: Alter>(
         Some(tenant) => usage(connection, &tenant).map(CommandAnswer::Used),
         None => Err(StepError::Refused(Refusal::InvalidName)),
     }
+}
+
+/// Removes a tenant at a moment, with its buckets and all in them if `with_objects`. Refusals:
+/// InvalidName, NoSuchTenant, TenantNotEmpty, TenantRetained.
+pub fn remove_tenant<S: Alter>(
+    connection: &mut Connection<S>,
+    alloc: Global,
+    tenant: &str,
+    at: Moment,
+    with_objects: bool,
+) -> Result<CommandAnswer, StepError<Refusal>>
+    requires { Works S.Store connection.old }
+    ensures { CarriesOut S.Store command_answer_view tenant.now (machine.remove_tenant at tenant.now with_objects)
+        connection.old connection.new result }
+{
+    let Some(tenant) = TenantName::read(alloc, tenant)? else {
+        return Err(StepError::Refused(Refusal::InvalidName));
+    };
+    let removed = bh_removal::remove_tenant(connection, alloc, &tenant, at, with_objects);
+    removed.map(|()| CommandAnswer::Done)
 }
 
 /// Names a tenant's access keys. Refusals: InvalidName, NoSuchTenant.

@@ -280,10 +280,11 @@ impl<S: Alter + Drop, D: Digester + Drop> Storage for RecallingStorage<S, D> {
     fn command(
         &mut self,
         alloc: Global,
+        at: Moment,
         command: &Command,
     ) -> Result<CommandAnswer, StepError<Refusal>> {
         self.memo.clear();
-        self.storage.command(alloc, command)
+        self.storage.command(alloc, at, command)
     }
 
     fn sweep(&mut self, alloc: Global, at: Moment, limit: u32) -> Result<SweepReport, Trouble> {

@@ -237,6 +237,7 @@ impl<S: Alter + Drop, D: Digester + Drop> Storage for HostStorage<S, D> {
     fn command(
         &mut self,
         alloc: Global,
+        at: Moment,
         command: &Command,
     ) -> Result<CommandAnswer, StepError<Refusal>> {
         match command {
@@ -253,6 +254,13 @@ impl<S: Alter + Drop, D: Digester + Drop> Storage for HostStorage<S, D> {
             Command::Quota { tenant, quota } => {
                 let set = self.host.quota_set(alloc, tenant.as_str(), *quota);
                 set.map(|()| CommandAnswer::Done)
+            }
+            Command::TenantRemove {
+                tenant,
+                with_objects,
+            } => {
+                let connection = &mut self.host.connection;
+                commands::remove_tenant(connection, alloc, tenant.as_str(), at, *with_objects)
             }
             Command::KeyAdd {
                 tenant,

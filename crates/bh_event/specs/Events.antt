@@ -1,8 +1,8 @@
 -- Events of a host, as contracts see them.
-use Rattle.std.specs.Prelude.{ℕ, List}
+use Rattle.std.specs.Prelude.{ℕ, Bool, List}
 use Rattle.std.specs.String.{string_bytes}
 use Rattle.bh_event.specs.declared.event.Command.{Command}
-use Rattle.bh_event.specs.declared.event.Command.TheVariants.{TenantAdd, Quota, KeyAdd, KeyRemove, Usage, Keys}
+use Rattle.bh_event.specs.declared.event.Command.TheVariants.{TenantAdd, Quota, TenantRemove, KeyAdd, KeyRemove, Usage, Keys}
 use Rattle.bh_event.specs.declared.event.Event.{Event}
 use Rattle.bh_event.specs.declared.event.Event.TheVariants as event
 
@@ -10,6 +10,7 @@ use Rattle.bh_event.specs.declared.event.Event.TheVariants as event
 pub data Order : Type 0 where
   AddTenant : (tenant : List ℕ) (quota : ℕ) → Order
   SetQuota : (tenant : List ℕ) (quota : ℕ) → Order
+  RemoveTenant : (tenant : List ℕ) (with_objects : Bool) → Order
   AddKey : (tenant : List ℕ) (name : List ℕ) (secret : List ℕ) → Order
   RemoveKey : (tenant : List ℕ) (name : List ℕ) → Order
   ShowUsage : (tenant : List ℕ) → Order
@@ -19,6 +20,7 @@ pub data Order : Type 0 where
 abbrev pub tenant_of : Order → List ℕ
 tenant_of (AddTenant tenant quota) = tenant
 tenant_of (SetQuota tenant quota) = tenant
+tenant_of (RemoveTenant tenant with_objects) = tenant
 tenant_of (AddKey tenant name secret) = tenant
 tenant_of (RemoveKey tenant name) = tenant
 tenant_of (ShowUsage tenant) = tenant
@@ -41,6 +43,7 @@ pub record Arrival : Type 0 where
 abbrev pub order_of : Command → Order
 order_of (TenantAdd tenant quota) = AddTenant (string_bytes tenant) quota
 order_of (Quota tenant quota) = SetQuota (string_bytes tenant) quota
+order_of (TenantRemove tenant with_objects) = RemoveTenant (string_bytes tenant) with_objects
 order_of (KeyAdd tenant name secret) = AddKey (string_bytes tenant) (string_bytes name) (string_bytes secret)
 order_of (KeyRemove tenant name) = RemoveKey (string_bytes tenant) (string_bytes name)
 order_of (Usage tenant) = ShowUsage (string_bytes tenant)

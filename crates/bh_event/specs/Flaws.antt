@@ -19,8 +19,8 @@ flaw_of_request d =
 -- whether it is the name of a command
 abbrev pub is_command : List ℕ → Bool
 is_command op =
-    bytes_eq op (codes "tenant-add") || bytes_eq op (codes "quota") || bytes_eq op (codes "key-add") || bytes_eq op (codes "key-remove")
-    || bytes_eq op (codes "usage") || bytes_eq op (codes "keys")
+    bytes_eq op (codes "tenant-add") || bytes_eq op (codes "quota") || bytes_eq op (codes "tenant-remove")
+    || bytes_eq op (codes "key-add") || bytes_eq op (codes "key-remove") || bytes_eq op (codes "usage") || bytes_eq op (codes "keys")
     || bytes_eq op (codes "sweep") || bytes_eq op (codes "report") || bytes_eq op (codes "tenants")
 
 -- the command is known, so its other members are wrong

@@ -7,9 +7,10 @@ use Rattle.std.specs.Str.{bytes_eq, is_utf8}
 use Rattle.hex.specs.Hex.{decode_of}
 use Rattle.serde_json.specs.Data.{Data}
 use Rattle.serde_json.specs.Events.{members_len}
-use Rattle.serde_json.specs.Find.{get, as_object, as_str, as_number, as_u64}
+use Rattle.serde_json.specs.Find.{get, as_bool, as_object, as_str, as_number, as_u64}
 use Rattle.serde_json.specs.Read.{read}
-use Rattle.bh_event.specs.Events.{Order, AddTenant, SetQuota, AddKey, RemoveKey, ShowUsage, ShowKeys, Message, Requested, Ordered}
+use Rattle.bh_event.specs.Events.{Order, AddTenant, SetQuota, RemoveTenant, AddKey, RemoveKey, ShowUsage, ShowKeys}
+use Rattle.bh_event.specs.Events.{Message, Requested, Ordered}
 use Rattle.bh_event.specs.Events.{SweepOrdered, ReportOrdered, TenantsOrdered, Arrival}
 
 abbrev pub text_at : List ℕ → Data → Option (List ℕ)
@@ -17,6 +18,10 @@ text_at key d = option_and_then as_str (get key d)
 
 abbrev pub number_at : List ℕ → Data → Option ℕ
 number_at key d = option_and_then as_u64 (option_and_then as_number (get key d))
+
+-- `true` or `false`
+abbrev pub choice_at : List ℕ → Data → Option Bool
+choice_at key d = option_and_then as_bool (get key d)
 
 -- an object with that many members
 abbrev pub has_members : ℕ → Data → Bool
@@ -43,6 +48,13 @@ abbrev pub quota_in : Data → Option Order
 quota_in d =
     if has_members 4 d
     then option_and_then (λ tenant. option_map (SetQuota tenant) (number_at (codes "quota") d)) (text_at (codes "tenant") d)
+    else None
+
+-- {"at":n,"op":"tenant-remove","tenant":t,"with_objects":b}
+abbrev pub tenant_remove_in : Data → Option Order
+tenant_remove_in d =
+    if has_members 4 d
+    then option_and_then (λ tenant. option_map (RemoveTenant tenant) (choice_at (codes "with_objects") d)) (text_at (codes "tenant") d)
     else None
 
 -- {"at":n,"name":k,"op":"key-add","secret":s,"tenant":t}
@@ -74,6 +86,7 @@ abbrev pub order_named : Data → List ℕ → Option Order
 order_named d op =
     if bytes_eq op (codes "tenant-add") then tenant_add_in d
     else if bytes_eq op (codes "quota") then quota_in d
+    else if bytes_eq op (codes "tenant-remove") then tenant_remove_in d
     else if bytes_eq op (codes "key-add") then key_add_in d
     else if bytes_eq op (codes "key-remove") then key_remove_in d
     else if bytes_eq op (codes "usage") then usage_in d

@@ -14,6 +14,11 @@ pub enum Command {
         tenant: String,
         quota: u64,
     },
+    /// Removes a tenant and its keys, and with `with_objects` its buckets and all in them.
+    TenantRemove {
+        tenant: String,
+        with_objects: bool,
+    },
     /// Adds an access key to a tenant.
     KeyAdd {
         tenant: String,
@@ -43,6 +48,7 @@ impl Command {
         match self {
             Command::TenantAdd { tenant, .. } => tenant.as_str(),
             Command::Quota { tenant, .. } => tenant.as_str(),
+            Command::TenantRemove { tenant, .. } => tenant.as_str(),
             Command::KeyAdd { tenant, .. } => tenant.as_str(),
             Command::KeyRemove { tenant, .. } => tenant.as_str(),
             Command::Usage { tenant } => tenant.as_str(),

@@ -33,7 +33,7 @@ impl Flaw {
             Flaw::OtherMembers => "it has members other than `at` and the request",
             Flaw::OddDigits => "`hex` is not an even number of hexadecimal digits",
             Flaw::UnknownCommand => {
-                "`op` must be one of tenant-add, quota, key-add, key-remove, usage, keys, sweep, report, tenants"
+                "`op` must be one of tenant-add, quota, tenant-remove, key-add, key-remove, usage, keys, sweep, report, tenants"
             }
             Flaw::WrongMembers => {
                 "the command's members are missing, of the wrong type, out of range, or too many"
@@ -79,6 +79,7 @@ fn is_command(op: &str) -> bool
         op,
         "tenant-add"
             | "quota"
+            | "tenant-remove"
             | "key-add"
             | "key-remove"
             | "usage"

@@ -72,6 +72,7 @@ fn command_in(alloc: Global, document: &Value) -> Result<Option<Command>, AllocE
     match text_at(document, "op") {
         Some("tenant-add") => tenant_add_in(alloc, document),
         Some("quota") => quota_in(alloc, document),
+        Some("tenant-remove") => tenant_remove_in(alloc, document),
         Some("key-add") => key_add_in(alloc, document),
         Some("key-remove") => key_remove_in(alloc, document),
         Some("usage") => usage_in(alloc, document),
@@ -106,6 +107,25 @@ fn quota_in(alloc: Global, document: &Value) -> Result<Option<Command>, AllocErr
     };
     let tenant = String::from_str(alloc, tenant)?;
     Ok(Some(Command::Quota { tenant, quota }))
+}
+
+fn tenant_remove_in(alloc: Global, document: &Value) -> Result<Option<Command>, AllocError>
+    ensures { IfOk result (λ found. option_map order_of found ≡ spec.tenant_remove_in (view document.now)) }
+{
+    if !has_members(document, 4) {
+        return Ok(None);
+    }
+    let (Some(tenant), Some(with_objects)) = (
+        text_at(document, "tenant"),
+        choice_at(document, "with_objects"),
+    ) else {
+        return Ok(None);
+    };
+    let tenant = String::from_str(alloc, tenant)?;
+    Ok(Some(Command::TenantRemove {
+        tenant,
+        with_objects,
+    }))
 }
 
 fn key_add_in(alloc: Global, document: &Value) -> Result<Option<Command>, AllocError>
@@ -226,6 +246,12 @@ pub(crate) fn text_at<'a>(document: &'a Value, key: &str) -> Option<&'a str>
     ensures { option_copied result ≡ spec.text_at key.now (view document.now) }
 {
     document.get(key)?.as_str()
+}
+
+fn choice_at(document: &Value, key: &str) -> Option<bool>
+    ensures { result ≡ spec.choice_at key.now (view document.now) }
+{
+    document.get(key)?.as_bool()
 }
 
 pub(crate) fn number_at(document: &Value, key: &str) -> Option<u64>

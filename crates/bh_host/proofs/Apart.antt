@@ -11,7 +11,7 @@ use Rattle.bh_model.specs.Operations.{Answer, Done, Removed, Stored, Copied, Hea
 use Rattle.bh_model.specs.State.{Octets}
 use Rattle.bh_types.specs.declared.range.RangePlan.TheVariants.{Whole, Part}
 use Rattle.bh_types.specs.declared.refusal.Refusal.{Refusal}
-use Rattle.bh_types.specs.declared.refusal.Refusal.TheVariants.{BadRequest, NotImplemented, MissingContentLength, EntityTooLarge, AccessDenied, InvalidAccessKeyId, InvalidUri, InvalidBucketName, KeyTooLong, InvalidArgument, MalformedJson, NoSuchBucket, NoSuchKey, NoSuchVersion, NoSuchUpload, MethodNotAllowed, BucketAlreadyOwnedByYou, BucketNotEmpty, InvalidBucketState, NoSuchLifecycleConfiguration, InvalidPart, InvalidPartOrder, EntityTooSmall, QuotaExceeded, InvalidRange, BadDigest, IncompleteBody, InvalidRequest, CounterExhausted, ClockOutOfRange, ServiceUnavailable, TenantExists, NoSuchTenant, KeyExists, NoSuchKeyName, InvalidName, InvalidQuota, NotAHostFile, Unavailable}
+use Rattle.bh_types.specs.declared.refusal.Refusal.TheVariants.{BadRequest, NotImplemented, MissingContentLength, EntityTooLarge, AccessDenied, InvalidAccessKeyId, InvalidUri, InvalidBucketName, KeyTooLong, InvalidArgument, MalformedJson, NoSuchBucket, NoSuchKey, NoSuchVersion, NoSuchUpload, MethodNotAllowed, BucketAlreadyOwnedByYou, BucketNotEmpty, InvalidBucketState, NoSuchLifecycleConfiguration, InvalidPart, InvalidPartOrder, EntityTooSmall, QuotaExceeded, InvalidRange, BadDigest, IncompleteBody, InvalidRequest, CounterExhausted, ClockOutOfRange, ServiceUnavailable, TenantExists, NoSuchTenant, KeyExists, NoSuchKeyName, InvalidName, InvalidQuota, NotAHostFile, Unavailable, TenantNotEmpty, TenantRetained}
 use Rattle.bh_host.specs.Replies.{response_to}
 
 false_is_true : false ≡ true → ⊥
@@ -90,6 +90,8 @@ refused_apart NoSuchKeyName document range allow marker body h = refl
 refused_apart InvalidName document range allow marker body h = refl
 refused_apart InvalidQuota document range allow marker body h = refl
 refused_apart NotAHostFile document range allow marker body h = refl
+refused_apart TenantNotEmpty document range allow marker body h = refl
+refused_apart TenantRetained document range allow marker body h = refl
 refused_apart ClockOutOfRange document range allow marker body h = absurd (false_is_true h)
 refused_apart ServiceUnavailable document range allow marker body h = absurd (false_is_true h)
 refused_apart Unavailable document range allow marker body h = absurd (false_is_true h)
@@ -132,6 +134,8 @@ line_apart NoSuchKeyName h = refl
 line_apart InvalidName h = refl
 line_apart InvalidQuota h = refl
 line_apart NotAHostFile h = refl
+line_apart TenantNotEmpty h = refl
+line_apart TenantRetained h = refl
 line_apart ClockOutOfRange h = absurd (false_is_true h)
 line_apart ServiceUnavailable h = absurd (false_is_true h)
 line_apart Unavailable h = absurd (false_is_true h)

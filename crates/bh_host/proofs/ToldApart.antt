@@ -1,7 +1,7 @@
 -- The reply to an event with a stamp is no fixed text.
 use Rattle.std.proofs.Common.{◌≡◌, ◌≢◌, ℕ, List, Bool, true, false, Option, Some, None, [], Ok, Err, Result, IfErr, refl, sym, ◌∙◌, ap, rules}
 use Rattle.std.specs.Fmt.{digits}
-use Rattle.bh_event.specs.Events.{Order, AddTenant, SetQuota, AddKey, RemoveKey, ShowUsage, ShowKeys, Message, Requested, Ordered, SweepOrdered, ReportOrdered, TenantsOrdered, Arrival}
+use Rattle.bh_event.specs.Events.{Order, AddTenant, SetQuota, RemoveTenant, AddKey, RemoveKey, ShowUsage, ShowKeys, Message, Requested, Ordered, SweepOrdered, ReportOrdered, TenantsOrdered, Arrival}
 use Rattle.bh_http.specs.Responses.{response_text}
 use Rattle.bh_http.specs.Views.{Taken}
 use Rattle.bh_machine.specs.Machine.{Act, RequestRead, Commanded, owner_of, step}
@@ -41,12 +41,14 @@ ordered_apart : (order : Order) (o : Result Answer Rejection) → Free o → is_
 unfolding text
 ordered_apart (AddTenant tenant quota) (Ok a) free = refl
 ordered_apart (SetQuota tenant quota) (Ok a) free = refl
+ordered_apart (RemoveTenant tenant with_objects) (Ok a) free = refl
 ordered_apart (AddKey tenant name secret) (Ok a) free = refl
 ordered_apart (RemoveKey tenant name) (Ok a) free = refl
 ordered_apart (ShowUsage tenant) (Ok a) free = refl
 ordered_apart (ShowKeys tenant) (Ok a) free = refl
 ordered_apart (AddTenant tenant quota) (Err e) free = line_apart e.refusal free
 ordered_apart (SetQuota tenant quota) (Err e) free = line_apart e.refusal free
+ordered_apart (RemoveTenant tenant with_objects) (Err e) free = line_apart e.refusal free
 ordered_apart (AddKey tenant name secret) (Err e) free = line_apart e.refusal free
 ordered_apart (RemoveKey tenant name) (Err e) free = line_apart e.refusal free
 ordered_apart (ShowUsage tenant) (Err e) free = line_apart e.refusal free

@@ -115,16 +115,16 @@ named_is text name is = elim (cases_Bool (is_tenant_name text)) [
 
 -- the tenant of an order and the tenant that it names
 pub turned_order : {X : Type 0} (limits : HostLimits) (shown : X → Answer) (t : Octets) (m : ℕ) (order : Order) (old mid new : Tables) (outcome : Result X (StepError Refusal)) (reply : List ℕ)
-    → owner_of (Commanded order) ≡ Some t → Purges t m old mid → Carries shown (tenant_of order) (ordered order) mid new outcome → limits_in new ≡ limits_in old
+    → owner_of (Commanded order) ≡ Some t → Purges t m old mid → Carries shown (tenant_of order) (ordered m order) mid new outcome → limits_in new ≡ limits_in old
     → TellsOrder shown order outcome reply → IsActDone limits (Commanded order) m old new reply
 turned_order limits shown t m order old mid new (Ok x) reply owner purges gives kept told =
     let is : tenant_of order ≡ t = named_is (tenant_of order) t owner in
-    let G : Octets → Type 0 = λ u. ordered order (view mid u) ≡ Ok (shown x, view new u) in
+    let G : Octets → Type 0 = λ u. ordered m order (view mid u) ≡ Ok (shown x, view new u) in
     let O : Octets → Type 0 = λ u. OthersSame u mid new in
     turned_done limits t m (Commanded order) old mid new reply (shown x) owner purges (ap plainly (subst G is gives.gives)) (subst O is gives.others) gives.latest gives.shared kept told
 turned_order limits shown t m order old mid new (Err (Refused r)) reply owner purges gives kept told =
     let is : tenant_of order ≡ t = named_is (tenant_of order) t owner in
-    let G : Octets → Type 0 = λ u. ordered order (view mid u) ≡ Err r in
+    let G : Octets → Type 0 = λ u. ordered m order (view mid u) ≡ Err r in
     turned_refused limits t m (Commanded order) old mid new reply (plain r) owner purges (ap plainly (subst G is gives.0)) gives.1 kept told
 turned_order limits shown t m order old mid new (Err (Failed trouble)) reply owner purges gives kept told = absurd told
 
@@ -152,7 +152,7 @@ turned_unread limits at refusal old reply told = turned_stranger limits (Request
 pub turned_nameless : (limits : HostLimits) (at : ℕ) (order : Order) (old : Tables) (reply : List ℕ) → owner_of (Commanded order) ≡ None → reply ≡ refusal_text InvalidName → IsActDone limits (Commanded order) at old old reply
 unfolding text
 turned_nameless limits at order old reply none told =
-    turned_stranger limits (Commanded order) at (plain InvalidName) old reply none (ap plainly (nameless order none)) told
+    turned_stranger limits (Commanded order) at (plain InvalidName) old reply none (ap plainly (nameless at order none)) told
 
 -- ---- an event
 

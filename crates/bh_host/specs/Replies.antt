@@ -6,7 +6,8 @@ use Rattle.std.specs.Str.Lossy.{utf8_lossy}
 use Rattle.bh_docs.specs.Documents.{begun_text, buckets_text, completed_text, copied_text, error_text, versioning_text, lifecycle_text}
 use Rattle.bh_docs.specs.Documents.{usage_text, retention_text}
 use Rattle.bh_docs.specs.Pages.{objects_text, versions_text, uploads_text, parts_text}
-use Rattle.bh_event.specs.Events.{Order, AddTenant, AddKey, RemoveKey, ShowUsage, ShowKeys, Message, Requested, Ordered, SweepOrdered}
+use Rattle.bh_event.specs.Events.{Order, AddTenant, RemoveTenant, AddKey, RemoveKey, ShowUsage, ShowKeys, Message}
+use Rattle.bh_event.specs.Events.{Requested, Ordered, SweepOrdered}
 use Rattle.bh_event.specs.Events.{ReportOrdered, TenantsOrdered, SetQuota}
 use Rattle.bh_http.specs.Answers.{bare, empty, with_document, refused, bare_refusal}
 use Rattle.bh_http.specs.Responses.{Sent, response_text, refusal_text}
@@ -141,6 +142,7 @@ asked_text (Err refusal) outcome = response_text (response [] outcome)
 abbrev pub line_of : Order → Octets
 line_of (AddTenant tenant quota) = codes "tenant " ++ tenant
 line_of (SetQuota tenant quota) = codes "quota " ++ (tenant ++ (codes " " ++ decimal quota))
+line_of (RemoveTenant tenant with_objects) = codes "removed " ++ tenant
 line_of (AddKey tenant name secret) = codes "key " ++ (tenant ++ (codes "$" ++ name))
 line_of (RemoveKey tenant name) = codes "removed " ++ (tenant ++ (codes "$" ++ name))
 line_of (ShowUsage tenant) = codes "usage " ++ tenant

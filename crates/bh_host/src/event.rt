@@ -66,7 +66,7 @@ fn serve_named_command<H: Storage>(
         (H.seen host.old).now (H.seen host.new).now bytes.items) }
 {
     host.purge(alloc, tenant, at)?;
-    let outcome = host.command(alloc, command);
+    let outcome = host.command(alloc, at, command);
     order_text(alloc, command, outcome)
 }
 

@@ -285,6 +285,7 @@ fn line_of(alloc: Global, command: &Command) -> Result<String, AllocError>
     match command {
         Command::TenantAdd { tenant, .. } => format!(in alloc; "tenant {tenant}"),
         Command::Quota { tenant, quota } => format!(in alloc; "quota {tenant} {quota}"),
+        Command::TenantRemove { tenant, .. } => format!(in alloc; "removed {tenant}"),
         Command::KeyAdd { tenant, name, .. } => format!(in alloc; "key {tenant}${name}"),
         Command::KeyRemove { tenant, name } => format!(in alloc; "removed {tenant}${name}"),
         Command::Usage { tenant } => format!(in alloc; "usage {tenant}"),

@@ -143,10 +143,11 @@ impl<'a, D: Disk + Drop, G: Digester + Drop, K: BlockSize> Storage for KeptHost<
     fn command(
         &mut self,
         alloc: Global,
+        at: Moment,
         command: &Command,
     ) -> Result<CommandAnswer, StepError<Refusal>> {
         match &mut self.storage {
-            Some(storage) => storage.command(alloc, command),
+            Some(storage) => storage.command(alloc, at, command),
             None => Err(StepError::Failed(Trouble::Store)),
         }
     }

@@ -11,7 +11,7 @@ use Rattle.bh_types.specs.declared.refusal.Refusal.{Refusal}
 use Rattle.bh_types.specs.declared.refusal.Refusal.TheVariants.{InvalidAccessKeyId, InvalidName, NoSuchLifecycleConfiguration}
 use Rattle.bh_types.specs.declared.wanted.Wanted.{Wanted}
 use Rattle.bh_docs.specs.Requests.{versioning_of, lifecycle_of, retention_of, complete_of}
-use Rattle.bh_event.specs.Events.{Order, AddTenant, SetQuota, AddKey, RemoveKey, ShowUsage, ShowKeys}
+use Rattle.bh_event.specs.Events.{Order, AddTenant, SetQuota, RemoveTenant, AddKey, RemoveKey, ShowUsage, ShowKeys}
 use Rattle.bh_http.specs.Credentials.{key_given, secret_given}
 use Rattle.bh_http.specs.Views.{Taken}
 use Rattle.bh_model.specs.Credentials.{authenticate}
@@ -41,7 +41,7 @@ use Rattle.bh_operation.specs.declared.operation.DocumentOperation.{DocumentOper
 use Rattle.bh_operation.specs.declared.operation.DocumentOperation.TheVariants.{PutBucketVersioning, PutLifecycle, CompleteMultipartUpload, PutRetention}
 use Rattle.bh_operation.specs.declared.operation.StoreOperation.{StoreOperation}
 use Rattle.bh_operation.specs.declared.operation.StoreOperation.TheVariants.{PutObject, UploadPart}
-use Rattle.bh_model.proofs.Changes.{Changes, Settings}
+use Rattle.bh_model.proofs.Changes.{Changes, Settings, Removal}
 use Rattle.bh_machine.specs.Machine.{Act, Act.RequestRead, Act.Commanded, page_asked, place_asked, upload_asked, naming, service_operated, bucket_operated, listing_operated, lifecycle_operated, upload_operated, object_operated, bare_operated, document_operated, store_operated, operated, requested, asked, ordered, change, step, set_versioning, set_lifecycle, set_retention, finish_upload}
 
 module _ (R : Option State → Option State → Type 0) (now : ℕ) (all : Changes R now) (s : Option State) where
@@ -179,22 +179,23 @@ module _ (R : Option State → Option State → Type 0) (now : ℕ) (all : Chang
   asked_as limits (Ok request) = requested_as limits request
   asked_as limits (Err refusal) = tt
 
-  pub key_added_as : (tenant name secret : Octets) → Holds (ordered (AddKey tenant name secret) s)
+  pub key_added_as : (tenant name secret : Octets) → Holds (ordered now (AddKey tenant name secret) s)
   key_added_as tenant name secret = all.key_added tenant name secret s
 
-  pub key_removed_as : (tenant name : Octets) → Holds (ordered (RemoveKey tenant name) s)
+  pub key_removed_as : (tenant name : Octets) → Holds (ordered now (RemoveKey tenant name) s)
   key_removed_as tenant name = all.key_removed tenant name s
 
-  pub usage_shown_as : (tenant : Octets) → Holds (ordered (ShowUsage tenant) s)
+  pub usage_shown_as : (tenant : Octets) → Holds (ordered now (ShowUsage tenant) s)
   usage_shown_as tenant = then_holds (require (is_tenant_name tenant) InvalidName) _ (λ _. tells_usage)
 
-  pub keys_shown_as : (tenant : Octets) → Holds (ordered (ShowKeys tenant) s)
+  pub keys_shown_as : (tenant : Octets) → Holds (ordered now (ShowKeys tenant) s)
   keys_shown_as tenant = then_holds (require (is_tenant_name tenant) InvalidName) _ (λ _. tells_keys)
 
-  module _ (settings : Settings R) where
-    pub ordered_as : (order : Order) → Holds (ordered order s)
+  module _ (settings : Settings R) (removal : Removal R now) where
+    pub ordered_as : (order : Order) → Holds (ordered now order s)
     ordered_as (AddTenant tenant quota) = settings.tenant_added tenant quota s
     ordered_as (SetQuota tenant quota) = settings.quota_set tenant quota s
+    ordered_as (RemoveTenant tenant with_objects) = removal.tenant_removed tenant with_objects s
     ordered_as (AddKey tenant name secret) = key_added_as tenant name secret
     ordered_as (RemoveKey tenant name) = key_removed_as tenant name
     ordered_as (ShowUsage tenant) = usage_shown_as tenant
@@ -202,7 +203,7 @@ module _ (R : Option State → Option State → Type 0) (now : ℕ) (all : Chang
 
     change_as : (limits : HostLimits) (act : Act) → Holds (change limits now act s)
     change_as limits (RequestRead answer) = asked_as limits answer
-    change_as limits (Commanded order) = plainly_holds (ordered order s) (ordered_as order)
+    change_as limits (Commanded order) = plainly_holds (ordered now order s) (ordered_as order)
 
   -- where it is refused, the state stays
   pub settled_as : {X E : Type 0} (r : Result (X × Option State) E) → IfOk r (λ o. R s o.1) → R s (settled s r).1
@@ -210,7 +211,7 @@ module _ (R : Option State → Option State → Type 0) (now : ℕ) (all : Chang
   settled_as (Err e) h = same
 
 -- a step makes its change of the purged state
-pub step_as : (R : Option State → Option State → Type 0) (now : ℕ) → Changes R now → Settings R → (limits : HostLimits) (act : Act) (s : Option State) → R (purged_tenant s now) (step limits now act s).1
-step_as R now all settings limits act s =
+pub step_as : (R : Option State → Option State → Type 0) (now : ℕ) → Changes R now → Settings R → Removal R now → (limits : HostLimits) (act : Act) (s : Option State) → R (purged_tenant s now) (step limits now act s).1
+step_as R now all settings removal limits act s =
     let p = purged_tenant s now in
-    settled_as R now all p (change limits now act p) (change_as R now all p settings limits act)
+    settled_as R now all p (change limits now act p) (change_as R now all p settings removal limits act)

@@ -1,6 +1,6 @@
 -- How a step of the machine may be refused.
 use Rattle.std.proofs.Common.{◌≡◌, ℕ, Bool, true, false, cond, codes, List, Option, Some, None, Ok, Err, Result, refl, sym, subst, rules, IfErr, inl, inr, ℤ, pos, negsuc, ◌+◌, map, nat_cmp}
-use Rattle.std.specs.Prelude.{ok_or, unwrap_or, option_map, bytes_eq, nat_le, nat_lt, min, ◌-◌, [], ◌∷◌, length, ◌&&◌, ◌^◌, is_none, is_some, option_and_then}
+use Rattle.std.specs.Prelude.{ok_or, unwrap_or, option_map, bytes_eq, nat_le, nat_lt, min, ◌-◌, [], ◌∷◌, length, ◌&&◌, ◌||◌, not, ◌^◌, is_none, is_some, option_and_then}
 use Rattle.std.specs.FinMap.{get, FinMap}
 use Rattle.std.specs.List.{find}
 use Rattle.std.specs.Result.{result_map_both}
@@ -21,12 +21,12 @@ use Rattle.bh_types.specs.declared.range.RangePlan.{RangePlan}
 use Rattle.bh_types.specs.declared.wanted.Wanted.{Wanted}
 use Rattle.bh_types.specs.declared.wanted.Wanted.TheVariants.{Current, Named, Unknown}
 use Rattle.bh_types.specs.declared.refusal.Refusal.{Refusal}
-use Rattle.bh_types.specs.declared.refusal.Refusal.TheVariants.{BadRequest, NotImplemented, MissingContentLength, EntityTooLarge, AccessDenied, InvalidAccessKeyId, InvalidUri, InvalidBucketName, KeyTooLong, InvalidArgument, MalformedJson, NoSuchBucket, NoSuchKey, NoSuchVersion, NoSuchUpload, MethodNotAllowed, BucketAlreadyOwnedByYou, BucketNotEmpty, InvalidBucketState, NoSuchLifecycleConfiguration, InvalidPart, InvalidPartOrder, EntityTooSmall, QuotaExceeded, InvalidRange, BadDigest, IncompleteBody, InvalidRequest, CounterExhausted, ClockOutOfRange, ServiceUnavailable, TenantExists, NoSuchTenant, KeyExists, NoSuchKeyName, InvalidName, InvalidQuota, NotAHostFile, Unavailable}
+use Rattle.bh_types.specs.declared.refusal.Refusal.TheVariants.{BadRequest, NotImplemented, MissingContentLength, EntityTooLarge, AccessDenied, InvalidAccessKeyId, InvalidUri, InvalidBucketName, KeyTooLong, InvalidArgument, MalformedJson, NoSuchBucket, NoSuchKey, NoSuchVersion, NoSuchUpload, MethodNotAllowed, BucketAlreadyOwnedByYou, BucketNotEmpty, InvalidBucketState, NoSuchLifecycleConfiguration, InvalidPart, InvalidPartOrder, EntityTooSmall, QuotaExceeded, InvalidRange, BadDigest, IncompleteBody, InvalidRequest, CounterExhausted, ClockOutOfRange, ServiceUnavailable, TenantExists, NoSuchTenant, KeyExists, NoSuchKeyName, InvalidName, InvalidQuota, NotAHostFile, Unavailable, TenantNotEmpty, TenantRetained}
 use Rattle.bh_types.specs.declared.rejection.Rejection.{Rejection}
 use Rattle.bh_types.proofs.Refusing.{then_only, if_only, require_only, ok_or_only, weaker_only}
 use Rattle.bh_docs.specs.Requests.{or_malformed, ranged, document_end, document_of, versioning_of, in_range, in_ranges, complete_of, lifecycle_of, date_told, retention_of}
 use Rattle.bh_docs.specs.Shapes.{Part as Shape, data_of, versioning_shape, complete_shape, lifecycle_shape, retention_shape}
-use Rattle.bh_event.specs.Events.{Order, AddTenant, SetQuota, AddKey, RemoveKey, ShowUsage, ShowKeys, Message, Requested, Ordered, SweepOrdered, ReportOrdered, TenantsOrdered}
+use Rattle.bh_event.specs.Events.{Order, AddTenant, SetQuota, RemoveTenant, AddKey, RemoveKey, ShowUsage, ShowKeys, Message, Requested, Ordered, SweepOrdered, ReportOrdered, TenantsOrdered}
 use Rattle.bh_http.specs.Credentials.{key_field, secret_field, secret_of_both, secret_given, key_given}
 use Rattle.bh_http.specs.Fields.{Occurrence, Missing, Once, Repeated}
 use Rattle.bh_http.specs.Refused.{is_reading_refusal}
@@ -39,7 +39,7 @@ use Rattle.bh_model.specs.FinMaps.{is_empty}
 use Rattle.bh_model.specs.Operations.{Outcome, added_tenant, tenant_bucket, with_bucket, listed, not_found, wanted_version, source_refusal, source_version, out_of_range, planned, tell_usage, create_bucket, head_bucket, delete_bucket, get_versioning, with_object, with_copy, require_quota, put_object, copy_object, get_object, head_object, delete_object, get_lifecycle, delete_lifecycle, found_version, get_retention, tell_keys}
 use Rattle.bh_model.specs.Parts.{Naming, ascends, is_checksum, checked, choice, chosen, are_large, completed}
 use Rattle.bh_model.specs.Quotas.{keeps_quota}
-use Rattle.bh_model.specs.Retention.{keeps_versions, can_retain, date_of, named_date, may_go, may_retain, first_date}
+use Rattle.bh_model.specs.Retention.{keeps_versions, can_retain, date_of, named_date, may_go, may_retain, first_date, retains}
 use Rattle.bh_model.specs.Runs.{settled, purged_tenant}
 use Rattle.bh_model.specs.State.{Octets, Content, Content.Marker, Content.Body, Entry, Part, Bucket, State}
 use Rattle.bh_model.specs.Uploads.{found_upload, find_upload, after_begin, after_part, with_stored, create_upload, upload_part, complete_upload, abort_upload}
@@ -121,6 +121,8 @@ step_refusal test clock service wanting NoSuchKeyName is = refl
 step_refusal test clock service wanting InvalidName is = refl
 step_refusal test clock service wanting InvalidQuota is = refl
 step_refusal test clock service wanting NotAHostFile is = refl
+step_refusal test clock service wanting TenantNotEmpty is = refl
+step_refusal test clock service wanting TenantRetained is = refl
 step_refusal test clock service wanting Unavailable is = absurd (both_ways (test Unavailable) is wanting)
 
 plainly_told : {X : Type 0} (r : Result X Refusal) → Only r → MaySay (plainly r)
@@ -283,6 +285,8 @@ source_refusal_only NoSuchKeyName h = h
 source_refusal_only InvalidName h = h
 source_refusal_only InvalidQuota h = h
 source_refusal_only NotAHostFile h = h
+source_refusal_only TenantNotEmpty h = h
+source_refusal_only TenantRetained h = h
 source_refusal_only Unavailable h = h
 
 source_told : {X : Type 0} (r : Result (X × Version) Rejection) → MaySay r
@@ -529,25 +533,30 @@ requested_only limits now request s =
 
 -- ---- an operator's command
 
-ordered_only : (order : Order) (s : Option State) → Only (ordered order s)
-ordered_only (AddTenant tenant quota) s =
+ordered_only : (now : ℕ) (order : Order) (s : Option State) → Only (ordered now order s)
+ordered_only now (AddTenant tenant quota) s =
     then_only may (require (is_tenant_name tenant) InvalidName) _ (require_only may (is_tenant_name tenant) InvalidName refl)
     (λ _. then_only may (require (nat_le quota (2 ^ 60)) InvalidQuota) _ (require_only may (nat_le quota (2 ^ 60)) InvalidQuota refl)
     (λ _. then_only may (require (is_none s) TenantExists) _ (require_only may (is_none s) TenantExists refl) (λ _. tt)))
-ordered_only (SetQuota tenant quota) s =
+ordered_only now (SetQuota tenant quota) s =
     then_only may (require (is_tenant_name tenant) InvalidName) _ (require_only may (is_tenant_name tenant) InvalidName refl)
     (λ _. then_only may (require (nat_le quota (2 ^ 60)) InvalidQuota) _ (require_only may (nat_le quota (2 ^ 60)) InvalidQuota refl)
     (λ _. then_only may (added_tenant s) _ (ok_or_only may s NoSuchTenant refl) (λ t. tt)))
-ordered_only (AddKey tenant name secret) s =
+ordered_only now (RemoveTenant tenant with_objects) s =
+    then_only may (require (is_tenant_name tenant) InvalidName) _ (require_only may (is_tenant_name tenant) InvalidName refl)
+    (λ _. then_only may (added_tenant s) _ (ok_or_only may s NoSuchTenant refl)
+    (λ t. then_only may (require (with_objects || is_empty t.buckets) TenantNotEmpty) _ (require_only may (with_objects || is_empty t.buckets) TenantNotEmpty refl)
+    (λ _. then_only may (require (not (retains now t)) TenantRetained) _ (require_only may (not (retains now t)) TenantRetained refl) (λ _. tt))))
+ordered_only now (AddKey tenant name secret) s =
     then_only may (require (is_tenant_name tenant && is_key_name name && is_secret secret) InvalidName) _ (require_only may (is_tenant_name tenant && is_key_name name && is_secret secret) InvalidName refl)
     (λ _. then_only may (added_tenant s) _ (ok_or_only may s NoSuchTenant refl)
     (λ t. then_only may (require (is_none (get t.keys name)) KeyExists) _ (require_only may (is_none (get t.keys name)) KeyExists refl) (λ _. tt)))
-ordered_only (RemoveKey tenant name) s =
+ordered_only now (RemoveKey tenant name) s =
     then_only may (require (is_tenant_name tenant && is_key_name name) InvalidName) _ (require_only may (is_tenant_name tenant && is_key_name name) InvalidName refl)
     (λ _. then_only may (added_tenant s) _ (ok_or_only may s NoSuchTenant refl)
     (λ t. then_only may (require (is_some (get t.keys name)) NoSuchKeyName) _ (require_only may (is_some (get t.keys name)) NoSuchKeyName refl) (λ _. tt)))
-ordered_only (ShowUsage tenant) s = then_only may (require (is_tenant_name tenant) InvalidName) _ (require_only may (is_tenant_name tenant) InvalidName refl) (λ _. used_only s)
-ordered_only (ShowKeys tenant) s = then_only may (require (is_tenant_name tenant) InvalidName) _ (require_only may (is_tenant_name tenant) InvalidName refl) (λ _. keys_only s)
+ordered_only now (ShowUsage tenant) s = then_only may (require (is_tenant_name tenant) InvalidName) _ (require_only may (is_tenant_name tenant) InvalidName refl) (λ _. used_only s)
+ordered_only now (ShowKeys tenant) s = then_only may (require (is_tenant_name tenant) InvalidName) _ (require_only may (is_tenant_name tenant) InvalidName refl) (λ _. keys_only s)
 
 -- ---- an act
 
@@ -561,7 +570,7 @@ asked_told limits now (Err refusal) s only = step_refusal is_reading_refusal ref
 
 change_told : (limits : HostLimits) (message : Message) (now : ℕ) (act : Act) (s : Option State) → Acted limits message act → MaySay (change limits now act s)
 change_told limits (Requested bytes) now act s (answer, reads, is) = subst (λ a. MaySay (change limits now a s)) (sym is) (asked_told limits now answer s (reads_only limits bytes answer reads))
-change_told limits (Ordered order) now act s is = subst (λ a. MaySay (change limits now a s)) (sym is) (plainly_told (ordered order s) (ordered_only order s))
+change_told limits (Ordered order) now act s is = subst (λ a. MaySay (change limits now a s)) (sym is) (plainly_told (ordered now order s) (ordered_only now order s))
 change_told limits (SweepOrdered limit) now act s is = absurd is
 change_told limits ReportOrdered now act s is = absurd is
 change_told limits TenantsOrdered now act s is = absurd is

@@ -8,6 +8,7 @@ use Rattle.bh_model.specs.Runs.{solo_state}
 use Rattle.bh_model.specs.State.{State, absent}
 use Rattle.bh_model.proofs.IdLemmas.{purge_keeps_ids}
 use Rattle.bh_model.proofs.RetainedLemmas.{KeepsRetained, changes_keep_retained, settings_keep_retained, purge_keeps_retained}
+use Rattle.bh_model.proofs.RemovalLemmas.{removal_keeps_retained}
 use Rattle.bh_model.proofs.RunLemmas.{solo_state-append}
 use Rattle.bh_machine.specs.Machine.{Act, step}
 use Rattle.bh_machine.specs.Retained.{StepsKeepRetained, RunsKeepRetained}
@@ -16,7 +17,7 @@ use Rattle.bh_machine.proofs.NumberLemmas.{steps_keep_ids, runs_keep_ids}
 
 pub steps_keep_retained : StepsKeepRetained
 steps_keep_retained limits now act s r early all kept =
-    step_as (KeepsRetained r) now (changes_keep_retained r now early) (settings_keep_retained r) limits act s (purge_keeps_ids now s all) (purge_keeps_retained r now s kept)
+    step_as (KeepsRetained r) now (changes_keep_retained r now early) (settings_keep_retained r) (removal_keeps_retained r now early) limits act s (purge_keeps_ids now s all) (purge_keeps_retained r now s kept)
 
 from_here : (limits : HostLimits) (s : Option State) (acts : List (ℕ × Act)) (r : Retained) → AllByRecursion (λ a. a.0 < r.until) acts → IsNumbered s → IsRetained r s → IsRetained r (solo_state (step limits) s acts)
 from_here limits s [] r early all kept = kept

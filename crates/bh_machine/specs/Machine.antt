@@ -11,15 +11,16 @@ use Rattle.bh_types.specs.declared.refusal.Refusal.TheVariants.{InvalidAccessKey
 use Rattle.bh_types.specs.declared.rejection.Rejection.{Rejection}
 use Rattle.bh_types.specs.declared.wanted.Wanted.{Wanted}
 use Rattle.bh_docs.specs.Requests.{versioning_of, lifecycle_of, retention_of, complete_of}
-use Rattle.bh_event.specs.Events.{Order, AddTenant, SetQuota, AddKey, RemoveKey, ShowUsage, ShowKeys, tenant_of, Message, Requested}
-use Rattle.bh_event.specs.Events.{Ordered, SweepOrdered, ReportOrdered, TenantsOrdered}
+use Rattle.bh_event.specs.Events.{Order, AddTenant, SetQuota, RemoveTenant, AddKey, RemoveKey, ShowUsage, ShowKeys, tenant_of, Message}
+use Rattle.bh_event.specs.Events.{Requested, Ordered, SweepOrdered, ReportOrdered, TenantsOrdered}
 use Rattle.bh_http.specs.Credentials.{owner, key_given, secret_given}
 use Rattle.bh_http.specs.Reading.{Reads}
 use Rattle.bh_http.specs.Views.{Taken}
 use Rattle.bh_model.specs.Credentials.{authenticate}
 use Rattle.bh_model.specs.Listings.{list_objects, list_versions, list_uploads, list_parts}
 use Rattle.bh_model.specs.Pages as pages
-use Rattle.bh_model.specs.Operations.{Answer, Outcome, add_tenant, set_quota, add_key, remove_key, tell_usage, show_usage, show_keys}
+use Rattle.bh_model.specs.Operations.{Answer, Outcome, add_tenant, set_quota, remove_tenant, add_key, remove_key}
+use Rattle.bh_model.specs.Operations.{tell_usage, show_usage, show_keys}
 use Rattle.bh_model.specs.Operations.{create_bucket, head_bucket, delete_bucket, list_buckets, get_versioning, put_versioning}
 use Rattle.bh_model.specs.Operations.{get_lifecycle, put_lifecycle, delete_lifecycle, put_object, copy_object, get_object, head_object}
 use Rattle.bh_model.specs.Operations.{delete_object, get_retention, put_retention}
@@ -205,18 +206,20 @@ abbrev pub asked : HostLimits → ℕ → Result Taken Refusal → Option State 
 asked limits now (Ok request) s = requested limits now request s
 asked limits now (Err refusal) s = Err (plain refusal)
 
-abbrev pub ordered : Order → Option State → Result Outcome Refusal
-ordered (AddTenant tenant quota) s = add_tenant tenant quota s
-ordered (SetQuota tenant quota) s = set_quota tenant quota s
-ordered (AddKey tenant name secret) s = add_key tenant name secret s
-ordered (RemoveKey tenant name) s = remove_key tenant name s
-ordered (ShowUsage tenant) s = show_usage tenant s
-ordered (ShowKeys tenant) s = show_keys tenant s
+-- an operator's command at a moment
+abbrev pub ordered : ℕ → Order → Option State → Result Outcome Refusal
+ordered now (AddTenant tenant quota) s = add_tenant tenant quota s
+ordered now (SetQuota tenant quota) s = set_quota tenant quota s
+ordered now (RemoveTenant tenant with_objects) s = remove_tenant now tenant with_objects s
+ordered now (AddKey tenant name secret) s = add_key tenant name secret s
+ordered now (RemoveKey tenant name) s = remove_key tenant name s
+ordered now (ShowUsage tenant) s = show_usage tenant s
+ordered now (ShowKeys tenant) s = show_keys tenant s
 
 -- an act's effect on its owner's state once that is purged
 abbrev pub change : HostLimits → ℕ → Act → Option State → Result Outcome Rejection
 change limits now (RequestRead answer) s = asked limits now answer s
-change limits now (Commanded order) s = plainly (ordered order s)
+change limits now (Commanded order) s = plainly (ordered now order s)
 
 -- an act at a moment: the owner's stale uploads are removed, and then comes the change, or a
 -- refusal that changes nothing more

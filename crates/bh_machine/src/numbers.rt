@@ -1,7 +1,7 @@
 //! Laws of a tenant's counters, each as the contract of a function that does nothing.
 ghost use Rattle.bh_machine.specs.Numbers.{StepsRise, StepsKeepIds, RunsKeepIds};
 
-/// No step of the machine decreases a counter.
+/// No step of the machine decreases a counter, and only the operator's removal takes a tenant away.
 pub fn steps_rise()
     ensures { StepsRise }
 {}

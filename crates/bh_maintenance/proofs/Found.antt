@@ -16,7 +16,7 @@ use Rattle.bh_types.specs.declared.block_digest.BlockDigest.TheVariants.{Sha256,
 use Rattle.bh_tables.specs.Hosts.{tables_shown, tables_opened}
 use Rattle.bh_tables.specs.Schema.{Octets, host_schema}
 use Rattle.bh_tables.specs.Typed.{Tables}
-use Rattle.bh_tables.proofs.HostTests.{opened_host, other_schema, unlike_second, second_unlike_first}
+use Rattle.bh_tables.proofs.HostTests.{opened_host, other_schema, unlike_second, unlike_third, second_unlike_first, third_unlike_first, third_unlike_second}
 use Rattle.bh_view.specs.Bodies.{IsSoundHost}
 use Rattle.bh_schema.specs.Layer.{standing, IsIntact, IsOpen, IsStateClean, KeepsDisk}
 use Rattle.bh_schema.specs.Storage.{seen_in}
@@ -84,10 +84,13 @@ sound_by tables digest it row = subst (λ d. IsSoundHost (digest_by d) tables) (
 -- sound tables are those of typed rows
 opened_typed : (db : Database) → IsSoundByItsRow (tables_opened db) → IsTypedIfEarlier db
 opened_typed db it = elim (opened_host db it.sound.sound.host.row it.sound.sound.host.alone) [
-  | inl host ↦ record { first = λ first. absurd (other_schema db host.schema first); second = λ second. absurd (unlike_second db host.schema second) }
+  | inl host ↦ record { first = λ first. absurd (other_schema db host.schema first); second = λ second. absurd (unlike_second db host.schema second); third = λ third. absurd (unlike_third db host.schema third) }
   | inr earlier ↦ elim earlier [
-    | inl one ↦ record { first = λ first. one.first; second = λ second. absurd (second_unlike_first db second one.first.schema) }
-    | inr two ↦ record { first = λ first. absurd (second_unlike_first db two.second.schema first); second = λ second. two.second }
+    | inl one ↦ record { first = λ first. one.first; second = λ second. absurd (second_unlike_first db second one.first.schema); third = λ third. absurd (third_unlike_first db third one.first.schema) }
+    | inr later ↦ elim later [
+      | inl two ↦ record { first = λ first. absurd (second_unlike_first db two.second.schema first); second = λ second. two.second; third = λ third. absurd (third_unlike_second db third two.second.schema) }
+      | inr three ↦ record { first = λ first. absurd (third_unlike_first db three.third.schema first); second = λ second. absurd (third_unlike_second db three.third.schema second); third = λ third. three.third }
+    ]
   ]
 ]
 

@@ -1,3 +1,4 @@
 pub mod Stages
 mod Texts
 mod Tallied
+mod Made

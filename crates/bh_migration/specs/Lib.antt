@@ -1,2 +1,3 @@
+pub mod Making
 pub mod Migration
 pub mod Tallying

@@ -1,48 +1,52 @@
--- Upgrading the database of a host of version 1 or 2 to version 3.
+-- Upgrading the database of a host of version 1, 2 or 3 to version 4.
 use Rattle.std.specs.Prelude.{◌≡◌, ◌⊎◌, [], true, false}
 use Rattle.sqlite.specs.Effect.{Database}
 use Rattle.sqlite.specs.Schema.{Schema}
 use Rattle.sqlite.specs.Tree.{Trees}
-use Rattle.bh_tables.specs.Hosts.{IsOfVersion1, IsOfVersion2, brought_over}
-use Rattle.bh_tables.specs.Made.{with_locks}
-use Rattle.bh_tables.specs.Schema.{first_schema, second_schema, host_schema}
-use Rattle.bh_tables.specs.Typed.{IsHost, IsFirstHost, IsSecondHost, Tables, tables_in, first_tables_in, first_raw, second_raw}
-use Rattle.bh_schema.specs.Layer.{Standing}
+use Rattle.bh_tables.specs.Hosts.{IsOfVersion1, IsOfVersion2, IsOfVersion3, brought_over}
+use Rattle.bh_tables.specs.Schema.{first_schema, second_schema, third_schema, host_schema}
+use Rattle.bh_tables.specs.Typed.{IsHost, IsFirstHost, IsSecondHost, IsThirdHost, Tables, tables_in, first_tables_in}
+use Rattle.bh_tables.specs.Typed.{Raw, first_raw, second_raw, third_raw}
+use Rattle.bh_schema.specs.Layer.{Standing, Holds}
+use Rattle.bh_migration.specs.Tallying.{HoldsTallies}
 use Rattle.bh_migration.specs.declared.Earlier.{Earlier}
-use Rattle.bh_migration.specs.declared.Earlier.TheVariants.{First, Second}
+use Rattle.bh_migration.specs.declared.Earlier.TheVariants.{First, Second, Third}
 
 -- ---- before and after
 
 abbrev pub earlier_schema : Earlier → Schema
 earlier_schema First = first_schema
 earlier_schema Second = second_schema
+earlier_schema Third = third_schema
 
 -- it has the schema, and rows that are typed rows
 abbrev pub IsEarlierHost : Earlier → Database → Type 0
 IsEarlierHost First db = IsFirstHost db
 IsEarlierHost Second db = IsSecondHost db
+IsEarlierHost Third db = IsThirdHost db
 
 -- whose row has its version
 abbrev pub IsOfEarlier : Database → Type 0
-IsOfEarlier db = IsOfVersion1 db ⊎ IsOfVersion2 db
+IsOfEarlier db = IsOfVersion1 db ⊎ (IsOfVersion2 db ⊎ IsOfVersion3 db)
 
 -- no transaction is open over a database that has the tables of a host of this version
 pub record IsEarlier (version : Earlier) (x : Standing) : Type 0 where
   pub outside : x.inside ≡ false
   pub schema : x.now.schema ≡ earlier_schema version
 
--- a host's database of version 3 has these rows, and the version 3
+-- a host's database of version 4 has these rows, and the version 4
 pub record IsBroughtOver (was : Tables) (new : Database) : Type 0 where
   pub host : IsHost new
   pub rows : tables_in new ≡ brought_over was
 
--- a database got the tables of a host of version 3. If its rows were those of a host of version 1
--- or 2, it is upgraded. Those rows are unchanged, no bucket is locked and no version has a date
--- that had none, and the tallies are the right counts
+-- a database got the tables of a host of version 4. If its rows were those of a host of an earlier
+-- version, it is upgraded. Those rows are unchanged, no bucket is locked and no version has a date
+-- that had none, the tallies are the right counts, and the tables that nothing fills have no row
 pub record IsChanged (old new : Database) : Type 0 where
   pub schema : new.schema ≡ host_schema
   pub first : IsFirstHost old → IsBroughtOver (first_tables_in old) new
   pub second : IsSecondHost old → IsBroughtOver (tables_in old) new
+  pub third : IsThirdHost old → IsBroughtOver (tables_in old) new
 
 -- no transaction is open over a database that was upgraded so, and all is committed
 pub record Settles (old new : Standing) : Type 0 where
@@ -61,40 +65,23 @@ pub record HasSchema (its : Schema) (x : Standing) : Type 0 where
   pub inside : x.inside ≡ true
   pub schema : x.now.schema ≡ its
 
--- the table of locks exists and is empty, and the others are unchanged
-pub record HasLocks (old new : Standing) : Type 0 where
-  pub inside : new.inside ≡ true
-  pub schema : new.now.schema ≡ with_locks
-  pub rows : first_raw new.now.trees ≡ first_raw old.now.trees
-  pub none : new.now.trees 26 ≡ []
+-- and these rows, as that schema has them
+pub record HasRows (its : Schema) (rows_in : Trees → Raw) (was : Raw) (x : Standing) : Type 0 where
+  pub inside : x.inside ≡ true
+  pub schema : x.now.schema ≡ its
+  pub rows : rows_in x.now.trees ≡ was
 
--- and so is the table of dates
-pub record HasRetains (old new : Standing) : Type 0 where
-  pub inside : new.inside ≡ true
-  pub schema : new.now.schema ≡ second_schema
-  pub rows : first_raw new.now.trees ≡ first_raw old.now.trees
-  pub locks : new.now.trees 26 ≡ old.now.trees 26
-  pub none : new.now.trees 28 ≡ []
+-- the rows of a host of an earlier version. A table that it lacks has none
+abbrev pub earlier_raw : Earlier → Trees → Raw
+earlier_raw First = first_raw
+earlier_raw Second = second_raw
+earlier_raw Third = third_raw
 
--- the database has the tables of a host of version 2, with the same rows
-pub record HasSecond (old new : Standing) : Type 0 where
-  pub inside : new.inside ≡ true
-  pub schema : new.now.schema ≡ second_schema
-  pub first : IsFirstHost old.now → IsSecondHost new.now × (tables_in new.now ≡ first_tables_in old.now)
-  pub second : IsSecondHost old.now → IsSecondHost new.now × (tables_in new.now ≡ tables_in old.now)
-
--- the table of tallies exists and is empty, and the others are unchanged
-pub record HasTallies (old new : Standing) : Type 0 where
-  pub inside : new.inside ≡ true
-  pub schema : new.now.schema ≡ host_schema
-  pub rows : second_raw new.now.trees ≡ second_raw old.now.trees
-  pub none : new.now.trees 30 ≡ []
-
--- and has a tally of each tenant
-pub record IsTallied (old new : Standing) : Type 0 where
-  pub inside : new.inside ≡ true
-  pub schema : new.now.schema ≡ host_schema
-  pub host : IsSecondHost old.now → IsHost new.now × (tables_in new.now ≡ tables_in old.now)
+-- in a transaction, a host's database has these tables, and no tallies yet if the earlier version has none
+abbrev pub HoldsUntallied : Earlier → Tables → Standing → Type 0
+HoldsUntallied First tables = HoldsTallies tables []
+HoldsUntallied Second tables = HoldsTallies tables []
+HoldsUntallied Third tables = Holds tables
 
 pub record Brings (old new : Standing) : Type 0 where
   pub inside : new.inside ≡ true

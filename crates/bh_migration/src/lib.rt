@@ -10,14 +10,14 @@ ghost use Rattle.sqlite.specs.Held.{state};
 ghost use Rattle.sqlite.specs.Tree.{Trees};
 ghost use Rattle.bh_rows.specs.Means.{is_trouble};
 ghost use Rattle.bh_tables.specs.Hosts.{brought_over, tables_shown, tables_opened};
-ghost use Rattle.bh_tables.specs.Schema.{second_schema, host_schema};
-ghost use Rattle.bh_tables.specs.Typed.{IsHost};
+ghost use Rattle.bh_tables.specs.Schema.{host_schema};
+ghost use Rattle.bh_tables.specs.Typed.{IsHost, Tables};
 ghost use Rattle.bh_schema.specs.Connections.{IsIntact, IsOpen, IsClean, stands, tables, StaysWithin, StaysOpen, IsTroubleIf};
 ghost use Rattle.bh_schema.specs.Layer.{Leaves, Holds, taken_back, KeepsDisk};
-ghost use Rattle.bh_migration.specs.Migration.{IsEarlier, IsEarlierHost, IsOfEarlier, earlier_schema, HasSchema, IsTallied, Brings};
-ghost use Rattle.bh_migration.specs.Migration.{Settles, LeavesChanged};
+ghost use Rattle.bh_migration.specs.Migration.{IsEarlier, IsEarlierHost, IsOfEarlier, earlier_schema, HasSchema, HoldsUntallied};
+ghost use Rattle.bh_migration.specs.Migration.{Brings, Settles, LeavesChanged};
 
-use crate::making::{make_second, make_tallies};
+use crate::making::make_tables;
 use crate::tallying::tally_tenants;
 use bh_schema::rows::transactions::{begin, commit, take_back};
 use sqlite::{Alter, Connection, Error};
@@ -25,23 +25,29 @@ use sqlite::{Alter, Connection, Error};
 /// The version of an older host.
 #[derive(Clone, Copy)]
 pub enum Earlier {
-    /// Its tables of locks, of dates and of tallies are missing.
+    /// Its tables of locks, of dates and of tallies are missing, and those that version 4 added.
     First,
-    /// Its table of tallies is missing.
+    /// Its table of tallies is missing, and those that version 4 added.
     Second,
+    /// Those that version 4 added are missing.
+    Third,
 }
 
-/// Creates the table of tallies, and fills it.
-fn add_tallies<S: Alter>(connection: &mut Connection<S>) -> Result<(), Error>
-    requires { IsClean S.Store connection.old → HasSchema second_schema (stands S.Store connection.old) }
+/// Fills the table of tallies, if a host of this version has none.
+fn tally<S: Alter>(connection: &mut Connection<S>, version: Earlier) -> Result<(), Error>
+    requires { IsClean S.Store connection.old → HasSchema host_schema (stands S.Store connection.old) }
     ensures within { StaysWithin S.Store connection.old connection.new }
     ensures opens { OnOk result (StaysOpen S.Store connection.old connection.new) }
-    ensures tallied { OnOk result (IsClean S.Store connection.new
-        → IsTallied (stands S.Store connection.old) (stands S.Store connection.new)) }
-    ensures trouble { IfErr result (λ e. IsIntact S.Store connection.new → is_trouble e ≡ true) }
+    ensures keeps { OnOk result (IsClean S.Store connection.new → HasSchema host_schema (stands S.Store connection.new)) }
+    ensures holds { OnOk result (IsClean S.Store connection.new → (t : Tables)
+        → HoldsUntallied version t (stands S.Store connection.old) → Holds t (stands S.Store connection.new)) }
+    ensures trouble { IfErr result (λ e. is_trouble e ≡ true) }
 {
-    make_tallies(connection)?;
-    tally_tenants(connection)
+    match version {
+        Earlier::First => tally_tenants(connection),
+        Earlier::Second => tally_tenants(connection),
+        Earlier::Third => Ok(()),
+    }
 }
 
 fn set_version<S: Alter>(connection: &mut Connection<S>) -> Result<usize, Error>
@@ -57,7 +63,7 @@ fn set_version<S: Alter>(connection: &mut Connection<S>) -> Result<usize, Error>
 {
     // Asked for what it ensures: the rows obey the schema.
     let _schema = connection.schema();
-    connection.execute("UPDATE host SET version = 3", &[])
+    connection.execute("UPDATE host SET version = 4", &[])
 }
 
 fn change<S: Alter>(connection: &mut Connection<S>, version: Earlier) -> Result<usize, Error>
@@ -69,8 +75,8 @@ fn change<S: Alter>(connection: &mut Connection<S>, version: Earlier) -> Result<
     ensures trouble { IfErr result (IsTroubleIf S.Store connection.old connection.new
         (IsEarlierHost version (stands S.Store connection.old).now)) }
 {
-    make_second(connection, version)?;
-    add_tallies(connection)?;
+    make_tables(connection, version)?;
+    tally(connection, version)?;
     set_version(connection)
 }
 
@@ -92,10 +98,10 @@ fn commit_change<S: Alter>(connection: &mut Connection<S>, version: Earlier) -> 
     commit(connection)
 }
 
-/// Upgrades a database with the tables of a host of version 1 or 2 to version 3, in one commit. It
-/// creates the missing tables: those of locks and of dates without rows, and that of tallies with
-/// the counts of each tenant's rows. Then it sets the host's version to 3. The host's contents
-/// don't change. After an error nothing has changed.
+/// Upgrades a database with the tables of a host of an older version to version 4, in one commit. It
+/// creates the missing tables: that of tallies with the counts of each tenant's rows, and the others
+/// without rows. Then it sets the host's version to 4. The host's contents don't change. After an
+/// error nothing has changed.
 pub fn bring_over<S: Alter>(connection: &mut Connection<S>, version: Earlier) -> Result<(), Error>
     requires { IsClean S.Store connection.old → IsEarlier version (stands S.Store connection.old) }
     ensures follows { KeepsDisk (state S.Store connection.old) (state S.Store connection.new) }

@@ -12,7 +12,7 @@ use Rattle.bh_types.specs.declared.rejection.Rejection.{Rejection}
 use Rattle.bh_types.specs.declared.wanted.Wanted.{Wanted}
 use Rattle.bh_model.specs.State.{Octets, Upload, Bucket, State}
 use Rattle.bh_model.specs.Parts.{Naming}
-use Rattle.bh_model.specs.Operations.{Outcome, tenant_bucket, add_tenant, set_quota, add_key, remove_key, create_bucket, delete_bucket, put_versioning, put_lifecycle, delete_lifecycle, put_object, copy_object, delete_object, put_retention}
+use Rattle.bh_model.specs.Operations.{Outcome, tenant_bucket, add_tenant, set_quota, add_key, remove_key, remove_tenant, create_bucket, delete_bucket, put_versioning, put_lifecycle, delete_lifecycle, put_object, copy_object, delete_object, put_retention}
 use Rattle.bh_model.specs.Uploads.{FoundUpload, of_key, found_upload, find_upload, create_upload, upload_part, complete_upload, abort_upload}
 
 -- an upload that a change names
@@ -47,6 +47,10 @@ module _ (R : Option State → Option State → Type 0) where
   pub record Settings : Type 0 where
     pub tenant_added : (name : Octets) (quota : ℕ) → Always (add_tenant name quota)
     pub quota_set : (name : Octets) (quota : ℕ) → Always (set_quota name quota)
+
+  -- and the one that takes a tenant away
+  pub record Removal (moment : ℕ) : Type 0 where
+    pub tenant_removed : (name : Octets) (with_objects : Bool) → Always (remove_tenant moment name with_objects)
 
   -- ---- what is left of the tenant, the bucket and the upload that a change names
 

@@ -13,3 +13,4 @@ pub mod RisingLemmas
 pub mod BoundLemmas
 pub mod DateLemmas
 pub mod RetainedLemmas
+pub mod RemovalLemmas

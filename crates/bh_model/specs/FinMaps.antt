@@ -1,7 +1,7 @@
--- Finite maps: setting or deleting one key's value, changing each value, and the sum of a size over
--- the values.
+-- Finite maps: setting or deleting one key's value, changing each value, the sum of a size over
+-- the values, and whether some value passes a test.
 use Rattle.std.specs.Prelude.{ℕ, Bool, ◌==◌, List, [], ◌∷◌, Option, Some, None, option_map, option_and_then}
-use Rattle.std.specs.List.{filter_map, sum_by}
+use Rattle.std.specs.List.{filter_map, sum_by, list_any}
 use Rattle.std.specs.declared.cmp.Ordering.{Ordering}
 use Rattle.std.specs.FinMap.{FinMap, from_entries, entries, get, insert, remove, len}
 
@@ -32,3 +32,7 @@ module _ {K X : Type 0} {R : K → K → Ordering} where
   -- the sum of a size over all values
   unfoldable pub total : (X → ℕ) → FinMap R X → ℕ
   total f m = sum_by (λ e. f e.1) (entries m)
+
+  -- whether some value passes a test
+  unfoldable pub any_value : (X → Bool) → FinMap R X → Bool
+  any_value test m = list_any (λ e. test e.1) (entries m)

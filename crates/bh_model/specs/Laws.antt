@@ -1,5 +1,5 @@
 -- Evidence that the definitions are the intended ones.
-use Rattle.std.specs.Prelude.{◌≡◌, ◌≢◌, ◌++◌, ◌∷◌, Err, ℕ, ◌≤◌, false, ◌&&◌, List, length, drop, Option, Some, None, Result, Ok, IfOk}
+use Rattle.std.specs.Prelude.{◌≡◌, ◌≢◌, ◌++◌, ◌∷◌, Err, ℕ, ◌≤◌, Bool, false, ◌&&◌, List, length, drop, Option, Some, None, Result, Ok, IfOk}
 use Rattle.std.specs.List.{list_any}
 use Rattle.bh_types.specs.declared.id.VersionId.{VersionId}
 use Rattle.bh_types.specs.declared.id.VersionId.TheVariants.{Null, Numbered}
@@ -9,14 +9,15 @@ use Rattle.bh_types.specs.declared.wanted.Wanted.{Wanted}
 use Rattle.bh_types.specs.declared.wanted.Wanted.TheVariants.{Current, Named}
 use Rattle.bh_types.specs.declared.range.RangePlan.TheVariants.{Whole}
 use Rattle.bh_types.specs.declared.refusal.Refusal.TheVariants.{NoSuchVersion, AccessDenied, InvalidAccessKeyId}
-use Rattle.bh_model.specs.State.{Octets, Content.Body, Entry, State, purged}
+use Rattle.bh_model.specs.State.{Octets, Content.Body, Entry, State, absent, purged}
 use Rattle.bh_model.specs.Counting.{counts, AtMost}
 use Rattle.bh_model.specs.Entries.{Version, has_id, is_version, without, new_id, added, deleted, lookup, not_found}
 use Rattle.bh_types.specs.Checksums.{checksum_text}
 use Rattle.bh_types.specs.AccessKeys.{access_key}
 use Rattle.bh_types.specs.declared.access_key.AccessKeyId.{AccessKeyId}
 use Rattle.bh_model.specs.Credentials.{authenticate}
-use Rattle.bh_model.specs.Operations.{Answer.Stored, Answer.Copied, Answer.Object, add_key, remove_key, put_object, source_version}
+use Rattle.bh_model.specs.Operations.{Answer.Stored, Answer.Copied, Answer.Object, add_key, remove_key}
+use Rattle.bh_model.specs.Operations.{remove_tenant, put_object, source_version}
 use Rattle.bh_model.specs.Operations.{copy_object, get_object}
 use Rattle.bh_model.specs.Runs.{solo, solo_state, step, Follows}
 
@@ -87,11 +88,22 @@ abbrev pub RemovedKeyIsUnknown : Type 0
 RemovedKeyIsUnknown = (tenant name secret : Octets) (s : Option State)
     → IfOk (remove_key tenant name s) (λ removed. authenticate (key_named tenant name) secret removed.1 ≡ Err InvalidAccessKeyId)
 
--- counters never go down, and a tenant is never removed
+-- a tenant that was removed has no state, and each of its keys is unknown
+abbrev pub RemovedTenantIsUnknown : Type 0
+RemovedTenantIsUnknown = (moment : ℕ) (tenant : Octets) (with_objects : Bool) (s : Option State)
+    → IfOk (remove_tenant moment tenant with_objects s) (λ removed. (removed.1 ≡ absent)
+    × ((name secret : Octets) → authenticate (key_named tenant name) secret removed.1 ≡ Err InvalidAccessKeyId))
+
+-- the tenant stays, and no counter goes down
 abbrev pub Rises : Option State → Option State → Type 0
 Rises None s = Unit {0}
 Rises (Some s) None = ⊥
 Rises (Some s) (Some t) = AtMost (counts s) (counts t)
+
+-- the tenant goes, or else it stays and no counter goes down
+abbrev pub GoesOrRises : Option State → Option State → Type 0
+GoesOrRises s None = Unit {0}
+GoesOrRises s (Some t) = Rises s (Some t)
 
 -- states that are equal once purged take the same step at any later moment
 abbrev pub FollowersStepAlike : Type 0 → Type 0 → Type 0 → Type 0

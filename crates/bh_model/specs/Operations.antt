@@ -1,6 +1,6 @@
 -- The effect of each operation and each operator's command on a tenant's state, and its answer.
 -- Refusals are checked in order. An absent state is that of a tenant that was not added.
-use Rattle.std.specs.Prelude.{ℕ, ◌^◌, Bool, true, false, not, ◌&&◌, nat_le, Option, Some, None, option_and_then, option_map, is_none}
+use Rattle.std.specs.Prelude.{ℕ, ◌^◌, Bool, true, false, not, ◌&&◌, ◌||◌, nat_le, Option, Some, None, option_and_then, option_map, is_none}
 use Rattle.std.specs.Prelude.{is_some, unwrap_or, List, [], length, map, ok_or, Result, Ok, if◌then◌else◌}
 use Rattle.std.specs.List.{find}
 use Rattle.std.specs.Option.{option_map_or}
@@ -17,13 +17,14 @@ use Rattle.bh_types.specs.declared.refusal.Refusal.TheVariants.{AccessDenied, No
 use Rattle.bh_types.specs.declared.refusal.Refusal.TheVariants.{BucketNotEmpty, InvalidBucketState, BadDigest, QuotaExceeded}
 use Rattle.bh_types.specs.declared.refusal.Refusal.TheVariants.{NoSuchLifecycleConfiguration, InvalidRequest, TenantExists, NoSuchTenant}
 use Rattle.bh_types.specs.declared.refusal.Refusal.TheVariants.{KeyExists, NoSuchKeyName, InvalidName, InvalidQuota}
+use Rattle.bh_types.specs.declared.refusal.Refusal.TheVariants.{TenantNotEmpty, TenantRetained}
 use Rattle.bh_types.specs.declared.rejection.Detail.{Detail}
 use Rattle.bh_types.specs.declared.rejection.Detail.TheVariants.{Nothing, CurrentMarker, NamedMarker, ObjectSize}
 use Rattle.bh_types.specs.declared.rejection.Rejection.{Rejection}
 use Rattle.bh_types.specs.declared.wanted.Wanted.{Wanted}
 use Rattle.bh_types.specs.declared.wanted.Wanted.TheVariants.{Current, Named, Unknown}
 use Rattle.bh_model.specs.FinMaps.{is_empty, set_at, non_empty}
-use Rattle.bh_model.specs.State.{Octets, Content, Content.Body, Entry, Bucket, State, new_tenant, new_bucket}
+use Rattle.bh_model.specs.State.{Octets, Content, Content.Body, Entry, Bucket, State, absent, new_tenant, new_bucket}
 use Rattle.bh_types.specs.Checksums.{checksum_text}
 use Rattle.bh_types.specs.Outcomes.{◌>>=◌, require}
 use Rattle.bh_types.specs.Ranges.{range_of, cut}
@@ -34,7 +35,7 @@ use Rattle.bh_model.specs.Pages.{ObjectsListed, VersionsListed, UploadsListed, P
 use Rattle.bh_model.specs.Parts.{is_checksum}
 use Rattle.bh_model.specs.Quotas.{keeps_quota}
 use Rattle.bh_model.specs.Retention.{keeps_versions, can_retain, date_of, named_date, may_go, with_date, without_date, may_retain}
-use Rattle.bh_model.specs.Retention.{first_date}
+use Rattle.bh_model.specs.Retention.{first_date, retains}
 use Rattle.bh_model.specs.Usage.{Usage, usage_of}
 
 -- the answer to what is not refused. It has an id if the bucket is or was versioned. `Removed` has
@@ -124,6 +125,16 @@ remove_key tenant name s = do
   t ← added_tenant s
   _ ← require (is_some (get t.keys name)) NoSuchKeyName
   Ok (Done, Some (record t { keys = remove t.keys name }))
+
+-- all of the tenant goes: its buckets only if the command says so, and nothing while a version has
+-- a date that isn't over. A tenant that is added by that name later is a new one
+abbrev pub remove_tenant : ℕ → Octets → Bool → Option State → Result Outcome Refusal
+remove_tenant moment name with_objects s = do
+  _ ← require (is_tenant_name name) InvalidName
+  t ← added_tenant s
+  _ ← require (with_objects || is_empty t.buckets) TenantNotEmpty
+  _ ← require (not (retains moment t)) TenantRetained
+  Ok (Done, absent)
 
 -- Amazon S3 API Reference, CreateBucket: x-amz-bucket-object-lock-enabled
 abbrev pub create_bucket : ℕ → Octets → Bool → Option State → Result Outcome Refusal

@@ -11,7 +11,8 @@ use Rattle.bh_types.specs.declared.refusal.Refusal.{Refusal}
 use Rattle.bh_types.specs.declared.refusal.Refusal.TheVariants.{AccessDenied, InvalidArgument, InvalidRequest}
 use Rattle.bh_types.specs.declared.wanted.Wanted.{Wanted}
 use Rattle.bh_types.specs.declared.wanted.Wanted.TheVariants.{Current, Named, Unknown}
-use Rattle.bh_model.specs.State.{Octets, Dates, Bucket}
+use Rattle.bh_model.specs.FinMaps.{any_value}
+use Rattle.bh_model.specs.State.{Octets, Dates, Bucket, State}
 
 -- ---- buckets
 
@@ -41,6 +42,14 @@ named_date key Unknown b = None
 -- a version with this date may be deleted from the date on
 abbrev pub may_go : Option ℕ → ℕ → Bool
 may_go date now = nat_le (unwrap_or date 0) now
+
+-- whether a version of the bucket has a date after a moment
+abbrev pub bucket_retains : ℕ → Bucket → Bool
+bucket_retains now b = any_value (nat_lt now) b.dates
+
+-- whether one of the tenant's buckets has such a version
+abbrev pub retains : ℕ → State → Bool
+retains now t = any_value (bucket_retains now) t.buckets
 
 -- ---- a bucket with other dates
 

@@ -1,6 +1,7 @@
 //! Laws of the definitions, each as the contract of a function that does nothing.
 ghost use Rattle.bh_model.specs.Laws.{PurgedLater, PurgedTwice, PutIsFound, EnabledDeleteKeeps, SuspendedDeleteClears, PutIsRead};
-ghost use Rattle.bh_model.specs.Laws.{CopyIsRead, AddedKeyOpens, RemovedKeyIsUnknown, FollowersStepAlike, RunsJoin};
+ghost use Rattle.bh_model.specs.Laws.{CopyIsRead, AddedKeyOpens, RemovedKeyIsUnknown, RemovedTenantIsUnknown};
+ghost use Rattle.bh_model.specs.Laws.{FollowersStepAlike, RunsJoin};
 
 /// Purging a tenant's state, and then again at a later moment, is purging it at the later one.
 pub fn purged_later()
@@ -45,6 +46,11 @@ pub fn added_key_opens()
 /// An access key that was removed is unknown.
 pub fn removed_key_is_unknown()
     ensures { RemovedKeyIsUnknown }
+{}
+
+/// A tenant that was removed is gone, and so are its access keys.
+pub fn removed_tenant_is_unknown()
+    ensures { RemovedTenantIsUnknown }
 {}
 
 /// Two states that are equal once purged take the same step at any later moment.

@@ -73,7 +73,7 @@ pub record IsKept (old new : State) : Type 0 where
   pub survives : IsOpen old → LeavesNothingNew old new
 
 -- no transaction is open, all is committed, and the database is unchanged, or upgraded if it was of
--- version 1 or 2
+-- an earlier version
 pub record Opens (version : HostVersion) (old new : Standing) : Type 0 where
   pub schema : old.now.schema ≡ schema_of version
   pub outside : new.inside ≡ false
@@ -81,7 +81,7 @@ pub record Opens (version : HostVersion) (old new : Standing) : Type 0 where
   pub same : old.now.schema ≡ host_schema → new ≡ old
   pub brought : IsEarlierSchema old.now.schema → Settles old new
 
--- these trees are those of the open connection's database, of version 1 or 2, upgraded
+-- these trees are those of the open connection's database, of an earlier version, upgraded
 pub record IsLeftOver (old : State) (db : Trees) : Type 0 where
   pub is_open : IsOpen old
   pub schema : IsEarlierSchema (standing old).now.schema

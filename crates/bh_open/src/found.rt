@@ -7,12 +7,14 @@ use bh_types::limits::Limits;
 /// The version of a host, by its tables.
 #[derive(Clone, Copy)]
 pub enum HostVersion {
-    /// Its tables of locks, of dates and of tallies are missing.
+    /// Its tables of locks, of dates and of tallies are missing, and those that version 4 added.
     First,
-    /// Its table of tallies is missing.
+    /// Its table of tallies is missing, and those that version 4 added.
     Second,
-    /// It has all tables.
+    /// Those that version 4 added are missing.
     Third,
+    /// It has all tables.
+    Fourth,
 }
 
 impl HostVersion {
@@ -24,6 +26,7 @@ impl HostVersion {
             HostVersion::First => 1,
             HostVersion::Second => 2,
             HostVersion::Third => 3,
+            HostVersion::Fourth => 4,
         }
     }
 }

@@ -164,7 +164,8 @@ fn bring<S: Alter>(connection: &mut Connection<S>, version: HostVersion) -> Resu
     match version {
         HostVersion::First => bring_over(connection, Earlier::First),
         HostVersion::Second => bring_over(connection, Earlier::Second),
-        HostVersion::Third => Ok(()),
+        HostVersion::Third => bring_over(connection, Earlier::Third),
+        HostVersion::Fourth => Ok(()),
     }
 }
 
@@ -197,8 +198,8 @@ fn find_and_bring<S: Alter>(
     }
 }
 
-/// Opens the host in a database. A host of version 1 or 2 is upgraded in one commit, with all its
-/// contents; one of the present version is unchanged.
+/// Opens the host in a database. A host of an earlier version is upgraded in one commit, with all
+/// its contents; one of the present version is unchanged.
 ///
 /// Fails with `NotAHostFile` if the database's tables are not a host's, or if its row isn't one of
 /// their version with limits in range and a known digest function. An empty database has no tables,

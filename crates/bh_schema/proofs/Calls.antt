@@ -380,10 +380,10 @@ module _ {T : Type 0} (place : (sums : Totals) → Place sums T) (old new : Stat
         → Write old new (λ t. p.set t (update_where m f (p.rows t))) (λ e. is_trouble e ≡ true) result
     updated it may runs survives = updated_so result live (same (tables old) _) it may runs survives
 
-    pub deleted : {sql : List ℕ} {params : Row} {m : T → Bool} → DeleteText p.form host_schema p.number p.table sql params m → ((db : Trees) (rows : List Row) → AreUnused host_schema db p.table.tree rows)
+    pub deleted : {sql : List ℕ} {params : Row} {m : T → Bool} → DeleteText p.form host_schema p.number p.table sql params m → ((sums : Totals) (db : Database) → IsHostBy sums db → (rows : List Row) → AreUnused host_schema db.trees p.table.tree rows)
         → (HasCleanDisk new → Executes sql params old new result) → Survives old new (CommitsBy sql params old)
         → Write old new (λ t. p.set t (delete_where m (p.rows t))) (λ e. is_trouble e ≡ true) result
-    deleted it unused runs survives = write old new _ _ result inside (same (tables old) _) (statement.deleted p old new (ready old inside) result _ _ runs survives live _ it (unused old.now.trees))
+    deleted it unused runs survives = write old new _ _ result inside (same (tables old) _) (statement.deleted p old new (ready old inside) result _ _ runs survives live _ it (unused _))
 
     pub removed : {sql : List ℕ} {params : Row} {m : T → Bool} {A : Type 0} → DeleteText p.form host_schema p.number p.table sql params m → (IsStateClean old → A → Goes p (standing old).now.trees m)
         → (HasCleanDisk new → Executes sql params old new result) → Survives old new (CommitsBy sql params old)

@@ -20,3 +20,4 @@ pub mod Stamping
 pub mod KeySteps
 pub mod CredentialSteps
 pub mod KnownSteps
+pub mod RemovalCalls

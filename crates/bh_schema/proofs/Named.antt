@@ -17,5 +17,5 @@ use Rattle.bh_schema.proofs.Calls.{Write, deleted}
 module _ (old new : State) (inside : IsStateClean old → IsInside (standing old)) (result : Result ℕ Error) (live : IsLive old) (t n : Octets) where
   pub named_gone : (row : Named) (sql : List ℕ) → IsTextOf row sql → (HasCleanDisk new → Executes sql (Text t ∷ Text n ∷ []) old new result) → Survives old new (CommitsBy sql (Text t ∷ Text n ∷ []) old)
       → Write old new (without_named row t n) (λ e. is_trouble e ≡ true) result
-  named_gone named.Key sql it = deleted place.keys old new inside (λ t l. refl) result live (it t n) keys_unused
-  named_gone named.Lock sql it = deleted place.locks old new inside (λ t l. refl) result live (it t n) locks_unused
+  named_gone named.Key sql it = deleted place.keys old new inside (λ t l. refl) result live (it t n) (λ sums. keys_unused {sums = sums})
+  named_gone named.Lock sql it = deleted place.locks old new inside (λ t l. refl) result live (it t n) (λ sums db host. locks_unused db.trees)

@@ -4,12 +4,12 @@ use Rattle.sqlite.specs.Order.{Row}
 use Rattle.sqlite.specs.State.{State, HasCleanDisk, IsLive, Survives, Executes, CommitsBy, CommitsShowing, Shown, FailsToQuery}
 use Rattle.sqlite.specs.declared.error.Error.{Error}
 use Rattle.sqlite.specs.declared.types.Value.TheVariants.{Text}
-use Rattle.sqlite_keyed.specs.Lists.{update_where}
+use Rattle.sqlite_keyed.specs.Lists.{update_where, delete_where}
 use Rattle.sqlite_keyed.proofs.ListLemmas.{filter-map, map-map}
 use Rattle.sqlite_rules.proofs.ListLemmas.{has_filtered}
 use Rattle.bh_rows.specs.Form.{Entry, entries, typed}
 use Rattle.bh_rows.specs.Means.{is_trouble}
-use Rattle.bh_rows.specs.Texts.{IsReadyAt, InsertText, UpdateText, Leaves, MayAdd, MayChange}
+use Rattle.bh_rows.specs.Texts.{IsReadyAt, InsertText, UpdateText, DeleteText, Leaves, MayAdd, MayChange}
 use Rattle.bh_rows.specs.Scan.{no_limit}
 use Rattle.bh_rows.proofs.CallLemmas.{clean_before, shown_open}
 use Rattle.bh_rows.proofs.TextLemmas as text
@@ -35,6 +35,10 @@ module _ (old new : State) (midst : IsStateClean old → IsMidst (standing old))
   pub sets : {m : TallyRow → Bool} {f : TallyRow → TallyRow} → UpdateText tally_form host_schema 12 (at 30 tallies_table) sql params m f → (HasCleanDisk new → Executes sql params old new result) → Survives old new (CommitsBy sql params old)
       → Turn old new (tallied (update_where m f)) (λ t. t) result
   sets {m} {f} it = call.sets tally_form 12 (at 30 tallies_table) tallies_is (λ sums db h. h.held.tallies) old new midst result live (tallied (update_where m f)) (λ t. t) it (tally_turn old new (update_where m f))
+
+  pub drops : {m : TallyRow → Bool} → DeleteText tally_form host_schema 12 (at 30 tallies_table) sql params m → (HasCleanDisk new → Executes sql params old new result) → Survives old new (CommitsBy sql params old)
+      → Turn old new (tallied (delete_where m)) (λ t. t) result
+  drops {m} it = call.drops tally_form 12 (at 30 tallies_table) tallies_is (λ sums db h. h.held.tallies) old new midst result live (tallied (delete_where m)) (λ t. t) it (tally_turn old new (delete_where m))
 
   pub adds_trouble : {x : TallyRow} {A : Type 0} → InsertText tally_form host_schema 12 (at 30 tallies_table) sql params x → (IsStateClean old → A → MayAdd tally_form host_schema (at 30 tallies_table) (standing old).now.trees x)
       → (HasCleanDisk new → Executes sql params old new result) → Survives old new (CommitsBy sql params old) → IfErr result (λ e. IsIntact new → (standing old).limit ≡ None → A → is_trouble e ≡ true)

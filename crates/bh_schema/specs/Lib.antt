@@ -13,5 +13,6 @@ pub mod Counted
 pub mod OwnNumbers
 pub mod Reading
 pub mod Named
+pub mod Removal
 pub mod Tallies
 pub mod Digests

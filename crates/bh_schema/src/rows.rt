@@ -11,6 +11,7 @@ pub mod named;
 pub mod number;
 pub mod places;
 pub mod reading;
+pub mod removal;
 pub mod retains;
 pub mod rules;
 pub mod tallies;

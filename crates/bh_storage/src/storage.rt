@@ -144,16 +144,17 @@ pub trait Storage {
         ensures falls { IfOk result (λ piece. IfSome piece (λ bytes. length bytes.items + plan.new.left ≤ plan.old.left)) }
         ensures kept { OnErr result (plan.new ≡ plan.old) };
 
-    /// Carries out an operator's command on the tenant that it names.
+    /// Carries out an operator's command on the tenant that it names, at a moment.
     fn command(
         &mut self,
         alloc: Global,
+        at: Moment,
         command: &Command,
     ) -> Result<CommandAnswer, StepError<Refusal>>
         requires { Clean IsIntact IsOpen self.old → IsWorking IsSoundStore (seen self.old) }
         ensures goes_on { StaysAtWork IsIntact IsOpen IsSoundStore seen left (Unless result) self.old self.new }
         ensures carries { Clean IsIntact IsOpen self.new
-            → Carries command_answer_view (tenant_of (order_of command.now)) (ordered (order_of command.now)) (seen self.old).now
+            → Carries command_answer_view (tenant_of (order_of command.now)) (ordered at (order_of command.now)) (seen self.old).now
             (seen self.new).now result };
 
     /// Removes at most `limit` of what is due at a moment: first stale uploads of all tenants, by

@@ -1,8 +1,9 @@
 -- Rows whose columns are of the kinds that a host's tables have.
 use Rattle.std.specs.Prelude.{◌≡◌, true, List, [], ◌∷◌}
-use Rattle.std.specs.List.{list_all}
+use Rattle.std.specs.List.{AllByRecursion, list_all}
 use Rattle.sqlite.specs.Order.{Row}
 use Rattle.sqlite.specs.Tree.{Trees, IsTable}
+use Rattle.bh_tables.specs.Typed.{unfilled_trees}
 use Rattle.bh_stored.specs.Cells.{is_fit}
 use Rattle.bh_stored.specs.declared.cells.Kind.{Kind}
 use Rattle.bh_stored.specs.declared.cells.Kind.TheVariants as kind
@@ -53,6 +54,10 @@ pub record AreFit (kinds : List Kind) (rows : List Row) : Type 0 where
   pub fit : list_all (is_fit kinds) rows ≡ true
   pub rises : IsTable rows
 
+-- the tables that nothing fills have no row
+abbrev pub AreUnfilled : Trees → Type 0
+AreUnfilled d = AllByRecursion (λ t. d t ≡ []) unfilled_trees
+
 pub record AreAllFit (d : Trees) : Type 0 where
   pub host : AreFit host_kinds (d 0)
   pub tenants : AreFit tenant_kinds (d 1)
@@ -67,3 +72,4 @@ pub record AreAllFit (d : Trees) : Type 0 where
   pub locks : AreFit lock_kinds (d 26)
   pub retains : AreFit retain_kinds (d 28)
   pub tallies : AreFit tally_kinds (d 30)
+  pub unfilled : AreUnfilled d

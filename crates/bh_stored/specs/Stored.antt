@@ -1,24 +1,34 @@
 -- The rows that were read.
-use Rattle.std.specs.Prelude.{◌≡◌, ◌==◌, Bool, true, false, ◌&&◌, ◌||◌, not, [], if◌then◌else◌}
+use Rattle.std.specs.Prelude.{◌≡◌, ◌==◌, Bool, true, false, ◌&&◌, ◌||◌, not, [], nat_lt, if◌then◌else◌}
 use Rattle.sqlite.specs.Tree.{Trees}
 use Rattle.bh_stored.specs.declared.stored.Edition.{Edition}
-use Rattle.bh_stored.specs.declared.stored.Edition.TheVariants.{First, Second, Third}
+use Rattle.bh_stored.specs.declared.stored.Edition.TheVariants.{First, Second, Third, Fourth}
 use Rattle.bh_stored.specs.declared.stored.Stored.{Stored}
 
--- whether a host of an edition has the tables of locks and of dates, and that of tallies
+-- whether a host of an edition has the tables of locks and of dates, that of tallies, and those that
+-- nothing fills yet
 abbrev pub has_locks : Edition → Bool
 has_locks First = false
 has_locks Second = true
 has_locks Third = true
+has_locks Fourth = true
 
 abbrev pub has_tallies : Edition → Bool
 has_tallies First = false
 has_tallies Second = false
 has_tallies Third = true
+has_tallies Fourth = true
+
+abbrev pub has_unfilled : Edition → Bool
+has_unfilled First = false
+has_unfilled Second = false
+has_unfilled Third = false
+has_unfilled Fourth = true
 
 -- the rows of a database; a table that a host of its edition does not have is empty
 abbrev pub seen : Edition → Trees → Trees
-seen edition d t = if ((t == 26 || t == 28) && not (has_locks edition)) || (t == 30 && not (has_tallies edition)) then [] else d t
+seen edition d t = if ((t == 26 || t == 28) && not (has_locks edition)) || ((t == 30 && not (has_tallies edition))
+    || (nat_lt 31 t && not (has_unfilled edition))) then [] else d t
 
 -- they are those of a database
 pub record AreStoredIn (d : Trees) (s : Stored) : Type 0 where

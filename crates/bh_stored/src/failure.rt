@@ -8,6 +8,8 @@ pub enum Failure {
     Store(StoreError),
     /// The row of this number, in this tree, has columns that a host's tables don't.
     Misfit(u32, u64),
+    /// The row of this number is in this tree, of a table that nothing fills yet.
+    Filled(u32, u64),
     /// A sum is above 2^64 - 1, as no sound host's is.
     TooMuch,
 }

@@ -1,13 +1,13 @@
 //! The rows of a host's tables.
 
-ghost use Rattle.std.specs.Prelude.{◌≡◌, true, None, IfOk, OnOk};
+ghost use Rattle.std.specs.Prelude.{◌≡◌, true, None, [], IfOk, OnOk};
 ghost use Rattle.std.specs.List.{list_all};
 ghost use Rattle.sqlite_trees.specs.View.{IsClean};
 ghost use Rattle.bh_stored.specs.Cells.{is_fit};
-ghost use Rattle.bh_stored.specs.Fits.{AreFit, AreAllFit};
+ghost use Rattle.bh_stored.specs.Fits.{AreFit, AreUnfilled, AreAllFit};
 ghost use Rattle.bh_stored.specs.Stored.{seen, AreStoredIn};
 ghost use Rattle.bh_stored.specs.Stores.{KeepsTrees};
-ghost use Rattle.bh_stored.specs.declared.stored.Edition.TheVariants.{First, Second, Third};
+ghost use Rattle.bh_stored.specs.declared.stored.Edition.TheVariants.{First, Second, Third, Fourth};
 
 use crate::cells::Kind::{self, Blob, Key, MaybeNumber, Number, Text};
 use crate::cells::{is_fit, number_in};
@@ -53,6 +53,8 @@ pub enum Edition {
     Second,
     /// With those and one of tallies.
     Third,
+    /// With those and some that nothing fills yet.
+    Fourth,
 }
 
 /// As they are stored.
@@ -103,6 +105,31 @@ fn fit_rows<S: Store>(
     }
 }
 
+/// Checks that there is no row in a table.
+fn no_rows<S: Store>(alloc: Global, store: &mut S, tree: u32) -> Result<(), Failure>
+    ensures keeps { OnOk result (KeepsTrees (S.view store.old) (S.view store.new)) }
+    ensures none { OnOk result (IsClean (S.view store.new) → (S.view store.old).trees tree ≡ []) }
+{
+    let rows = table_rows(alloc, store, tree)?;
+    match rows.as_slice() {
+        [] => Ok(()),
+        [row, ..] => Err(Failure::Filled(tree, number_in(row, 0))),
+    }
+}
+
+/// Checks that there is no row in the tables that nothing fills.
+fn none_filled<S: Store>(alloc: Global, store: &mut S) -> Result<(), Failure>
+    ensures keeps { OnOk result (KeepsTrees (S.view store.old) (S.view store.new)) }
+    ensures none { OnOk result (IsClean (S.view store.new) → AreUnfilled (S.view store.old).trees) }
+{
+    no_rows(alloc, store, 32)?;
+    no_rows(alloc, store, 34)?;
+    no_rows(alloc, store, 37)?;
+    no_rows(alloc, store, 39)?;
+    no_rows(alloc, store, 41)?;
+    no_rows(alloc, store, 43)
+}
+
 impl Stored {
     /// The rows of the tables that a host of each edition has.
     fn read_first<S: Store>(alloc: Global, store: &mut S) -> Result<Stored, Failure>
@@ -150,6 +177,17 @@ impl Stored {
         Ok(stored)
     }
 
+    /// The same rows, where the tables that nothing fills have none.
+    fn read_fourth<S: Store>(alloc: Global, store: &mut S) -> Result<Stored, Failure>
+        ensures keeps { OnOk result (KeepsTrees (S.view store.old) (S.view store.new)) }
+        ensures stored { IfOk result (λ it. IsClean (S.view store.new) → AreStoredIn (seen Fourth (S.view store.old).trees) it) }
+        ensures fit { OnOk result (IsClean (S.view store.new) → AreAllFit (seen Fourth (S.view store.old).trees)) }
+    {
+        let stored = Stored::read_third(alloc, store)?;
+        none_filled(alloc, store)?;
+        Ok(stored)
+    }
+
     /// All rows of a store with the database of a host of this edition. A table that it doesn't
     /// have is empty.
     pub fn read<S: Store>(alloc: Global, store: &mut S, edition: Edition) -> Result<Stored, Failure>
@@ -161,6 +199,7 @@ impl Stored {
             Edition::First => Stored::read_first(alloc, store),
             Edition::Second => Stored::read_second(alloc, store),
             Edition::Third => Stored::read_third(alloc, store),
+            Edition::Fourth => Stored::read_fourth(alloc, store),
         }
     }
 }

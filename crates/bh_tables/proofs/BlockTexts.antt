@@ -1,5 +1,5 @@
 -- The texts over blocks.
-use Rattle.std.proofs.Common.{◌≡◌, ℤ, pos, nat_lt, length, codes, [], ◌∷◌, ◌&&◌, true, false, cond, is_eq, Some, refl, sym, ap, ◌∙◌}
+use Rattle.std.proofs.Common.{inl, inr, ◌≡◌, ℤ, pos, nat_lt, length, codes, [], ◌∷◌, ◌&&◌, true, false, cond, is_eq, Some, refl, sym, ap, ◌∙◌}
 use Rattle.std.specs.List.{list_any}
 use Rattle.std.specs.Cmp.{signed_Decides}
 use Rattle.std.specs.Ordering.{int_eq}
@@ -32,6 +32,7 @@ use Rattle.bh_tables.specs.Shown.{Name, same_name, block_name, ref_name, is_bloc
 use Rattle.bh_tables.proofs.Places.{Goes, blocks}
 use Rattle.bh_tables.proofs.Checked.{block_checked}
 use Rattle.bh_tables.proofs.Terms.{is}
+use Rattle.bh_tables.proofs.Unfilled.{unfilled_none, none_names}
 
 -- ---- a block whose name no other has may be added
 
@@ -71,7 +72,7 @@ unfolding everything
 unreferenced_goes db host q unused = (
   none_points block_form ref_form (db.trees 10) (db.trees 12) to_blocks (is_block q) (λ r b. same_name (ref_name r) (block_name b)) names host.held.blocks host.held.refs
       (none_named (λ r b. same_name (ref_name r) (block_name b)) (is_block q) (is_use q) (uses q) (tables_in db).blocks (tables_in db).refs unused),
-  tt,
+  (none_names _ (db.trees 34) (unfilled_none db host 34 (inr (inl refl))), tt),
 )
 
 -- ---- the texts

@@ -9,8 +9,8 @@ use Rattle.bh_rows.proofs.CreateLemmas.{Makes}
 use Rattle.bh_rows.proofs.CreateErrors.{IsFree}
 use Rattle.bh_rows.specs.Index.{Indexes}
 use Rattle.bh_rows.proofs.IndexErrors.{IsFreeIndex}
-use Rattle.bh_tables.specs.Schema.{Octets, no_schema, host_schema, host_table, tenants_table, keys_table, buckets_table, versions_table, blocks_table, refs_table, uploads_table, parts_table, at, newest, refs_by_block, uploads_by_key, uploads_by_moment, uses_table, uses_by_count, first_schema, second_schema, locks_table, retains_table, tallies_table}
-use Rattle.bh_tables.specs.Made.{with_host, with_tenants, with_keys, with_buckets, with_versions, with_blocks, with_refs, with_newest, with_refs_by_block, with_uploads, with_parts, with_uploads_by_key, with_uploads_by_moment, with_uses, with_uses_by_count, with_locks, with_retains, with_tallies}
+use Rattle.bh_tables.specs.Schema.{Octets, no_schema, host_schema, host_table, tenants_table, keys_table, buckets_table, versions_table, blocks_table, refs_table, uploads_table, parts_table, at, newest, refs_by_block, uploads_by_key, uploads_by_moment, uses_table, uses_by_count, first_schema, second_schema, third_schema, locks_table, retains_table, tallies_table, packs_table, placed_table, notes_table, upload_notes_table, rights_table, garbage_table}
+use Rattle.bh_tables.specs.Made.{with_host, with_tenants, with_keys, with_buckets, with_versions, with_blocks, with_refs, with_newest, with_refs_by_block, with_uploads, with_parts, with_uploads_by_key, with_uploads_by_moment, with_uses, with_uses_by_count, with_locks, with_retains, with_tallies, with_packs, with_placed, with_notes, with_upload_notes, with_rights, with_garbage}
 
 abbrev host_text : Octets
 host_text = codes "CREATE TABLE host (id INTEGER PRIMARY KEY CHECK (id = 1), version INTEGER NOT NULL CHECK (version >= 0), latest INTEGER NOT NULL CHECK (latest >= 0), min_part INTEGER NOT NULL CHECK (min_part >= 0), max_body INTEGER NOT NULL CHECK (max_body >= 0), digest INTEGER NOT NULL CHECK (digest >= 0)) STRICT"
@@ -221,6 +221,77 @@ unfolding everything fits_kind is_free_name begins same_name value_cmp Ieee.lt I
 free_tallies = record { text = refl; name = refl; own = refl; free = refl; keys_free = refl; few = refl; narrow = refl; keys_narrow = refl; formed = refl; fit = refl }
 
 -- and these of the third
-pub all_made : with_tallies ≡ host_schema
+pub third_made : with_tallies ≡ third_schema
+unfolding everything
+third_made = refl
+
+abbrev pub packs_text : Octets
+packs_text = codes "CREATE TABLE packs (pack INT NOT NULL PRIMARY KEY CHECK (pack >= 0), length INTEGER NOT NULL CHECK (length >= 0) CHECK (length <= 4611686018427387904), live INTEGER NOT NULL CHECK (live >= 0) CHECK (live <= 4611686018427387904)) STRICT"
+
+pub makes_packs : Makes third_schema packs_text packs_table
+unfolding understood everything
+makes_packs = record { means = record { is = refl; plain = (refl, refl); unlisted = refl; whole = refl; given = refl }; text = refl; defined = refl; uncounted = refl }
+
+pub free_packs : IsFree third_schema packs_text packs_table
+unfolding everything fits_kind is_free_name begins same_name value_cmp Ieee.lt Ieee.is_nan
+free_packs = record { text = refl; name = refl; own = refl; free = refl; keys_free = refl; few = refl; narrow = refl; keys_narrow = refl; formed = refl; fit = refl }
+
+abbrev pub placed_text : Octets
+placed_text = codes "CREATE TABLE placed (digest BLOB NOT NULL, ord INTEGER NOT NULL CHECK (ord >= 0), pack INTEGER NOT NULL CHECK (pack >= 0), place INTEGER NOT NULL CHECK (place >= 0) CHECK (place <= 4611686018427387904), size INTEGER NOT NULL CHECK (size >= 0) CHECK (size <= 4611686018427387904), sum INTEGER NOT NULL, PRIMARY KEY (digest, ord), UNIQUE (pack, place), FOREIGN KEY (digest, ord) REFERENCES blocks ON DELETE RESTRICT, FOREIGN KEY (pack) REFERENCES packs ON DELETE RESTRICT) STRICT"
+
+pub makes_placed : Makes with_packs placed_text placed_table
+unfolding understood everything
+makes_placed = record { means = record { is = refl; plain = (refl, refl); unlisted = refl; whole = refl; given = refl }; text = refl; defined = refl; uncounted = refl }
+
+pub free_placed : IsFree with_packs placed_text placed_table
+unfolding everything fits_kind is_free_name begins same_name value_cmp Ieee.lt Ieee.is_nan
+free_placed = record { text = refl; name = refl; own = refl; free = refl; keys_free = refl; few = refl; narrow = refl; keys_narrow = refl; formed = refl; fit = refl }
+
+abbrev pub notes_text : Octets
+notes_text = codes "CREATE TABLE notes (tenant TEXT NOT NULL, seq INTEGER NOT NULL CHECK (seq >= 0), note BLOB NOT NULL, PRIMARY KEY (tenant, seq), FOREIGN KEY (tenant, seq) REFERENCES versions ON DELETE RESTRICT) STRICT"
+
+pub makes_notes : Makes with_placed notes_text notes_table
+unfolding understood everything
+makes_notes = record { means = record { is = refl; plain = (refl, refl); unlisted = refl; whole = refl; given = refl }; text = refl; defined = refl; uncounted = refl }
+
+pub free_notes : IsFree with_placed notes_text notes_table
+unfolding everything fits_kind is_free_name begins same_name value_cmp Ieee.lt Ieee.is_nan
+free_notes = record { text = refl; name = refl; own = refl; free = refl; keys_free = refl; few = refl; narrow = refl; keys_narrow = refl; formed = refl; fit = refl }
+
+abbrev pub upload_notes_text : Octets
+upload_notes_text = codes "CREATE TABLE upload_notes (tenant TEXT NOT NULL, upload INTEGER NOT NULL CHECK (upload >= 0), note BLOB NOT NULL, PRIMARY KEY (tenant, upload), FOREIGN KEY (tenant, upload) REFERENCES uploads ON DELETE RESTRICT) STRICT"
+
+pub makes_upload_notes : Makes with_notes upload_notes_text upload_notes_table
+unfolding understood everything
+makes_upload_notes = record { means = record { is = refl; plain = (refl, refl); unlisted = refl; whole = refl; given = refl }; text = refl; defined = refl; uncounted = refl }
+
+pub free_upload_notes : IsFree with_notes upload_notes_text upload_notes_table
+unfolding everything fits_kind is_free_name begins same_name value_cmp Ieee.lt Ieee.is_nan
+free_upload_notes = record { text = refl; name = refl; own = refl; free = refl; keys_free = refl; few = refl; narrow = refl; keys_narrow = refl; formed = refl; fit = refl }
+
+abbrev pub rights_text : Octets
+rights_text = codes "CREATE TABLE rights (tenant TEXT NOT NULL, name TEXT NOT NULL, rights TEXT NOT NULL, PRIMARY KEY (tenant, name), FOREIGN KEY (tenant, name) REFERENCES keys ON DELETE RESTRICT) STRICT"
+
+pub makes_rights : Makes with_upload_notes rights_text rights_table
+unfolding understood everything
+makes_rights = record { means = record { is = refl; plain = (refl, refl); unlisted = refl; whole = refl; given = refl }; text = refl; defined = refl; uncounted = refl }
+
+pub free_rights : IsFree with_upload_notes rights_text rights_table
+unfolding everything fits_kind is_free_name begins same_name value_cmp Ieee.lt Ieee.is_nan
+free_rights = record { text = refl; name = refl; own = refl; free = refl; keys_free = refl; few = refl; narrow = refl; keys_narrow = refl; formed = refl; fit = refl }
+
+abbrev pub garbage_text : Octets
+garbage_text = codes "CREATE TABLE garbage (id INTEGER PRIMARY KEY CHECK (id = 1), bytes INTEGER NOT NULL CHECK (bytes >= 0) CHECK (bytes <= 4611686018427387904)) STRICT"
+
+pub makes_garbage : Makes with_rights garbage_text garbage_table
+unfolding understood everything
+makes_garbage = record { means = record { is = refl; plain = (refl, refl); unlisted = refl; whole = refl; given = refl }; text = refl; defined = refl; uncounted = refl }
+
+pub free_garbage : IsFree with_rights garbage_text garbage_table
+unfolding everything fits_kind is_free_name begins same_name value_cmp Ieee.lt Ieee.is_nan
+free_garbage = record { text = refl; name = refl; own = refl; free = refl; keys_free = refl; few = refl; narrow = refl; keys_narrow = refl; formed = refl; fit = refl }
+
+-- and these of the fourth
+pub all_made : with_garbage ≡ host_schema
 unfolding everything
 all_made = refl

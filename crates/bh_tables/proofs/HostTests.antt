@@ -1,5 +1,5 @@
 -- The test says what it is to say.
-use Rattle.std.proofs.Common.{◌≡◌, ◌⊎◌, inl, inr, Bool, true, true≢false, cond, length, arith, ℕ, List, [], ◌∷◌, map, pos, refl, sym, ap, ap₂, ◌∙◌, subst, Ordering, Less, Equal, Greater, is_lt}
+use Rattle.std.proofs.Common.{◌≡◌, ◌⊎◌, inl, inr, Bool, true, false, true≢false, cond, length, arith, ℕ, List, [], ◌∷◌, map, pos, refl, sym, ap, ap₂, ◌∙◌, subst, Ordering, Less, Equal, Greater, is_lt}
 use Rattle.std.specs.List.{AllByRecursion, list_all}
 use Rattle.std.specs.Coded.{Coded, coded_list}
 use Rattle.std.proofs.lemmas.Bool.{and_parts, and_from, cases_Bool, eqb-true, eq-eqb}
@@ -12,9 +12,9 @@ use Rattle.sqlite.specs.Schema.{Schema}
 use Rattle.sqlite_tied.specs.Compute.{everything}
 use Rattle.sqlite_schema.specs.contracts.schema.Schema as schema
 use Rattle.bh_rows.specs.Form.{Form, AreRows, typed}
-use Rattle.bh_tables.specs.Schema.{first_schema, second_schema, host_schema}
-use Rattle.bh_tables.specs.Typed.{Totals, totals_of, untallied, HostRow, Tables, Raw, raw, first_raw, second_raw, tables_in, first_tables_in, no_rows, AreHeld, IsHost, IsFirstHost, IsSecondHost, lock_form, retain_form, tally_form, host_form, tenant_form, key_form, bucket_form, version_form, block_form, ref_form, upload_form, part_form, use_form}
-use Rattle.bh_tables.specs.Hosts.{same_code, same, ascends, coded_row, are_rows, are_these, are_held, is_host, is_first_host, is_second_host, is_of_version, brought_over, earlier_shown, IsOfVersion1, IsOfVersion2, tables_shown, tables_opened}
+use Rattle.bh_tables.specs.Schema.{first_schema, second_schema, third_schema, host_schema}
+use Rattle.bh_tables.specs.Typed.{Totals, totals_of, untallied, HostRow, Tables, Raw, raw, first_raw, second_raw, third_raw, tables_in, first_tables_in, no_rows, AreHeld, IsHost, IsFirstHost, IsSecondHost, IsThirdHost, lock_form, retain_form, tally_form, host_form, tenant_form, key_form, bucket_form, version_form, block_form, ref_form, upload_form, part_form, use_form}
+use Rattle.bh_tables.specs.Hosts.{same_code, same, ascends, coded_row, are_rows, are_these, are_held, is_host, is_first_host, is_second_host, is_third_host, is_of_version, brought_over, earlier_shown, IsOfVersion1, IsOfVersion2, IsOfVersion3, tables_shown, tables_opened}
 
 -- ---- codes
 
@@ -98,6 +98,7 @@ held_of sums r h =
     let m = and_parts _ _ l.1 in
     let n = and_parts _ _ m.1 in
     let o = and_parts _ _ n.1 in
+    let p = and_parts _ _ o.1 in
     record {
       host = rows_of host_form r.host a.0;
       tenants = rows_of (tenant_form sums) r.tenants b.0;
@@ -113,14 +114,16 @@ held_of sums r h =
       locks = rows_of lock_form r.locks m.0;
       retains = rows_of retain_form r.retains n.0;
       tallies = rows_of tally_form r.tallies o.0;
-      tallied = these_of tally_form r.tallies sums.tallies o.1;
+      tallied = these_of tally_form r.tallies sums.tallies p.0;
+      unfilled = same_value (coded_list coded_row) r.unfilled [] p.1;
     }
 
 of_held : (sums : Totals) (r : Raw) → AreHeld sums r → are_held sums r ≡ true
 of_held sums r h = and_from _ _ (of_rows host_form r.host h.host) (and_from _ _ (of_rows (tenant_form sums) r.tenants h.tenants) (and_from _ _ (of_rows key_form r.keys h.keys) (and_from _ _ (of_rows bucket_form r.buckets h.buckets)
     (and_from _ _ (of_rows version_form r.versions h.versions) (and_from _ _ (of_rows block_form r.blocks h.blocks) (and_from _ _ (of_rows ref_form r.refs h.refs)
     (and_from _ _ (of_rows (upload_form sums) r.uploads h.uploads) (and_from _ _ (of_rows part_form r.parts h.parts) (and_from _ _ (of_rows use_form r.uses h.uses) (and_from _ _ (of_these use_form r.uses sums.uses h.counts) (and_from _ _ (of_rows lock_form r.locks h.locks)
-    (and_from _ _ (of_rows retain_form r.retains h.retains) (and_from _ _ (of_rows tally_form r.tallies h.tallies) (of_these tally_form r.tallies sums.tallies h.tallied))))))))))))))
+    (and_from _ _ (of_rows retain_form r.retains h.retains) (and_from _ _ (of_rows tally_form r.tallies h.tallies)
+    (and_from _ _ (of_these tally_form r.tallies sums.tallies h.tallied) (value_same (coded_list coded_row) r.unfilled [] h.unfilled)))))))))))))))
 
 -- ---- databases
 
@@ -148,6 +151,14 @@ of_second : (db : Database) → IsSecondHost db → is_second_host db ≡ true
 unfolding is_second_host
 of_second db h = and_from _ _ (value_same schema.the_row.coded db.schema second_schema h.schema) (of_held (untallied (totals_of (tables_in db))) (second_raw db.trees) h.held)
 
+third_of : (db : Database) → is_third_host db ≡ true → IsThirdHost db
+unfolding is_third_host
+third_of db h = let parts = and_parts _ _ h in record { schema = same_value schema.the_row.coded db.schema third_schema parts.0; held = held_of (totals_of (tables_in db)) (third_raw db.trees) parts.1 }
+
+of_third : (db : Database) → IsThirdHost db → is_third_host db ≡ true
+unfolding is_third_host
+of_third db h = and_from _ _ (value_same schema.the_row.coded db.schema third_schema h.schema) (of_held (totals_of (tables_in db)) (third_raw db.trees) h.held)
+
 -- a host's database shows its tables
 pub host_shows : (db : Database) → IsHost db → tables_shown db ≡ tables_in db
 unfolding tables_shown
@@ -163,7 +174,7 @@ shown_host db row there = elim (cases_Bool (is_host db)) [
 
 -- ---- once it is opened
 
--- the three schemas have each another number of tables
+-- each two schemas have another number of tables
 other_schemas : (db : Database) (a b : Schema) → (length a.tables ≡ length b.tables → ⊥) → db.schema ≡ a → db.schema ≡ b → ⊥
 other_schemas db a b apart is other = apart (ap (λ (s : Schema). length s.tables) (sym is ∙ other))
 
@@ -175,39 +186,75 @@ pub unlike_second : (db : Database) → db.schema ≡ host_schema → db.schema 
 unfolding everything
 unlike_second db = other_schemas db host_schema second_schema (λ same. omega (arith, same))
 
+pub unlike_third : (db : Database) → db.schema ≡ host_schema → db.schema ≡ third_schema → ⊥
+unfolding everything
+unlike_third db = other_schemas db host_schema third_schema (λ same. omega (arith, same))
+
 pub second_unlike_first : (db : Database) → db.schema ≡ second_schema → db.schema ≡ first_schema → ⊥
 unfolding everything
 second_unlike_first db = other_schemas db second_schema first_schema (λ same. omega (arith, same))
 
--- a database of another schema than the first two shows what it shows
-pub others_open : (db : Database) → (db.schema ≡ first_schema → ⊥) → (db.schema ≡ second_schema → ⊥) → tables_opened db ≡ tables_shown db
-unfolding tables_opened
-others_open db unlike other = elim (cases_Bool (is_first_host db)) [
+pub third_unlike_first : (db : Database) → db.schema ≡ third_schema → db.schema ≡ first_schema → ⊥
+unfolding everything
+third_unlike_first db = other_schemas db third_schema first_schema (λ same. omega (arith, same))
+
+pub third_unlike_second : (db : Database) → db.schema ≡ third_schema → db.schema ≡ second_schema → ⊥
+unfolding everything
+third_unlike_second db = other_schemas db third_schema second_schema (λ same. omega (arith, same))
+
+-- what a database shows, past each earlier version that it isn't of
+from_third : Database → Tables
+from_third db = cond (is_third_host db) (earlier_shown 3 (tables_in db)) (tables_shown db)
+
+from_second : Database → Tables
+from_second db = cond (is_second_host db) (earlier_shown 2 (tables_in db)) (from_third db)
+
+past_first : (db : Database) → (db.schema ≡ first_schema → ⊥) → tables_opened db ≡ from_second db
+unfolding tables_opened from_second from_third
+past_first db unlike = elim (cases_Bool (is_first_host db)) [
   | inl is ↦ absurd (unlike (first_of db is).schema)
-  | inr none ↦ ap (λ b. cond b (earlier_shown 1 (first_tables_in db)) (cond (is_second_host db) (earlier_shown 2 (tables_in db)) (tables_shown db))) none ∙ elim (cases_Bool (is_second_host db)) [
-    | inl is ↦ absurd (other (second_of db is).schema)
-    | inr neither ↦ ap (λ b. cond b (earlier_shown 2 (tables_in db)) (tables_shown db)) neither
-  ]
+  | inr none ↦ ap (λ b. cond b (earlier_shown 1 (first_tables_in db)) (from_second db)) none
 ]
+
+past_second : (db : Database) → (db.schema ≡ second_schema → ⊥) → from_second db ≡ from_third db
+unfolding from_second
+past_second db unlike = elim (cases_Bool (is_second_host db)) [
+  | inl is ↦ absurd (unlike (second_of db is).schema)
+  | inr none ↦ ap (λ b. cond b (earlier_shown 2 (tables_in db)) (from_third db)) none
+]
+
+past_third : (db : Database) → (db.schema ≡ third_schema → ⊥) → from_third db ≡ tables_shown db
+unfolding from_third
+past_third db unlike = elim (cases_Bool (is_third_host db)) [
+  | inl is ↦ absurd (unlike (third_of db is).schema)
+  | inr none ↦ ap (λ b. cond b (earlier_shown 3 (tables_in db)) (tables_shown db)) none
+]
+
+-- a database of another schema than the first three shows what it shows
+pub others_open : (db : Database) → (db.schema ≡ first_schema → ⊥) → (db.schema ≡ second_schema → ⊥) → (db.schema ≡ third_schema → ⊥) → tables_opened db ≡ tables_shown db
+others_open db one two three = past_first db one ∙ past_second db two ∙ past_third db three
 
 -- so a host's shows its tables
 pub host_opens : (db : Database) → IsHost db → tables_opened db ≡ tables_in db
-host_opens db h = others_open db (other_schema db h.schema) (unlike_second db h.schema) ∙ host_shows db h
+host_opens db h = others_open db (other_schema db h.schema) (unlike_second db h.schema) (unlike_third db h.schema) ∙ host_shows db h
 
 -- one of a host of version 1 shows them as they are once it is brought over
 pub first_opens : (db : Database) → IsOfVersion1 db → tables_opened db ≡ brought_over (first_tables_in db)
-unfolding tables_opened
-first_opens db h = ap (λ b. cond b (earlier_shown 1 (first_tables_in db)) (cond (is_second_host db) (earlier_shown 2 (tables_in db)) (tables_shown db))) (of_first db h.first)
+unfolding tables_opened from_second from_third
+first_opens db h = ap (λ b. cond b (earlier_shown 1 (first_tables_in db)) (from_second db)) (of_first db h.first)
     ∙ ap (λ b. cond b (brought_over (first_tables_in db)) no_rows) h.version
 
 -- and so does one of a host of version 2
 pub second_opens : (db : Database) → IsOfVersion2 db → tables_opened db ≡ brought_over (tables_in db)
-unfolding tables_opened
-second_opens db h = elim (cases_Bool (is_first_host db)) [
-  | inl is ↦ absurd (second_unlike_first db h.second.schema (first_of db is).schema)
-  | inr none ↦ ap (λ b. cond b (earlier_shown 1 (first_tables_in db)) (cond (is_second_host db) (earlier_shown 2 (tables_in db)) (tables_shown db))) none
-      ∙ ap (λ b. cond b (earlier_shown 2 (tables_in db)) (tables_shown db)) (of_second db h.second) ∙ ap (λ b. cond b (brought_over (tables_in db)) no_rows) h.version
-]
+unfolding from_second
+second_opens db h = past_first db (second_unlike_first db h.second.schema)
+    ∙ ap (λ b. cond b (earlier_shown 2 (tables_in db)) (from_third db)) (of_second db h.second) ∙ ap (λ b. cond b (brought_over (tables_in db)) no_rows) h.version
+
+-- and of version 3
+pub third_opens : (db : Database) → IsOfVersion3 db → tables_opened db ≡ brought_over (tables_in db)
+unfolding from_third
+third_opens db h = past_first db (third_unlike_first db h.third.schema) ∙ past_second db (third_unlike_second db h.third.schema)
+    ∙ ap (λ b. cond b (earlier_shown 3 (tables_in db)) (tables_shown db)) (of_third db h.third) ∙ ap (λ b. cond b (brought_over (tables_in db)) no_rows) h.version
 
 -- only tables whose row tells the version are shown once they are brought over
 earlier_told : (n : ℕ) (t : Tables) (row : HostRow) → (earlier_shown n t).host ≡ row ∷ [] → list_all (is_of_version n) t.host ≡ true
@@ -216,19 +263,22 @@ earlier_told n t row there = elim (cases_Bool (list_all (is_of_version n) t.host
   | inr other ↦ let none : [] ≡ row ∷ [] = sym (ap (λ b. (cond b (brought_over t) no_rows).host) other) ∙ there in absurd (cc)
 ]
 
--- and only a database of one of the three shows a row of the host
-pub opened_host : (db : Database) (row : HostRow) → (tables_opened db).host ≡ row ∷ [] → IsHost db ⊎ (IsOfVersion1 db ⊎ IsOfVersion2 db)
-unfolding tables_opened
+-- and only a database of one of the four shows a row of the host
+pub opened_host : (db : Database) (row : HostRow) → (tables_opened db).host ≡ row ∷ [] → IsHost db ⊎ (IsOfVersion1 db ⊎ (IsOfVersion2 db ⊎ IsOfVersion3 db))
+unfolding tables_opened from_second from_third
 opened_host db row there = elim (cases_Bool (is_first_host db)) [
-  | inl is ↦ inr (inl (record { first = first_of db is; version = earlier_told 1 (first_tables_in db) row (sym (ap (λ b. (cond b (earlier_shown 1 (first_tables_in db)) later).host) is) ∙ there) }))
-  | inr none ↦ after (sym (ap (λ b. (cond b (earlier_shown 1 (first_tables_in db)) later).host) none) ∙ there)
+  | inl is ↦ inr (inl (record { first = first_of db is; version = earlier_told 1 (first_tables_in db) row (sym (ap (λ b. (cond b (earlier_shown 1 (first_tables_in db)) (from_second db)).host) is) ∙ there) }))
+  | inr none ↦ elim (cases_Bool (is_second_host db)) [
+    | inl is ↦ inr (inr (inl (record { second = second_of db is; version = earlier_told 2 (tables_in db) row (sym (ap (λ b. (cond b (earlier_shown 2 (tables_in db)) (from_third db)).host) is) ∙ past_one none) })))
+    | inr neither ↦ elim (cases_Bool (is_third_host db)) [
+      | inl is ↦ inr (inr (inr (record { third = third_of db is; version = earlier_told 3 (tables_in db) row (sym (ap (λ b. (cond b (earlier_shown 3 (tables_in db)) (tables_shown db)).host) is) ∙ past_two none neither) })))
+      | inr other ↦ inl (shown_host db row (sym (ap (λ b. (cond b (earlier_shown 3 (tables_in db)) (tables_shown db)).host) other) ∙ past_two none neither))
+    ]
+  ]
 ]
   where
-    later : Tables
-    later = cond (is_second_host db) (earlier_shown 2 (tables_in db)) (tables_shown db)
+    past_one : is_first_host db ≡ false → (from_second db).host ≡ row ∷ []
+    past_one none = sym (ap (λ b. (cond b (earlier_shown 1 (first_tables_in db)) (from_second db)).host) none) ∙ there
 
-    after : later.host ≡ row ∷ [] → IsHost db ⊎ (IsOfVersion1 db ⊎ IsOfVersion2 db)
-    after told = elim (cases_Bool (is_second_host db)) [
-      | inl is ↦ inr (inr (record { second = second_of db is; version = earlier_told 2 (tables_in db) row (sym (ap (λ b. (cond b (earlier_shown 2 (tables_in db)) (tables_shown db)).host) is) ∙ told) }))
-      | inr other ↦ inl (shown_host db row (sym (ap (λ b. (cond b (earlier_shown 2 (tables_in db)) (tables_shown db)).host) other) ∙ told))
-    ]
+    past_two : is_first_host db ≡ false → is_second_host db ≡ false → (from_third db).host ≡ row ∷ []
+    past_two none neither = sym (ap (λ b. (cond b (earlier_shown 2 (tables_in db)) (from_third db)).host) neither) ∙ past_one none

@@ -1,5 +1,5 @@
 -- The texts over access keys.
-use Rattle.std.proofs.Common.{◌≡◌, ℤ, pos, codes, List, [], ◌∷◌, ◌&&◌, true, false, refl, ap, ◌∙◌}
+use Rattle.std.proofs.Common.{inl, inr, ◌≡◌, ℤ, pos, codes, List, [], ◌∷◌, ◌&&◌, true, false, refl, ap, ◌∙◌}
 use Rattle.std.specs.List.{list_any}
 use Rattle.sqlite.specs.Collation.TheVariants.{Binary}
 use Rattle.sqlite.specs.declared.types.Value.TheVariants.{Null, Int, Text}
@@ -24,6 +24,7 @@ use Rattle.bh_tables.specs.Schema.{Octets, host_schema, keys_table, at}
 use Rattle.bh_tables.specs.Typed.{Totals, KeyRow, key_form, tenant_form, IsHostBy, tables_in}
 use Rattle.bh_tables.specs.Shown.{is_key, is_owned_key, is_tenant, by_key_name, shown_key, shown_secret}
 use Rattle.bh_tables.proofs.Terms.{is}
+use Rattle.bh_tables.proofs.Unfilled.{unfilled_none, none_names}
 
 -- ---- a key of a tenant, whose name no other key of the tenant has, may be added
 
@@ -39,9 +40,10 @@ new_key {sums} db host k free owned = record {
   parents = ap (λ b. b && true) (any_typed (tenant_form sums) _ (is_tenant k.tenant) (λ id t. last_term (at_texts false Eq t.tenant k.tenant)) (db.trees 1) host.held.tenants ∙ owned);
 }
 
-pub keys_unused : (db : Trees) (rows : List Row) → AreUnused host_schema db 3 rows
+-- no key has rights of its own
+pub keys_unused : {sums : Totals} (db : Database) → IsHostBy sums db → (rows : List Row) → AreUnused host_schema db.trees 3 rows
 unfolding everything
-keys_unused db rows = tt
+keys_unused db host rows = (none_names _ (db.trees 41) (unfilled_none db host 41 (inr (inr (inr (inr (inl refl)))))), tt)
 
 -- ---- the texts
 

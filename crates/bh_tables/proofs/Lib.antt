@@ -7,6 +7,7 @@ pub mod Terms
 pub mod Kept
 pub mod Checked
 pub mod Places
+pub mod Unfilled
 pub mod Statements
 pub mod HostTexts
 pub mod TenantTexts
@@ -33,3 +34,5 @@ pub mod PartTotals
 pub mod OwnedLemmas
 pub mod AloneLemmas
 pub mod UnusedText
+pub mod RemovalTexts
+pub mod RemovalLemmas

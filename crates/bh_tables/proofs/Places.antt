@@ -71,7 +71,7 @@ host sums = record {
   put = λ r l. record r { host = l };
   put_is = λ db l. refl;
   put_reads = λ r l. refl;
-  put_held = λ r l h it. record { host = it; tenants = h.tenants; keys = h.keys; buckets = h.buckets; versions = h.versions; blocks = h.blocks; refs = h.refs; uploads = h.uploads; parts = h.parts; uses = h.uses; counts = h.counts; locks = h.locks; retains = h.retains; tallies = h.tallies; tallied = h.tallied };
+  put_held = λ r l h it. record { host = it; tenants = h.tenants; keys = h.keys; buckets = h.buckets; versions = h.versions; blocks = h.blocks; refs = h.refs; uploads = h.uploads; parts = h.parts; uses = h.uses; counts = h.counts; locks = h.locks; retains = h.retains; tallies = h.tallies; tallied = h.tallied; unfilled = h.unfilled };
 }
 
 pub tenants_is : (sums : Totals) → IsTableOf (tenant_form sums) host_schema 1 (at 1 tenants_table)
@@ -91,7 +91,7 @@ tenants sums = record {
   put = λ r l. record r { tenants = l };
   put_is = λ db l. refl;
   put_reads = λ r l. refl;
-  put_held = λ r l h it. record { host = h.host; tenants = it; keys = h.keys; buckets = h.buckets; versions = h.versions; blocks = h.blocks; refs = h.refs; uploads = h.uploads; parts = h.parts; uses = h.uses; counts = h.counts; locks = h.locks; retains = h.retains; tallies = h.tallies; tallied = h.tallied };
+  put_held = λ r l h it. record { host = h.host; tenants = it; keys = h.keys; buckets = h.buckets; versions = h.versions; blocks = h.blocks; refs = h.refs; uploads = h.uploads; parts = h.parts; uses = h.uses; counts = h.counts; locks = h.locks; retains = h.retains; tallies = h.tallies; tallied = h.tallied; unfilled = h.unfilled };
 }
 
 pub keys_is : IsTableOf key_form host_schema 2 (at 3 keys_table)
@@ -111,7 +111,7 @@ keys sums = record {
   put = λ r l. record r { keys = l };
   put_is = λ db l. refl;
   put_reads = λ r l. refl;
-  put_held = λ r l h it. record { host = h.host; tenants = h.tenants; keys = it; buckets = h.buckets; versions = h.versions; blocks = h.blocks; refs = h.refs; uploads = h.uploads; parts = h.parts; uses = h.uses; counts = h.counts; locks = h.locks; retains = h.retains; tallies = h.tallies; tallied = h.tallied };
+  put_held = λ r l h it. record { host = h.host; tenants = h.tenants; keys = it; buckets = h.buckets; versions = h.versions; blocks = h.blocks; refs = h.refs; uploads = h.uploads; parts = h.parts; uses = h.uses; counts = h.counts; locks = h.locks; retains = h.retains; tallies = h.tallies; tallied = h.tallied; unfilled = h.unfilled };
 }
 
 pub buckets_is : IsTableOf bucket_form host_schema 3 (at 5 buckets_table)
@@ -131,7 +131,7 @@ buckets sums = record {
   put = λ r l. record r { buckets = l };
   put_is = λ db l. refl;
   put_reads = λ r l. refl;
-  put_held = λ r l h it. record { host = h.host; tenants = h.tenants; keys = h.keys; buckets = it; versions = h.versions; blocks = h.blocks; refs = h.refs; uploads = h.uploads; parts = h.parts; uses = h.uses; counts = h.counts; locks = h.locks; retains = h.retains; tallies = h.tallies; tallied = h.tallied };
+  put_held = λ r l h it. record { host = h.host; tenants = h.tenants; keys = h.keys; buckets = it; versions = h.versions; blocks = h.blocks; refs = h.refs; uploads = h.uploads; parts = h.parts; uses = h.uses; counts = h.counts; locks = h.locks; retains = h.retains; tallies = h.tallies; tallied = h.tallied; unfilled = h.unfilled };
 }
 
 pub versions_is : IsTableOf version_form host_schema 4 (at 7 versions_table)
@@ -151,7 +151,7 @@ versions sums = record {
   put = λ r l. record r { versions = l };
   put_is = λ db l. refl;
   put_reads = λ r l. refl;
-  put_held = λ r l h it. record { host = h.host; tenants = h.tenants; keys = h.keys; buckets = h.buckets; versions = it; blocks = h.blocks; refs = h.refs; uploads = h.uploads; parts = h.parts; uses = h.uses; counts = h.counts; locks = h.locks; retains = h.retains; tallies = h.tallies; tallied = h.tallied };
+  put_held = λ r l h it. record { host = h.host; tenants = h.tenants; keys = h.keys; buckets = h.buckets; versions = it; blocks = h.blocks; refs = h.refs; uploads = h.uploads; parts = h.parts; uses = h.uses; counts = h.counts; locks = h.locks; retains = h.retains; tallies = h.tallies; tallied = h.tallied; unfilled = h.unfilled };
 }
 
 -- the tables with other references and blocks, as they are read
@@ -178,7 +178,7 @@ blocks sums = record {
   put = λ r l. record r { blocks = l };
   put_is = λ db l. refl;
   put_reads = λ r l. reread r (typed ref_form r.refs) (typed block_form l);
-  put_held = λ r l h it. record { host = h.host; tenants = h.tenants; keys = h.keys; buckets = h.buckets; versions = h.versions; blocks = it; refs = h.refs; uploads = h.uploads; parts = h.parts; uses = h.uses; counts = h.counts; locks = h.locks; retains = h.retains; tallies = h.tallies; tallied = h.tallied };
+  put_held = λ r l h it. record { host = h.host; tenants = h.tenants; keys = h.keys; buckets = h.buckets; versions = h.versions; blocks = it; refs = h.refs; uploads = h.uploads; parts = h.parts; uses = h.uses; counts = h.counts; locks = h.locks; retains = h.retains; tallies = h.tallies; tallied = h.tallied; unfilled = h.unfilled };
 }
 
 pub refs_is : IsTableOf ref_form host_schema 6 (at 12 refs_table)
@@ -198,7 +198,7 @@ refs sums = record {
   put = λ r l. record r { refs = l };
   put_is = λ db l. refl;
   put_reads = λ r l. reread r (typed ref_form l) (typed block_form r.blocks);
-  put_held = λ r l h it. record { host = h.host; tenants = h.tenants; keys = h.keys; buckets = h.buckets; versions = h.versions; blocks = h.blocks; refs = it; uploads = h.uploads; parts = h.parts; uses = h.uses; counts = h.counts; locks = h.locks; retains = h.retains; tallies = h.tallies; tallied = h.tallied };
+  put_held = λ r l h it. record { host = h.host; tenants = h.tenants; keys = h.keys; buckets = h.buckets; versions = h.versions; blocks = h.blocks; refs = it; uploads = h.uploads; parts = h.parts; uses = h.uses; counts = h.counts; locks = h.locks; retains = h.retains; tallies = h.tallies; tallied = h.tallied; unfilled = h.unfilled };
 }
 
 pub uploads_is : (sums : Totals) → IsTableOf (upload_form sums) host_schema 7 (at 16 uploads_table)
@@ -218,7 +218,7 @@ uploads sums = record {
   put = λ r l. record r { uploads = l };
   put_is = λ db l. refl;
   put_reads = λ r l. refl;
-  put_held = λ r l h it. record { host = h.host; tenants = h.tenants; keys = h.keys; buckets = h.buckets; versions = h.versions; blocks = h.blocks; refs = h.refs; uploads = it; parts = h.parts; uses = h.uses; counts = h.counts; locks = h.locks; retains = h.retains; tallies = h.tallies; tallied = h.tallied };
+  put_held = λ r l h it. record { host = h.host; tenants = h.tenants; keys = h.keys; buckets = h.buckets; versions = h.versions; blocks = h.blocks; refs = h.refs; uploads = it; parts = h.parts; uses = h.uses; counts = h.counts; locks = h.locks; retains = h.retains; tallies = h.tallies; tallied = h.tallied; unfilled = h.unfilled };
 }
 
 pub parts_is : IsTableOf part_form host_schema 8 (at 18 parts_table)
@@ -238,7 +238,7 @@ parts sums = record {
   put = λ r l. record r { parts = l };
   put_is = λ db l. refl;
   put_reads = λ r l. refl;
-  put_held = λ r l h it. record { host = h.host; tenants = h.tenants; keys = h.keys; buckets = h.buckets; versions = h.versions; blocks = h.blocks; refs = h.refs; uploads = h.uploads; parts = it; uses = h.uses; counts = h.counts; locks = h.locks; retains = h.retains; tallies = h.tallies; tallied = h.tallied };
+  put_held = λ r l h it. record { host = h.host; tenants = h.tenants; keys = h.keys; buckets = h.buckets; versions = h.versions; blocks = h.blocks; refs = h.refs; uploads = h.uploads; parts = it; uses = h.uses; counts = h.counts; locks = h.locks; retains = h.retains; tallies = h.tallies; tallied = h.tallied; unfilled = h.unfilled };
 }
 
 pub locks_is : IsTableOf lock_form host_schema 10 (at 26 locks_table)
@@ -258,7 +258,7 @@ locks sums = record {
   put = λ r l. record r { locks = l };
   put_is = λ db l. refl;
   put_reads = λ r l. refl;
-  put_held = λ r l h it. record { host = h.host; tenants = h.tenants; keys = h.keys; buckets = h.buckets; versions = h.versions; blocks = h.blocks; refs = h.refs; uploads = h.uploads; parts = h.parts; uses = h.uses; counts = h.counts; locks = it; retains = h.retains; tallies = h.tallies; tallied = h.tallied };
+  put_held = λ r l h it. record { host = h.host; tenants = h.tenants; keys = h.keys; buckets = h.buckets; versions = h.versions; blocks = h.blocks; refs = h.refs; uploads = h.uploads; parts = h.parts; uses = h.uses; counts = h.counts; locks = it; retains = h.retains; tallies = h.tallies; tallied = h.tallied; unfilled = h.unfilled };
 }
 
 pub retains_is : IsTableOf retain_form host_schema 11 (at 28 retains_table)
@@ -278,7 +278,7 @@ retains sums = record {
   put = λ r l. record r { retains = l };
   put_is = λ db l. refl;
   put_reads = λ r l. refl;
-  put_held = λ r l h it. record { host = h.host; tenants = h.tenants; keys = h.keys; buckets = h.buckets; versions = h.versions; blocks = h.blocks; refs = h.refs; uploads = h.uploads; parts = h.parts; uses = h.uses; counts = h.counts; locks = h.locks; retains = it; tallies = h.tallies; tallied = h.tallied };
+  put_held = λ r l h it. record { host = h.host; tenants = h.tenants; keys = h.keys; buckets = h.buckets; versions = h.versions; blocks = h.blocks; refs = h.refs; uploads = h.uploads; parts = h.parts; uses = h.uses; counts = h.counts; locks = h.locks; retains = it; tallies = h.tallies; tallied = h.tallied; unfilled = h.unfilled };
 }
 
 -- ---- the columns and the table that keep what other rows have, as they are stored

@@ -1,5 +1,5 @@
 -- A write to one table leaves the others.
-use Rattle.std.proofs.Common.{◌≡◌, ◌≢◌, inl, inr, ℕ, cond, sym, ap, ◌∙◌}
+use Rattle.std.proofs.Common.{◌≡◌, ◌≢◌, inl, inr, ℕ, [], ◌++◌, cond, sym, ap, ◌∙◌}
 use Rattle.std.proofs.lemmas.Bool.{cases_eq, eq-eqb, ne_eqb}
 use Rattle.std.specs.List.{AllByRecursion}
 use Rattle.sqlite.specs.Tree.{Trees}
@@ -26,4 +26,6 @@ module _ (tree : ℕ) (db next : Trees) where
     locks = at 26 h.1.1.1.1.1.1.1.1.1.1.0 i;
     retains = at 28 h.1.1.1.1.1.1.1.1.1.1.1.0 i;
     tallies = at 30 h.1.1.1.1.1.1.1.1.1.1.1.1.0 i;
+    unfilled = at 32 h.1.1.1.1.1.1.1.1.1.1.1.1.1.0 i ++ (at 34 h.1.1.1.1.1.1.1.1.1.1.1.1.1.1.0 i ++ (at 37 h.1.1.1.1.1.1.1.1.1.1.1.1.1.1.1.0 i
+        ++ (at 39 h.1.1.1.1.1.1.1.1.1.1.1.1.1.1.1.1.0 i ++ (at 41 h.1.1.1.1.1.1.1.1.1.1.1.1.1.1.1.1.1.0 i ++ (at 43 h.1.1.1.1.1.1.1.1.1.1.1.1.1.1.1.1.1.1.0 i ++ [])))));
   }

@@ -2,6 +2,7 @@
 use Rattle.std.proofs.Common.{◌≡◌, ℕ, List, [], ◌∷◌, ◌++◌, map, filter, Bool, true, None, Ok, Err, Result, OnOk, IfOk, IfErr, IsTrue, Ordering, subst, take, pos, ◌<◌, ◌≤◌, ◌^◌, ◌⊎◌, inl, inr, sum_by, length, arith, refl, ap}
 use Rattle.std.proofs.lemmas.List.Sums.{sum_by-cons}
 use Rattle.sqlite.specs.Order.{Row}
+use Rattle.sqlite.specs.Effect.{Database}
 use Rattle.sqlite.specs.Tree.{Trees}
 use Rattle.sqlite.specs.Command.TheVariants.{Select}
 use Rattle.sqlite.specs.Query.{Query}
@@ -123,12 +124,12 @@ module _ {sums : Totals} {T : Type 0} (p : Place sums T) (old new : State) (read
     }
 
     -- the rows that pass, gone, of a table to which no other refers
-    pub deleted : (m : T → Bool) → DeleteText p.form host_schema p.number p.table sql params m → ((rows : List Row) → AreUnused host_schema old.now.trees p.table.tree rows)
+    pub deleted : (m : T → Bool) → DeleteText p.form host_schema p.number p.table sql params m → ((db : Database) → IsHostBy sums db → (rows : List Row) → AreUnused host_schema db.trees p.table.tree rows)
         → Writes sums old new (λ t. p.set t (delete_where m (p.rows t))) (λ e. is_trouble e ≡ true) result
     deleted m it unused = record {
       changes = text.delete_changes p.form host_schema orderly p.number p.table p.is old new ready_at sql params m it result runs survives;
       leaves = left (delete_where m) result survives (text.delete_removes p.form host_schema orderly p.number p.table p.is old new ready_at sql params m it result runs survives);
-      errors = λ clean unlimited. text.delete_only_trouble p.form host_schema orderly p.number p.table p.is old new ready_at sql params m it live result runs survives clean unlimited (λ was up. unused _);
+      errors = λ clean unlimited. text.delete_only_trouble p.form host_schema orderly p.number p.table p.is old new ready_at sql params m it live result runs survives clean unlimited (λ was up. unused old.now (ready was up) _);
     }
 
     -- the same of a table to which others refer, where they name none of those rows

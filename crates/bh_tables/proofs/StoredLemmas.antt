@@ -97,6 +97,7 @@ tenants_turned before used cs old new host all l =
       retains = host.held.retains;
       tallies = host.held.tallies;
       tallied = host.held.tallied;
+      unfilled = host.held.unfilled;
     } in (
       record { schema = ap (λ (d : Database). d.schema) l.now; held = subst (AreHeld after) (sym now_is) held },
       ap tables_of now_is ∙ ap (λ ts. record (tables_of was) { tenants = ts }) (sym (map-map (λ (c : TenantColumns). c.row) stored_tenant_form.decode rows) ∙ ap (map (λ (c : TenantColumns). c.row)) l.rows),
@@ -139,6 +140,7 @@ uploads_turned before kept cs old new host all l =
       retains = host.held.retains;
       tallies = host.held.tallies;
       tallied = host.held.tallied;
+      unfilled = host.held.unfilled;
     } in (
       record { schema = ap (λ (d : Database). d.schema) l.now; held = subst (AreHeld after) (sym now_is) held },
       ap tables_of now_is ∙ ap (λ us. record (tables_of was) { uploads = us }) (sym (map-map (λ (c : UploadColumns). c.row) stored_upload_form.decode rows) ∙ ap (map (λ (c : UploadColumns). c.row)) l.rows),
@@ -167,6 +169,7 @@ uses_turned sums us old new host l =
       retains = host.held.retains;
       tallies = host.held.tallies;
       tallied = host.held.tallied;
+      unfilled = host.held.unfilled;
     } in (
       record { schema = ap (λ (d : Database). d.schema) l.now; held = subst (AreHeld (record sums { uses = us })) (sym now_is) held },
       ap tables_of now_is,
@@ -195,6 +198,7 @@ tallies_turned sums ts old new host l =
       retains = host.held.retains;
       tallies = l.held;
       tallied = l.rows;
+      unfilled = host.held.unfilled;
     } in (
       record { schema = ap (λ (d : Database). d.schema) l.now; held = subst (AreHeld (record sums { tallies = ts })) (sym now_is) held },
       ap tables_of now_is,

@@ -53,7 +53,7 @@ filters_swap {X} p q (x ∷ xs) = step p q ∙ ap (λ l. cond (q x) (cond (p x) 
 -- ---- the current versions of one key, and those of the others
 
 module _ (tenant : Octets) (at : VersionRow → Bool) (alike : (v w : VersionRow) → is_later v w ≡ true → at w ≡ at v) where
-  within : (vs : List VersionRow) (p : VersionRow → Bool) → ((v w : VersionRow) → p v ≡ true → is_later v w ≡ true → p w ≡ true) → filter (is_current tenant vs) (filter p vs) ≡ current_versions tenant (filter p vs)
+  pub within : (vs : List VersionRow) (p : VersionRow → Bool) → ((v w : VersionRow) → p v ≡ true → is_later v w ≡ true → p w ≡ true) → filter (is_current tenant vs) (filter p vs) ≡ current_versions tenant (filter p vs)
   within vs p closed = same_found (is_current tenant vs) (is_current tenant (filter p vs)) (filter p vs) (all_weaker (λ v. p v ≡ true) _ one (filter p vs) (all_pass p vs))
     where
       one : (v : VersionRow) → p v ≡ true → is_current tenant vs v ≡ is_current tenant (filter p vs) v

@@ -1,5 +1,5 @@
 -- The texts over uploads, and the one that sets the number that the next upload takes.
-use Rattle.std.proofs.Common.{◌≡◌, ℕ, ℤ, pos, zero-le, codes, [], ◌∷◌, ◌&&◌, true, false, refl, sym, ap, ◌∙◌, int_cmp}
+use Rattle.std.proofs.Common.{inl, inr, ◌≡◌, ℕ, ℤ, pos, zero-le, codes, [], ◌∷◌, ◌&&◌, true, false, refl, sym, ap, ◌∙◌, int_cmp}
 use Rattle.std.specs.List.{list_any}
 use Rattle.std.specs.Cmp.Derive.{both_true}
 use Rattle.std.specs.Ordering.{int_eq}
@@ -34,6 +34,7 @@ use Rattle.bh_tables.proofs.Checked.{upload_checked, tenant_checked_still}
 use Rattle.bh_tables.proofs.PartTexts.{any_in_parts}
 use Rattle.bh_tables.proofs.Places.{Goes, uploads}
 use Rattle.bh_tables.proofs.Terms.{is, one_row}
+use Rattle.bh_tables.proofs.Unfilled.{unfilled_none, none_names}
 
 module _ (sums : Totals) where
   -- ---- an upload in a bucket, whose number no other has, may be added
@@ -78,7 +79,7 @@ module _ (sums : Totals) where
   upload_goes db host tenant upload empty = (
     none_points (upload_form sums) part_form (db.trees 16) (db.trees 18) to_uploads (is_upload tenant upload) (λ p u. bytes_eq p.tenant u.tenant && int_eq (pos p.upload) (pos u.upload)) lies_in host.held.uploads host.held.parts
         (none_named (λ p u. bytes_eq p.tenant u.tenant && int_eq (pos p.upload) (pos u.upload)) (is_upload tenant upload) (λ p. is_part_of tenant upload (bare_part p)) (named tenant upload) (tables_in db).uploads (typed part_form (db.trees 18)) (sym (any_in_parts db (is_part_of tenant upload)) ∙ empty)),
-    tt,
+    (none_names _ (db.trees 39) (unfilled_none db host 39 (inr (inr (inr (inl refl))))), tt),
   )
 
   -- ---- the texts

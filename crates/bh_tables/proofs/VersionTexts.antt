@@ -1,5 +1,5 @@
 -- The texts over versions.
-use Rattle.std.proofs.Common.{◌≡◌, Bool, ℕ, ℤ, pos, codes, List, [], ◌∷◌, filter, ◌&&◌, true, false, true≢false, refl, sym, ap, ◌∙◌, int_cmp}
+use Rattle.std.proofs.Common.{inl, inr, ◌≡◌, Bool, ℕ, ℤ, pos, codes, List, [], ◌∷◌, filter, ◌&&◌, true, false, true≢false, refl, sym, ap, ◌∙◌, int_cmp}
 use Rattle.std.specs.List.{list_any}
 use Rattle.sqlite.specs.declared.types.Value.TheVariants.{Null, Int, Text, Blob}
 use Rattle.sqlite.specs.Collation.TheVariants.{Binary}
@@ -33,6 +33,7 @@ use Rattle.bh_tables.proofs.Places.{Goes, versions}
 use Rattle.bh_tables.proofs.ResolvedLemmas.{any_resolved}
 use Rattle.bh_tables.proofs.Checked.{version_checked}
 use Rattle.bh_tables.proofs.Terms.{is, one_row, two_rows}
+use Rattle.bh_tables.proofs.Unfilled.{unfilled_none, none_names}
 
 -- ---- a version in a bucket, whose entry number and whose id no other has, may be added
 
@@ -79,7 +80,7 @@ undated_goes db host tenant bucket okey id undated = (
       let found = has_filtered goes stored v.0 v.1 in
       let date = some_from (is_retain v.0.tenant v.0.seq) (tables_in db).retains r.0 r.1 v.2 in
       both_ways (some_from (λ c. goes c && is_dated (tables_in db).retains (bare c)) stored v.0 found.0 (and_from _ _ found.1 date)) none_stored)),
-  tt,
+  (none_names _ (db.trees 37) (unfilled_none db host 37 (inr (inr (inl refl)))), tt),
 )
   where
     goes : VersionColumns → Bool

@@ -1,5 +1,5 @@
--- Whether a database is a host's, as a test, and its tables then; and the tables of a host of
--- version 1 or 2 once it is upgraded.
+-- Whether a database is a host's, as a test, and its tables then; and the tables of a host of an
+-- earlier version once it is upgraded.
 use Rattle.std.specs.Prelude.{◌≡◌, ◌==◌, ℕ, Bool, true, false, ◌&&◌, List, [], ◌∷◌, map, if◌then◌else◌}
 use Rattle.std.specs.List.{list_all}
 use Rattle.std.specs.Ordering.{is_lt}
@@ -13,9 +13,10 @@ use Rattle.sqlite.specs.Effect.{Database}
 use Rattle.sqlite_value.specs.contracts.value.Value as value
 use Rattle.sqlite_schema.specs.contracts.schema.Schema as schema
 use Rattle.bh_rows.specs.Form.{Form, typed}
-use Rattle.bh_tables.specs.Schema.{first_schema, second_schema, host_schema}
-use Rattle.bh_tables.specs.Typed.{HostRow, Tables, Totals, totals_of, untallied, Raw, raw, first_raw, second_raw, tables_in}
-use Rattle.bh_tables.specs.Typed.{first_tables_in, IsFirstHost, IsSecondHost, no_rows, host_form, tenant_form, key_form, bucket_form}
+use Rattle.bh_tables.specs.Schema.{first_schema, second_schema, third_schema, host_schema}
+use Rattle.bh_tables.specs.Typed.{HostRow, Tables, Totals, totals_of, untallied, Raw, raw, first_raw, second_raw, third_raw}
+use Rattle.bh_tables.specs.Typed.{tables_in, first_tables_in, IsFirstHost, IsSecondHost, IsThirdHost, no_rows, host_form}
+use Rattle.bh_tables.specs.Typed.{tenant_form, key_form, bucket_form}
 use Rattle.bh_tables.specs.Typed.{version_form, block_form, ref_form, upload_form, part_form, use_form, lock_form, retain_form, tally_form}
 
 -- ---- equality, by the codes of values
@@ -61,7 +62,8 @@ are_held sums r = are_rows host_form r.host && (are_rows (tenant_form sums) r.te
     && (are_rows ref_form r.refs && (are_rows (upload_form sums) r.uploads
     && (are_rows part_form r.parts && (are_rows use_form r.uses
     && (are_these use_form r.uses sums.uses && (are_rows lock_form r.locks && (are_rows retain_form r.retains
-    && (are_rows tally_form r.tallies && are_these tally_form r.tallies sums.tallies)))))))))))))
+    && (are_rows tally_form r.tallies && (are_these tally_form r.tallies sums.tallies
+    && same (coded_list coded_row) r.unfilled []))))))))))))))
 
 -- ---- databases
 
@@ -70,7 +72,12 @@ are_held sums r = are_rows host_form r.host && (are_rows (tenant_form sums) r.te
 unfoldable pub is_host : Database → Bool
 is_host db = same schema.the_row.coded db.schema host_schema && are_held (totals_of (tables_in db)) (raw db.trees)
 
--- a host's database under the second schema, which has no tallies
+-- a host's database under the third schema
+unfoldable pub is_third_host : Database → Bool
+is_third_host db = same schema.the_row.coded db.schema third_schema
+    && are_held (totals_of (tables_in db)) (third_raw db.trees)
+
+-- under the second schema, which has no tallies
 unfoldable pub is_second_host : Database → Bool
 is_second_host db = same schema.the_row.coded db.schema second_schema
     && are_held (untallied (totals_of (tables_in db))) (second_raw db.trees)
@@ -80,7 +87,7 @@ unfoldable pub is_first_host : Database → Bool
 is_first_host db = same schema.the_row.coded db.schema first_schema
     && are_held (untallied (totals_of (first_tables_in db))) (first_raw db.trees)
 
--- the tables of a host of version 1 or 2 as those of a host of version 3
+-- the tables of a host of an earlier version as those of a host of version 4
 abbrev pub with_version : ℕ → HostRow → HostRow
 with_version n h = record h { version = n }
 
@@ -88,14 +95,14 @@ abbrev pub is_of_version : ℕ → HostRow → Bool
 is_of_version n h = h.version == n
 
 abbrev pub brought_over : Tables → Tables
-brought_over tables = record tables { host = map (with_version 3) tables.host }
+brought_over tables = record tables { host = map (with_version 4) tables.host }
 
 -- the tables of a host of an earlier version once it is upgraded, if its row has that version;
 -- otherwise no rows
 abbrev pub earlier_shown : ℕ → Tables → Tables
 earlier_shown n tables = if list_all (is_of_version n) tables.host then brought_over tables else no_rows
 
--- whether a database is a host's of version 1, or of version 2
+-- whether a database is a host's of version 1, of version 2, or of version 3
 pub record IsOfVersion1 (db : Database) : Type 0 where
   pub first : IsFirstHost db
   pub version : list_all (is_of_version 1) (first_tables_in db).host ≡ true
@@ -104,6 +111,10 @@ pub record IsOfVersion2 (db : Database) : Type 0 where
   pub second : IsSecondHost db
   pub version : list_all (is_of_version 2) (tables_in db).host ≡ true
 
+pub record IsOfVersion3 (db : Database) : Type 0 where
+  pub third : IsThirdHost db
+  pub version : list_all (is_of_version 3) (tables_in db).host ≡ true
+
 -- a host's tables; a database that is not a host's has no rows
 unfoldable pub tables_shown : Database → Tables
 tables_shown db = if is_host db then tables_in db else no_rows
@@ -111,4 +122,5 @@ tables_shown db = if is_host db then tables_in db else no_rows
 -- its tables once it is opened as a host's, of any version
 unfoldable pub tables_opened : Database → Tables
 tables_opened db = if is_first_host db then earlier_shown 1 (first_tables_in db)
-    else (if is_second_host db then earlier_shown 2 (tables_in db) else tables_shown db)
+    else (if is_second_host db then earlier_shown 2 (tables_in db)
+    else (if is_third_host db then earlier_shown 3 (tables_in db) else tables_shown db))

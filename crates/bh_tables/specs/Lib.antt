@@ -7,3 +7,4 @@ pub mod Typed
 pub mod Shown
 pub mod Hosts
 pub mod Due
+pub mod Removal

@@ -4,6 +4,7 @@ use Rattle.sqlite.specs.Change.{created, indexed}
 use Rattle.bh_tables.specs.Schema.{no_schema, host_table, tenants_table, keys_table, buckets_table, versions_table, blocks_table}
 use Rattle.bh_tables.specs.Schema.{refs_table, uploads_table, parts_table, at, newest, refs_by_block, uploads_by_key, uploads_by_moment}
 use Rattle.bh_tables.specs.Schema.{uses_table, uses_by_count, first_schema, locks_table, retains_table, second_schema, tallies_table}
+use Rattle.bh_tables.specs.Schema.{third_schema, packs_table, placed_table, notes_table, upload_notes_table, rights_table, garbage_table}
 
 abbrev pub with_host : Schema
 with_host = created no_schema host_table
@@ -60,3 +61,22 @@ with_retains = created with_locks retains_table
 -- over the second schema
 abbrev pub with_tallies : Schema
 with_tallies = created second_schema tallies_table
+
+-- over the third schema
+abbrev pub with_packs : Schema
+with_packs = created third_schema packs_table
+
+abbrev pub with_placed : Schema
+with_placed = created with_packs placed_table
+
+abbrev pub with_notes : Schema
+with_notes = created with_placed notes_table
+
+abbrev pub with_upload_notes : Schema
+with_upload_notes = created with_notes upload_notes_table
+
+abbrev pub with_rights : Schema
+with_rights = created with_upload_notes rights_table
+
+abbrev pub with_garbage : Schema
+with_garbage = created with_rights garbage_table

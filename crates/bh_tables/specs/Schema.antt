@@ -1,6 +1,6 @@
--- The schema of a host as a value: thirteen tables and five indexes, each as its CREATE statement
--- defines it. The second schema, of version 2, lacks the last table; the first, of version 1, lacks
--- the last three.
+-- The schema of a host as a value: nineteen tables and five indexes, each as its CREATE statement
+-- defines it. The third schema, of version 3, lacks the last six tables; the second, of version 2,
+-- lacks one more, and the first, of version 1, two more.
 use Rattle.std.specs.Prelude.{ℕ, true, false, [], ◌∷◌, ◌++◌, List, map, Some, None, codes, pos}
 use Rattle.sqlite.specs.Collation.TheVariants.{Binary}
 use Rattle.sqlite.specs.declared.types.Value.TheVariants.{Null, Int, Text as Words}
@@ -149,6 +149,49 @@ tallies_table = table (codes "tallies") (given (codes "tenant") Text ∷ given (
     ∷ given (codes "objects") Integer ∷ []) (1 ∷ []) [] (refers (1 ∷ []) (codes "tenants") ∷ [])
     (is_natural 2 ∷ is_small 2 ∷ is_natural 3 ∷ is_small 3 ∷ is_natural 4 ∷ is_small 4 ∷ [])
 
+-- the tables that follow have no row yet. They are here, since the store can't add a column, and so
+-- that files change their version once for all of them
+
+-- the packs of bytes of blocks, by their numbers: how many bytes of each are committed, and how many
+-- of these a row of placed names. INT, since INTEGER would make the number that of the row
+abbrev pub packs_table : Table
+packs_table = table (codes "packs") (given (codes "pack") Integer ∷ given (codes "length") Integer ∷ given (codes "live") Integer ∷ [])
+    (1 ∷ []) [] [] (is_natural 1 ∷ is_natural 2 ∷ is_small 2 ∷ is_natural 3 ∷ is_small 3 ∷ [])
+
+-- where the bytes are of a block that has none in its row: so many from a place of a pack on, and
+-- their sum, of 64 bits, as the number that has these bits
+abbrev pub placed_table : Table
+placed_table = table (codes "placed")
+    (given (codes "digest") Blob ∷ given (codes "ord") Integer ∷ given (codes "pack") Integer ∷ given (codes "place") Integer
+    ∷ given (codes "size") Integer ∷ given (codes "sum") Integer ∷ [])
+    (1 ∷ 2 ∷ []) ((3 ∷ 4 ∷ []) ∷ []) (refers (1 ∷ 2 ∷ []) (codes "blocks") ∷ refers (3 ∷ []) (codes "packs") ∷ [])
+    (is_natural 2 ∷ is_natural 3 ∷ is_natural 4 ∷ is_small 4 ∷ is_natural 5 ∷ is_small 5 ∷ [])
+
+-- what a client said of a version beside its bytes, as one text of bytes
+abbrev pub notes_table : Table
+notes_table = table (codes "notes") (given (codes "tenant") Text ∷ given (codes "seq") Integer ∷ given (codes "note") Blob ∷ [])
+    (1 ∷ 2 ∷ []) [] (refers (1 ∷ 2 ∷ []) (codes "versions") ∷ []) (is_natural 2 ∷ [])
+
+-- and of an unfinished upload
+abbrev pub upload_notes_table : Table
+upload_notes_table = table (codes "upload_notes")
+    (given (codes "tenant") Text ∷ given (codes "upload") Integer ∷ given (codes "note") Blob ∷ [])
+    (1 ∷ 2 ∷ []) [] (refers (1 ∷ 2 ∷ []) (codes "uploads") ∷ []) (is_natural 2 ∷ [])
+
+-- what a key may do; one without a row may do all
+abbrev pub rights_table : Table
+rights_table = table (codes "rights") (given (codes "tenant") Text ∷ given (codes "name") Text ∷ given (codes "rights") Text ∷ [])
+    (1 ∷ 2 ∷ []) [] (refers (1 ∷ 2 ∷ []) (codes "keys") ∷ []) []
+
+-- how many bytes of blocks no reference names: at most one row, and none where they aren't counted
+abbrev pub garbage_table : Table
+garbage_table = record (table (codes "garbage") (maybe (codes "id") Integer ∷ given (codes "bytes") Integer ∷ []) (0 ∷ []) [] []
+    (op2 (Compare Eq Binary) (col 1 0) (lit (Int (pos 1))) ∷ is_natural 2 ∷ is_small 2 ∷ [])) {
+      key = Some 0;
+      uniques = [];
+      orders = [];
+    }
+
 -- ---- the schema of all tables
 
 -- the table in this tree
@@ -245,9 +288,21 @@ second_schema = record {
 }
 
 -- of version 3
-abbrev pub host_schema : Schema
-host_schema = record {
+abbrev pub third_schema : Schema
+third_schema = record {
   tables = second_schema.tables ++ at 30 tallies_table ∷ [];
   indexes = second_schema.indexes ++ auto (codes "sqlite_autoindex_tallies_1") 31 30 (1 ∷ []) ∷ [];
+  views = [];
+}
+
+-- of version 4
+abbrev pub host_schema : Schema
+host_schema = record {
+  tables = third_schema.tables ++ at 32 packs_table ∷ at 34 placed_table ∷ at 37 notes_table ∷ at 39 upload_notes_table
+      ∷ at 41 rights_table ∷ at 43 garbage_table ∷ [];
+  indexes = third_schema.indexes ++ auto (codes "sqlite_autoindex_packs_1") 33 32 (1 ∷ [])
+      ∷ auto (codes "sqlite_autoindex_placed_1") 35 34 (1 ∷ 2 ∷ []) ∷ auto (codes "sqlite_autoindex_placed_2") 36 34 (3 ∷ 4 ∷ [])
+      ∷ auto (codes "sqlite_autoindex_notes_1") 38 37 (1 ∷ 2 ∷ []) ∷ auto (codes "sqlite_autoindex_upload_notes_1") 40 39 (1 ∷ 2 ∷ [])
+      ∷ auto (codes "sqlite_autoindex_rights_1") 42 41 (1 ∷ 2 ∷ []) ∷ [];
   views = [];
 }

@@ -169,6 +169,18 @@ is_owned_key tenant k = bytes_eq k.tenant tenant
 abbrev pub is_owned_upload : Octets → UploadRow → Bool
 is_owned_upload tenant u = bytes_eq u.tenant tenant
 
+-- ---- the rows of a tenant that is removed
+
+abbrev pub is_owned_lock : Octets → LockRow → Bool
+is_owned_lock tenant l = bytes_eq l.tenant tenant
+
+abbrev pub is_owned_retain : Octets → RetainRow → Bool
+is_owned_retain tenant r = bytes_eq r.tenant tenant
+
+-- a date of one of its versions that is after a moment
+abbrev pub is_kept_after : Octets → ℕ → RetainRow → Bool
+is_kept_after tenant moment r = bytes_eq r.tenant tenant && int_lt (pos moment) (pos r.until)
+
 -- ---- the rows of a listing
 
 -- the buckets of a tenant

@@ -1,5 +1,5 @@
 -- The tables of a state of the store, each as a list of typed rows.
-use Rattle.std.specs.Prelude.{◌≡◌, ℕ, Bool, ◌+◌, ◌+ℤ◌, ◌-ℤ◌, ◌&&◌, if◌then◌else◌, pos, List, [], ◌∷◌, map, filter, length, IsTrue}
+use Rattle.std.specs.Prelude.{◌≡◌, ℕ, Bool, ◌+◌, ◌+ℤ◌, ◌-ℤ◌, ◌&&◌, if◌then◌else◌, pos, List, [], ◌∷◌, map, filter, length, IsTrue, flat_map}
 use Rattle.std.specs.List.{sum_by}
 use Rattle.std.specs.Ordering.{int_eq}
 use Rattle.sqlite_keyed.specs.Lists.{update_where}
@@ -9,7 +9,7 @@ use Rattle.sqlite.specs.Tree.{Trees}
 use Rattle.sqlite.specs.Effect.{Database}
 use Rattle.sqlite.specs.State.{State, HasCleanDisk}
 use Rattle.bh_rows.specs.Form.{AreRows, typed}
-use Rattle.bh_tables.specs.Schema.{Octets, first_schema, second_schema, host_schema}
+use Rattle.bh_tables.specs.Schema.{Octets, first_schema, second_schema, third_schema, host_schema}
 use Rattle.bh_tables.specs.Bodies.{Name, same_name, block_name, ref_name, resolved, resolved_again, resolved_part, resolved_part_again}
 use Rattle.bh_tables.specs.Entries.{has_marker, current_versions}
 pub use Rattle.bh_tables.specs.Rows.{Totals, column_number, maybe_number, number, maybe_back, HostRow, host_columns, host_of, host_form}
@@ -66,6 +66,12 @@ pub record Raw : Type 0 where
   pub locks : List Row
   pub retains : List Row
   pub tallies : List Row
+  -- of the tables that nothing fills yet
+  pub unfilled : List Row
+
+-- the trees of these tables: of packs, of places in them, of notes, of rights, and of the count of bytes that nothing names
+abbrev pub unfilled_trees : List ℕ
+unfilled_trees = 32 ∷ 34 ∷ 37 ∷ 39 ∷ 41 ∷ 43 ∷ []
 
 abbrev pub raw : Trees → Raw
 raw db = record {
@@ -82,11 +88,16 @@ raw db = record {
   locks = db 26;
   retains = db 28;
   tallies = db 30;
+  unfilled = flat_map db unfilled_trees;
 }
 
--- under the second schema, which has no table of tallies, and under the first, which has none of locks and of dates either
+-- under the third schema, which has none of the tables that nothing fills, under the second, which has no table of tallies
+-- either, and under the first, which has none of locks and of dates either
+abbrev pub third_raw : Trees → Raw
+third_raw db = record (raw db) { unfilled = [] }
+
 abbrev pub second_raw : Trees → Raw
-second_raw db = record (raw db) { tallies = [] }
+second_raw db = record (third_raw db) { tallies = [] }
 
 abbrev pub first_raw : Trees → Raw
 first_raw db = record (second_raw db) { locks = []; retains = [] }
@@ -132,6 +143,7 @@ pub record AreHeld (sums : Totals) (r : Raw) : Type 0 where
   pub retains : AreRows retain_form r.retains
   pub tallies : AreRows tally_form r.tallies
   pub tallied : typed tally_form r.tallies ≡ sums.tallies
+  pub unfilled : r.unfilled ≡ []
 
 -- a database's tables, and those of the database in a state of the store
 abbrev pub tables_in : Database → Tables
@@ -140,8 +152,8 @@ tables_in db = tables_of (raw db.trees)
 abbrev pub tables : State → Tables
 tables s = tables_in s.now
 
--- and those under the first schema; under the second it has those that it has under a host's, which
--- have no tallies
+-- and those under the first schema; under the second and the third it has those that it has under a
+-- host's, which have no tallies
 abbrev pub first_tables_in : Database → Tables
 first_tables_in db = tables_of (first_raw db.trees)
 
@@ -242,7 +254,7 @@ pub record IsHostBy (sums : Totals) (db : Database) : Type 0 where
 abbrev pub IsHost : Database → Type 0
 IsHost db = IsHostBy (totals_of (tables_in db)) db
 
--- the database is a host's of the first schema, or of the second
+-- the database is a host's of the first schema, of the second or of the third
 pub record IsFirstHost (db : Database) : Type 0 where
   pub schema : db.schema ≡ first_schema
   pub held : AreHeld (untallied (totals_of (first_tables_in db))) (first_raw db.trees)
@@ -250,6 +262,10 @@ pub record IsFirstHost (db : Database) : Type 0 where
 pub record IsSecondHost (db : Database) : Type 0 where
   pub schema : db.schema ≡ second_schema
   pub held : AreHeld (untallied (totals_of (tables_in db))) (second_raw db.trees)
+
+pub record IsThirdHost (db : Database) : Type 0 where
+  pub schema : db.schema ≡ third_schema
+  pub held : AreHeld (totals_of (tables_in db)) (third_raw db.trees)
 
 -- if the store returned what was written and the connection is open, the database is a host's
 abbrev pub IsReadyBy : Totals → State → Type 0

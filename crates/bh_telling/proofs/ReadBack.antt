@@ -5,7 +5,7 @@ use Rattle.std.specs.Str.{IsUtf8}
 use Rattle.serde_json.specs.Data.{Data, depth}
 use Rattle.serde_json.specs.Read.{read, max_depth}
 use Rattle.serde_json.proofs.OnLiterals.{serde_json_on_literals}
-use Rattle.bh_event.specs.Events.{Order, AddTenant, SetQuota, AddKey, RemoveKey, ShowUsage, ShowKeys, Message, Ordered}
+use Rattle.bh_event.specs.Events.{Order, AddTenant, SetQuota, RemoveTenant, AddKey, RemoveKey, ShowUsage, ShowKeys, Message, Ordered}
 use Rattle.bh_event.specs.Events.{SweepOrdered, ReportOrdered, TenantsOrdered, order_of}
 use Rattle.bh_event.specs.Lines.{arrival_in, arrival_at, told_by, value_in}
 use Rattle.bh_operator.specs.Orders.{ToDo, order_told, backup_told}
@@ -21,6 +21,7 @@ order_read : (order : Order) → arrival_in (object_of order) ≡ Some (arrival_
 unfolding serde_json_on_literals
 order_read (AddTenant tenant quota) = refl
 order_read (SetQuota tenant quota) = refl
+order_read (RemoveTenant tenant with_objects) = refl
 order_read (AddKey tenant name secret) = refl
 order_read (RemoveKey tenant name) = refl
 order_read (ShowUsage tenant) = refl
@@ -71,6 +72,7 @@ task_told Tenants text reading limited valid e = tenants_is text reading (told_i
 flat_order : (order : Order) → depth (object_of order) ≤ max_depth
 flat_order (AddTenant tenant quota) = omega arith
 flat_order (SetQuota tenant quota) = omega arith
+flat_order (RemoveTenant tenant with_objects) = omega arith
 flat_order (AddKey tenant name secret) = omega arith
 flat_order (RemoveKey tenant name) = omega arith
 flat_order (ShowUsage tenant) = omega arith

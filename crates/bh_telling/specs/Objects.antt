@@ -1,7 +1,8 @@
 -- The JSON object that tells an order, its members in the order of their keys.
-use Rattle.std.specs.Prelude.{ℕ, ◌≤◌, List, codes}
-use Rattle.serde_json.specs.Data.{Data, Members, null, number, unsigned, string, object, member, no_members}
-use Rattle.bh_event.specs.Events.{Order, AddTenant, SetQuota, AddKey, RemoveKey, ShowUsage, ShowKeys, Message, Requested, Ordered}
+use Rattle.std.specs.Prelude.{ℕ, ◌≤◌, Bool, List, codes}
+use Rattle.serde_json.specs.Data.{Data, Members, null, number, unsigned, boolean, string, object, member, no_members}
+use Rattle.bh_event.specs.Events.{Order, AddTenant, SetQuota, RemoveTenant, AddKey, RemoveKey, ShowUsage, ShowKeys}
+use Rattle.bh_event.specs.Events.{Message, Requested, Ordered}
 use Rattle.bh_event.specs.Events.{SweepOrdered, ReportOrdered, TenantsOrdered}
 
 -- an object with `at`, which a server doesn't look at
@@ -17,6 +18,11 @@ abbrev pub quota_set : List ℕ → ℕ → Data
 quota_set tenant quota =
     told (member (codes "op") (string (codes "quota")) (member (codes "quota") (number (unsigned quota))
     (member (codes "tenant") (string tenant) no_members)))
+
+abbrev pub tenant_remove : List ℕ → Bool → Data
+tenant_remove tenant with_objects =
+    told (member (codes "op") (string (codes "tenant-remove")) (member (codes "tenant") (string tenant)
+    (member (codes "with_objects") (boolean with_objects) no_members)))
 
 abbrev pub key_add : List ℕ → List ℕ → List ℕ → Data
 key_add tenant name secret =
@@ -49,6 +55,7 @@ backup to = told (member (codes "op") (string (codes "backup")) (member (codes "
 abbrev pub object_of : Order → Data
 object_of (AddTenant tenant bytes) = tenant_add tenant bytes
 object_of (SetQuota tenant bytes) = quota_set tenant bytes
+object_of (RemoveTenant tenant with_objects) = tenant_remove tenant with_objects
 object_of (AddKey tenant name secret) = key_add tenant name secret
 object_of (RemoveKey tenant name) = key_remove tenant name
 object_of (ShowUsage tenant) = usage tenant

@@ -23,6 +23,12 @@ fn quota(alloc: Global, tenant: &str, quota: u64) -> Result<Value, AllocError>
     json!(in alloc; {"at": 0_u64, "op": "quota", "quota": quota, "tenant": tenant})
 }
 
+fn tenant_remove(alloc: Global, tenant: &str, with_objects: bool) -> Result<Value, AllocError>
+    ensures { IfOk result (λ value. view value ≡ spec.tenant_remove tenant.now with_objects) }
+{
+    json!(in alloc; {"at": 0_u64, "op": "tenant-remove", "tenant": tenant, "with_objects": with_objects})
+}
+
 fn key_add(alloc: Global, tenant: &str, name: &str, secret: &str) -> Result<Value, AllocError>
     ensures { IfOk result (λ value. view value ≡ spec.key_add tenant.now name.now secret.now) }
 {
@@ -79,6 +85,10 @@ fn command_object(alloc: Global, command: &Command) -> Result<Value, AllocError>
             tenant,
             quota: bytes,
         } => quota(alloc, tenant.as_str(), *bytes),
+        Command::TenantRemove {
+            tenant,
+            with_objects,
+        } => tenant_remove(alloc, tenant.as_str(), *with_objects),
         Command::KeyAdd {
             tenant,
             name,

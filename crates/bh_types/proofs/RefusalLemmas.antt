@@ -41,6 +41,8 @@ use Rattle.bh_types.specs.declared.refusal.Refusal.TheVariants.{
   InvalidQuota,
   NotAHostFile,
   Unavailable,
+  TenantNotEmpty,
+  TenantRetained,
 }
 use Rattle.bh_types.specs.Refusals.{number_of}
 
@@ -85,6 +87,8 @@ refusal_at n =
     if n == 46 then Some InvalidQuota else
     if n == 47 then Some NotAHostFile else
     if n == 48 then Some Unavailable else
+    if n == 49 then Some TenantNotEmpty else
+    if n == 50 then Some TenantRetained else
     None
 
 pub refusal_at-number_of : (r : Refusal) → refusal_at (number_of r) ≡ Some r
@@ -127,3 +131,5 @@ refusal_at-number_of InvalidName = refl
 refusal_at-number_of InvalidQuota = refl
 refusal_at-number_of NotAHostFile = refl
 refusal_at-number_of Unavailable = refl
+refusal_at-number_of TenantNotEmpty = refl
+refusal_at-number_of TenantRetained = refl

@@ -41,6 +41,8 @@ use Rattle.bh_types.specs.declared.refusal.Refusal.TheVariants.{
   InvalidQuota,
   NotAHostFile,
   Unavailable,
+  TenantNotEmpty,
+  TenantRetained,
 }
 
 pub record Row : Type 0 where
@@ -93,6 +95,8 @@ row_of InvalidName = row 45 400 (codes "InvalidName")
 row_of InvalidQuota = row 46 400 (codes "InvalidQuota")
 row_of NotAHostFile = row 47 409 (codes "NotAHostFile")
 row_of Unavailable = row 48 503 (codes "Unavailable")
+row_of TenantNotEmpty = row 49 409 (codes "TenantNotEmpty")
+row_of TenantRetained = row 50 403 (codes "TenantRetained")
 
 abbrev pub number_of : Refusal → ℕ
 number_of refusal = (row_of refusal).number

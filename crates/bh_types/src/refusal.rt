@@ -4,7 +4,7 @@ ghost use Rattle.bh_types.specs.Refusals.{number_of, status_of, code_of, OneNumb
 /// The reason of a refusal.
 ///
 /// The codes of 1 to 31 answer requests, and most have their names in the Amazon S3 API Reference.
-/// Those of 41 to 48 answer operators' commands and are never sent over HTTP.
+/// Those of 41 to 50 answer operators' commands and are never sent over HTTP.
 #[derive(Clone, Copy, Debug, PartialEq, Eq)]
 pub enum Refusal {
     /// The bytes can't be parsed as a request head, or the head's framing is invalid.
@@ -85,10 +85,14 @@ pub enum Refusal {
     NotAHostFile,
     /// Memory or the store failed under an operator's command; nothing was changed.
     Unavailable,
+    /// The tenant has a bucket, and the command doesn't say that its buckets go too.
+    TenantNotEmpty,
+    /// A version of the tenant has a retention date that isn't over.
+    TenantRetained,
 }
 
 impl Refusal {
-    /// The refusal's own number: 1 to 31 for requests, 41 to 48 for operators' commands.
+    /// The refusal's own number: 1 to 31 for requests, 41 to 50 for operators' commands.
     pub fn number(self) -> u16
         ensures { result ≡ number_of self }
     {
@@ -132,6 +136,8 @@ impl Refusal {
             Refusal::InvalidQuota => 46,
             Refusal::NotAHostFile => 47,
             Refusal::Unavailable => 48,
+            Refusal::TenantNotEmpty => 49,
+            Refusal::TenantRetained => 50,
         }
     }
 
@@ -180,6 +186,8 @@ impl Refusal {
             Refusal::InvalidQuota => 400,
             Refusal::NotAHostFile => 409,
             Refusal::Unavailable => 503,
+            Refusal::TenantNotEmpty => 409,
+            Refusal::TenantRetained => 403,
         }
     }
 
@@ -227,6 +235,8 @@ impl Refusal {
             Refusal::InvalidQuota => "InvalidQuota",
             Refusal::NotAHostFile => "NotAHostFile",
             Refusal::Unavailable => "Unavailable",
+            Refusal::TenantNotEmpty => "TenantNotEmpty",
+            Refusal::TenantRetained => "TenantRetained",
         }
     }
 }

@@ -30,7 +30,7 @@ pub fn drop_entry_body<S: Alter>(
 }
 
 /// Deletes bodies, one after another.
-fn drop_bodies<S: Alter>(
+pub fn drop_bodies<S: Alter>(
     connection: &mut Connection<S>,
     tenant: &TenantName,
     bodies: &[u64],

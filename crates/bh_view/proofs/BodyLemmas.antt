@@ -19,10 +19,10 @@ use Rattle.bh_view.proofs.NameLemmas.{names, range_last, sort_by_last, all-unsor
 use Rattle.bh_view.proofs.SortLemmas.{all-sort_by}
 use Rattle.bh_view.proofs.WholeLemmas.{piece, Agree, ref_added, others_left}
 
-abbrev PlacesAre : List RefRow → Name → Type 0
+abbrev pub PlacesAre : List RefRow → Name → Type 0
 PlacesAre refs body = map (λ (r : RefRow). r.place) (placed refs body) ≡ range_with_len 0 (length (matching same_name body_name body refs))
 
-places_same : (new old : List RefRow) (body : Name) → matching same_name body_name body new ≡ matching same_name body_name body old → PlacesAre old body → PlacesAre new body
+pub places_same : (new old : List RefRow) (body : Name) → matching same_name body_name body new ≡ matching same_name body_name body old → PlacesAre old body → PlacesAre new body
 places_same new old body e was = ap (λ l. map (λ (x : RefRow). x.place) (sort_by by_place l)) e ∙ was ∙ ap (λ l. range_with_len 0 (length l)) (sym e)
 
 -- ---- blocks, and the names of bodies

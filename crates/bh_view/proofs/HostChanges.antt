@@ -5,7 +5,7 @@ use Rattle.sqlite_keyed.proofs.ListLemmas.{all_weaker}
 use Rattle.bh_types.specs.Limits.{AreLimits}
 use Rattle.bh_model.specs.State.{Octets}
 use Rattle.bh_model.specs.Runs.{last_reading}
-use Rattle.bh_tables.specs.Typed.{HostRow, Tables}
+use Rattle.bh_tables.specs.Typed.{HostRow, Tables, no_rows}
 use Rattle.bh_view.specs.View.{TenantRows, rows_of, view, latest_of, limits_in, with_latest}
 use Rattle.bh_view.specs.Sound.{IsBucketRow, IsVersionRow, IsUploadRow, IsPartRow, AreSound, IsSound}
 use Rattle.bh_view.specs.Becomes.{IsStamped}
@@ -40,6 +40,19 @@ sound_later m n up rows all =
       retains = all.retains;
     }
 
+-- no rows are sound
+pub nothing_sound : (n : ℕ) → AreSound n (rows_of [] no_rows)
+nothing_sound n = record {
+  tenants = record { each = tt; one = omega arith };
+  keys = record { each = tt; one = λ q. omega arith; owned = λ gone. refl };
+  buckets = record { each = tt; one = λ q. omega arith; owned = λ gone. refl };
+  versions = record { each = tt; one_seq = λ q. omega arith; one_id = λ b k q. omega arith; owned = λ q gone. refl; given = tt };
+  uploads = record { each = tt; one = λ q. omega arith; owned = λ q gone. refl; given = tt };
+  parts = record { each = tt; one = λ u q. omega arith; one_body = λ q. omega arith; apart = tt; owned = λ q gone. refl; given = tt };
+  locks = record { one = λ q. omega arith; owned = λ q gone. refl; enabled = tt };
+  retains = record { each = tt; one = λ q. omega arith; owned = λ q gone. refl; kept = tt };
+}
+
 -- a stamp that is not before the last one
 pub stamped : (old new : Tables) (n : ℕ) → IsSound old → latest_of old ≤ n → n ≤ last_reading → new ≡ with_latest n old → IsStamped n old new
 stamped old new n sound up top e =
@@ -70,20 +83,11 @@ stamped_again tables sound =
 pub created : (tables : Tables) (min_part max_body digest : ℕ) → AreLimits min_part max_body → digest ≤ 1 → tables ≡ new_host min_part max_body digest
     → IsSound tables × (latest_of tables ≡ 0) × ((t : Octets) → view tables t ≡ None) × (limits_in tables ≡ record { min_part = min_part; max_body = max_body })
 created tables min_part max_body digest limits known e =
-    let row : HostRow = record { version = 3; latest = 0; min_part = min_part; max_body = max_body; digest = digest } in
+    let row : HostRow = record { version = 4; latest = 0; min_part = min_part; max_body = max_body; digest = digest } in
     subst (λ (x : Tables). IsSound x × (latest_of x ≡ 0) × ((t : Octets) → view x t ≡ None) × (limits_in x ≡ record { min_part = min_part; max_body = max_body })) (sym e) (
       record {
         host = record { row = row; alone = refl; good = record { version = refl; digest = known; latest = omega arith; limits = limits } };
-        tenants = λ t. record {
-          tenants = record { each = tt; one = omega arith };
-          keys = record { each = tt; one = λ q. omega arith; owned = λ gone. refl };
-          buckets = record { each = tt; one = λ q. omega arith; owned = λ gone. refl };
-          versions = record { each = tt; one_seq = λ q. omega arith; one_id = λ b k q. omega arith; owned = λ q gone. refl; given = tt };
-          uploads = record { each = tt; one = λ q. omega arith; owned = λ q gone. refl; given = tt };
-          parts = record { each = tt; one = λ u q. omega arith; one_body = λ q. omega arith; apart = tt; owned = λ q gone. refl; given = tt };
-          locks = record { one = λ q. omega arith; owned = λ q gone. refl; enabled = tt };
-          retains = record { each = tt; one = λ q. omega arith; owned = λ q gone. refl; kept = tt };
-        };
+        tenants = λ t. nothing_sound (latest_of (new_host min_part max_body digest));
         stored = record { one = λ q. omega arith; once = λ q. omega arith; named = λ q gone. refl };
       },
       latest_is (new_host min_part max_body digest) row refl,

@@ -54,3 +54,5 @@ pub mod BoundLemmas
 pub mod SweepLemmas
 pub mod DueLemmas
 pub mod SweptLemmas
+pub mod RemovalChanges
+pub mod RemovalDates

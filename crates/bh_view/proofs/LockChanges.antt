@@ -38,7 +38,7 @@ any_pushed p [] x = elim (p x) as (λ b. (b || false) ≡ b) [ true ↦ refl | f
 any_pushed p (y ∷ ys) x = elim (p y) as (λ b. (b || list_any p (ys ++ x ∷ [])) ≡ ((b || list_any p ys) || p x)) [ true ↦ refl | false ↦ any_pushed p ys x ]
 
 -- by other rows than those that are taken out
-any_left : {T : Type 0} (p gone : T → Bool) → ((x : T) → p x ≡ true → gone x ≡ false) → (xs : List T) → list_any p (delete_where gone xs) ≡ list_any p xs
+pub any_left : {T : Type 0} (p gone : T → Bool) → ((x : T) → p x ≡ true → gone x ≡ false) → (xs : List T) → list_any p (delete_where gone xs) ≡ list_any p xs
 any_left p gone apart [] = refl
 any_left p gone apart (x ∷ xs) = elim (gone x) as (λ b. gone x ≡ b → list_any p (cond (not b) (x ∷ delete_where gone xs) (delete_where gone xs)) ≡ (p x || list_any p xs)) [
   | true ↦ λ e. any_left p gone apart xs
@@ -54,7 +54,7 @@ any_deleted p (x ∷ xs) = elim (p x) as (λ b. p x ≡ b → list_any p (cond (
   | false ↦ λ e. ap (λ b. b || list_any p (delete_where p xs)) e ∙ any_deleted p xs
 ] refl
 
-any_both : {T : Type 0} (p q : T → Bool) (xs : List T) → list_any q (filter p xs) ≡ list_any (λ x. p x && q x) xs
+pub any_both : {T : Type 0} (p q : T → Bool) (xs : List T) → list_any q (filter p xs) ≡ list_any (λ x. p x && q x) xs
 any_both p q [] = refl
 any_both p q (x ∷ xs) = elim (p x) as (λ b. list_any q (cond b (x ∷ filter p xs) (filter p xs)) ≡ ((b && q x) || list_any (λ y. p y && q y) xs)) [
   | true ↦ ap (λ b. q x || b) (any_both p q xs)

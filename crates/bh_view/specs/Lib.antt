@@ -8,3 +8,4 @@ pub mod Put
 pub mod Wanted
 pub mod Sweep
 pub mod Laws
+pub mod Removal

@@ -119,6 +119,7 @@ fn command_text(alloc: Global, reading: u64, command: &Command) -> Answer {
     let (what, tenant, name, secret) = match command {
         Command::TenantAdd { tenant, .. } => ("tenant-add", tenant.as_str(), "", ""),
         Command::Quota { tenant, .. } => ("quota", tenant.as_str(), "", ""),
+        Command::TenantRemove { tenant, .. } => ("tenant-remove", tenant.as_str(), "", ""),
         Command::KeyAdd {
             tenant,
             name,

@@ -57,3 +57,21 @@ returns-in-Retains c = rw c.in-Retains.is (table_text item.Retains refl creates.
 
 pub returns-in-Tallies : goal.returns-in-Tallies
 returns-in-Tallies c = rw c.in-Tallies.is (table_text item.Tallies refl creates.makes_tallies creates.free_tallies)
+
+pub returns-in-Packs : goal.returns-in-Packs
+returns-in-Packs c = rw c.in-Packs.is (table_text item.Packs refl creates.makes_packs creates.free_packs)
+
+pub returns-in-Placed : goal.returns-in-Placed
+returns-in-Placed c = rw c.in-Placed.is (table_text item.Placed refl creates.makes_placed creates.free_placed)
+
+pub returns-in-Notes : goal.returns-in-Notes
+returns-in-Notes c = rw c.in-Notes.is (table_text item.Notes refl creates.makes_notes creates.free_notes)
+
+pub returns-in-UploadNotes : goal.returns-in-UploadNotes
+returns-in-UploadNotes c = rw c.in-UploadNotes.is (table_text item.UploadNotes refl creates.makes_upload_notes creates.free_upload_notes)
+
+pub returns-in-Rights : goal.returns-in-Rights
+returns-in-Rights c = rw c.in-Rights.is (table_text item.Rights refl creates.makes_rights creates.free_rights)
+
+pub returns-in-Garbage : goal.returns-in-Garbage
+returns-in-Garbage c = rw c.in-Garbage.is (table_text item.Garbage refl creates.makes_garbage creates.free_garbage)

@@ -26,4 +26,4 @@ returns-clause-carries g c =
     let Clean = storage.IsClean g.S.Store c.command.new.self.host in
     let order = order_of c.args.command.now in
     shown_unless old.memo c.clear.new.self a b Clean (λ (clean : Clean). alone_is g.S.Store g.D.Digester.digest_of old c.requires (w.intact clean.0, w.opened clean.0 clean.1))
-    (λ r x y. Carries command_answer_view (tenant_of order) (ordered order) x y r) (λ trouble x y. tt) c.command.result (unless_any c.command.result _ (λ clean. none_so c.clear.new.self b.now c.clear.ensures)) h.carries
+    (λ r x y. Carries command_answer_view (tenant_of order) (ordered c.args.at order) x y r) (λ trouble x y. tt) c.command.result (unless_any c.command.result _ (λ clean. none_so c.clear.new.self b.now c.clear.ensures)) h.carries

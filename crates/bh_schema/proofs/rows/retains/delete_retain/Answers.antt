@@ -9,5 +9,5 @@ pub returns : goal.returns
 returns g c =
     let h = rw (c.to_sql.ensures, c.number.ensures) at c.write.ensures in
     let old = state g.S.Store c.args.connection.now in
-    let w = deleted retains old (state g.S.Store c.write.new.connection) c.requires.inside (λ t l. refl) c.write.result h.live (retain_deleted c.args.tenant.now c.args.seq) retains_unused h.runs h.survives in
+    let w = deleted retains old (state g.S.Store c.write.new.connection) c.requires.inside (λ t l. refl) c.write.result h.live (retain_deleted c.args.tenant.now c.args.seq) (λ sums db host. retains_unused db.trees) h.runs h.survives in
     record { writes = record { within = w.within; opens = w.opens; inside = w.inside }; holds = w.holds; trouble = w.trouble }

@@ -39,4 +39,5 @@ returns-clause-fit g c clean10 =
       locks = record { fit = refl; rises = tt };
       retains = record { fit = refl; rises = tt };
       tallies = record { fit = refl; rises = tt };
+      unfilled = (refl, (refl, (refl, (refl, (refl, (refl, tt))))));
     }
