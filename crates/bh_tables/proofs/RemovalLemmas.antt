@@ -53,6 +53,7 @@ module _ (was now : Totals) where
       retains = host.held.retains;
       tallies = host.held.tallies;
       tallied = host.held.tallied ∙ tallies;
+      unfilled = host.held.unfilled;
     };
   }
 
