@@ -1,7 +1,8 @@
 -- The rows that are counted decide as the machine does.
-use Rattle.std.proofs.Common.{◌≡◌, ◌==◌, ℕ, zero, suc, pos, int_lt, Bool, true, false, not, ◌||◌, cond, List, [], ◌∷◌, length, filter, Option, Some, None, Ok, Err, refl, sym, ap, ◌∙◌}
+use Rattle.std.proofs.Common.{arith, Result, ◌≡◌, ◌==◌, ℕ, zero, suc, pos, int_lt, Bool, true, false, not, ◌||◌, cond, List, [], ◌∷◌, length, filter, Option, Some, None, Ok, Err, refl, sym, ap, ◌∙◌}
 use Rattle.std.specs.List.{list_any}
 use Rattle.std.specs.Option.{option_map_or}
+use Rattle.std.proofs.lemmas.Bool.Decides.{nat_tests}
 use Rattle.bh_types.specs.Outcomes.{◌>>=◌, require}
 use Rattle.bh_types.specs.declared.refusal.Refusal.{Refusal}
 use Rattle.bh_types.specs.declared.refusal.Refusal.TheVariants.{TenantNotEmpty, TenantRetained}
@@ -20,12 +21,20 @@ use Rattle.bh_view.proofs.TenantChanges.{absent_rows}
 use Rattle.bh_view.proofs.UsageLemmas.{buckets_counted}
 use Rattle.bh_removal.specs.Removal.{leaves, is_empty_tenant, dates_over, may_be_removed}
 
+-- a number that has one before it is not the least
+over_none : (n : ℕ) → (suc n == 0) ≡ false
+over_none n = go (suc n == 0) refl
+  where
+    go : (b : Bool) → (suc n == 0) ≡ b → b ≡ false
+    go true is = absurd (grind (arith, nat_tests, is))
+    go false is = refl
+
 none_any : {X : Type 0} (p : X → Bool) (xs : List X) → not (list_any p xs) ≡ (length (filter p xs) == 0)
 none_any p [] = refl
 none_any p (x ∷ xs) = go (p x) (none_any p xs)
   where
-    go : (b : Bool) → not (list_any p xs) ≡ (length (filter p xs) == 0) → not (cond b true (list_any p xs)) ≡ (length (cond b (x ∷ filter p xs) (filter p xs)) == 0)
-    go true rest = refl
+    go : (b : Bool) → not (list_any p xs) ≡ (length (filter p xs) == 0) → not (b || list_any p xs) ≡ (length (cond b (x ∷ filter p xs) (filter p xs)) == 0)
+    go true rest = sym (over_none (length (filter p xs)))
     go false rest = rest
 
 module _ (tables : Tables) (t : Octets) (sound : IsSound tables) where
@@ -50,7 +59,7 @@ zero_is n m same nothing = ap (λ k. k == 0) (sym same ∙ nothing)
 
 not_zero : (n m : ℕ) → n ≡ m → (n ≡ 0 → ⊥) → (m == 0) ≡ false
 not_zero n zero same some = absurd (some same)
-not_zero n (suc m) same some = refl
+not_zero n (suc m) same some = over_none m
 
 module _ (tables : Tables) (t : Octets) (sound : IsSound tables) (n : ℕ) where
   pub empty_ok : n ≡ length (filter (is_owned_bucket t) tables.buckets) → n ≡ 0 → is_empty_tenant (view tables t) ≡ Ok tt
@@ -66,24 +75,16 @@ module _ (tables : Tables) (t : Octets) (sound : IsSound tables) (n : ℕ) where
   over_err moment counted some = ap (λ b. require b TenantRetained) (over_told tables t sound moment ∙ not_zero n _ counted some)
 
 -- what the rows decide, with the machine's step
+abbrev told : Bool → Bool → Bool → Result Outcome Refusal
+told with_objects empty late = require (with_objects || empty) TenantNotEmpty >>= (λ _. require (not late) TenantRetained >>= (λ _. Ok (Done, absent)))
+
 pub removed_so : (moment : ℕ) (with_objects : Bool) (s : Option State) → may_be_removed moment with_objects s ≡ Ok tt → leaves moment with_objects s ≡ Ok (Done, absent)
 removed_so moment with_objects None may = absurd (cc)
 removed_so moment with_objects (Some x) may = go with_objects (is_empty x.buckets) (retains moment x) may
   where
-    go : (w e r : Bool) → (cond w (Ok (tt {0})) (require e TenantNotEmpty) >>= (λ _. require (not r) TenantRetained)) ≡ Ok tt → (require (w || e) TenantNotEmpty >>= (λ _. require (not r) TenantRetained >>= (λ _. Ok {X = Outcome} (Done, absent)))) ≡ Ok (Done, absent)
+    go : (w e r : Bool) → (cond w (Ok (tt {0})) (require e TenantNotEmpty) >>= (λ _. require (not r) TenantRetained)) ≡ Ok tt → told w e r ≡ Ok (Done, absent)
     go true e true may = cc
     go true e false may = refl
     go false true true may = cc
     go false true false may = refl
-    go false false r may = cc
-
-pub refused_so : (moment : ℕ) (with_objects : Bool) (s : Option State) (e : Refusal) → may_be_removed moment with_objects s ≡ Err e → leaves moment with_objects s ≡ Err e
-refused_so moment with_objects None e may = cc
-refused_so moment with_objects (Some x) e may = go with_objects (is_empty x.buckets) (retains moment x) may
-  where
-    go : (w b r : Bool) → (cond w (Ok (tt {0})) (require b TenantNotEmpty) >>= (λ _. require (not r) TenantRetained)) ≡ Err e → (require (w || b) TenantNotEmpty >>= (λ _. require (not r) TenantRetained >>= (λ _. Ok {X = Outcome} (Done, absent)))) ≡ Err e
-    go true b true may = cc
-    go true b false may = cc
-    go false true true may = cc
-    go false true false may = cc
     go false false r may = cc

@@ -27,15 +27,19 @@ leaves moment with_objects s = do
 abbrev pub is_empty_tenant : Option State → Result (Unit {0}) Refusal
 is_empty_tenant s = require (option_map_or (λ t. is_empty t.buckets) s true) TenantNotEmpty
 
+-- the same, unless its buckets go too
+abbrev pub buckets_go : Bool → Option State → Result (Unit {0}) Refusal
+buckets_go with_objects s = if with_objects then Ok tt else is_empty_tenant s
+
 -- one of whose versions none has a date after a moment
 abbrev pub dates_over : ℕ → Option State → Result (Unit {0}) Refusal
 dates_over moment s = require (option_map_or (λ t. not (retains moment t)) s true) TenantRetained
 
--- one that is there, and of whom both hold, or the second if its buckets go too
+-- one that is there, and of whom both hold
 abbrev pub may_be_removed : ℕ → Bool → Option State → Result (Unit {0}) Refusal
 may_be_removed moment with_objects s = do
   _ ← tenant_in s
-  _ ← if with_objects then Ok tt else is_empty_tenant s
+  _ ← buckets_go with_objects s
   dates_over moment s
 
 -- ---- rows

@@ -4,7 +4,7 @@ ghost use Rattle.bh_storage.specs.Calls.{Unless, Decides};
 ghost use Rattle.bh_view.specs.View.{view};
 ghost use Rattle.bh_schema.specs.Connections.{IsClean, tables};
 ghost use Rattle.bh_schema.specs.Working.{Works, WorksOn};
-ghost use Rattle.bh_removal.specs.Removal.{is_empty_tenant, dates_over, may_be_removed};
+ghost use Rattle.bh_removal.specs.Removal.{is_empty_tenant, buckets_go, dates_over, may_be_removed};
 
 use bh_objects::reads::require_tenant;
 use bh_schema::rows::counts::{TenantSum, tenant_sum};
@@ -32,6 +32,25 @@ fn require_empty<S: Alter>(
         Ok(())
     } else {
         Err(StepError::Refused(Refusal::TenantNotEmpty))
+    }
+}
+
+/// Fails with TenantNotEmpty if a tenant has a bucket, unless its buckets go too.
+fn require_buckets_go<S: Alter>(
+    connection: &mut Connection<S>,
+    tenant: &TenantName,
+    with_objects: bool,
+) -> Result<(), StepError<Refusal>>
+    requires { Works S.Store connection.old }
+    ensures works { WorksOn S.Store (Unless result) connection.old connection.new }
+    ensures decides { IsClean S.Store connection.new
+        → Decides (λ _. tt) (buckets_go with_objects (view (tables S.Store connection.old) tenant.now))
+        (tables S.Store connection.old) (tables S.Store connection.new) result }
+{
+    if with_objects {
+        Ok(())
+    } else {
+        require_empty(connection, tenant)
     }
 }
 
@@ -70,8 +89,6 @@ pub fn require_removable<S: Alter>(
         (tables S.Store connection.old) (tables S.Store connection.new) result }
 {
     require_tenant(connection, tenant)?;
-    if !with_objects {
-        require_empty(connection, tenant)?;
-    }
+    require_buckets_go(connection, tenant, with_objects)?;
     require_over(connection, tenant, at)
 }

@@ -1,6 +1,5 @@
-use Rattle.std.proofs.Common.{rules, ap, sym, subst, ◌∙◌}
+use Rattle.std.proofs.Common.{rules, ap, ◌∙◌}
 use Rattle.sqlite.specs.Held.{state}
-use Rattle.bh_tables.specs.Typed.{Tables}
 use Rattle.bh_schema.specs.Working.{tables_at}
 use Rattle.bh_objects.proofs.Working.{host_at, same_tables, asked_working}
 use Rattle.bh_removal.specs.Removal.{taken_away}
