@@ -5,7 +5,7 @@ use crate::files::Site;
 use crate::front::Backing;
 use crate::listener::{Listener, Stream};
 use crate::log::{ClockNews, Entry, Note, clock_line, line_of, note_of};
-use crate::page::Sizes;
+use bh_figures::page::Sizes;
 use crate::socket_file::SocketFile;
 use crate::uptime::uptime;
 use bh_connection::Clock;
