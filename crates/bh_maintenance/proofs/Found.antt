@@ -41,7 +41,10 @@ no_tables db sound none one =
       | inl first ↦ subst (λ (s : Schema). AllZip IsTableRow [] s.tables) first listed
       | inr later ↦ elim later [
         | inl second ↦ subst (λ (s : Schema). AllZip IsTableRow [] s.tables) second listed
-        | inr third ↦ subst (λ (s : Schema). AllZip IsTableRow [] s.tables) third listed
+        | inr latest ↦ elim latest [
+          | inl third ↦ subst (λ (s : Schema). AllZip IsTableRow [] s.tables) third listed
+          | inr fourth ↦ subst (λ (s : Schema). AllZip IsTableRow [] s.tables) fourth listed
+        ]
       ]
     ]
 
