@@ -75,10 +75,9 @@ options subcommand.ClockAccept = server
 
 abbrev pub subcommands : List Subcommand
 subcommands = subcommand.Script ∷ subcommand.Init ∷ subcommand.TenantAdd ∷ subcommand.Quota ∷ subcommand.TenantRemove
-    ∷ subcommand.KeyAdd ∷ subcommand.KeyRemove ∷ subcommand.Keys ∷ subcommand.Usage ∷ subcommand.Tenants ∷ subcommand.Report ∷ subcommand.Check
-    ∷ subcommand.Sweep
-    ∷ subcommand.Backup ∷ subcommand.Export ∷ subcommand.Import ∷ subcommand.Serve ∷ subcommand.Tell
-    ∷ subcommand.Stop ∷ subcommand.Health ∷ subcommand.Metrics ∷ subcommand.ClockAccept ∷ []
+    ∷ subcommand.KeyAdd ∷ subcommand.KeyRemove ∷ subcommand.Keys ∷ subcommand.Usage ∷ subcommand.Tenants ∷ subcommand.Report
+    ∷ subcommand.Check ∷ subcommand.Sweep ∷ subcommand.Backup ∷ subcommand.Export ∷ subcommand.Import ∷ subcommand.Serve
+    ∷ subcommand.Tell ∷ subcommand.Stop ∷ subcommand.Health ∷ subcommand.Metrics ∷ subcommand.ClockAccept ∷ []
 
 -- a command with these options
 abbrev pub shape : Text → List OptionName → Shape
