@@ -192,7 +192,14 @@ def new_host(program, file, tenants, options, quota, env):
 
 def event_words(event):
     """The words of the subcommand that does what a script's event does."""
-    return [event["op"], *(word for name, value in event.items() if name != "op" for word in (f"--{name}", str(value)))]
+    words = [event["op"]]
+    for name, value in event.items():
+        option = f"--{name.replace('_', '-')}"
+        if isinstance(value, bool):
+            words += [option] if value else []
+        elif name != "op":
+            words += [option, str(value)]
+    return words
 
 
 # ---- requests and answers

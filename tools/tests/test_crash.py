@@ -11,7 +11,7 @@ not answered whole or not at all; `report` and a complete `sweep` say what the m
               and the server lives, unless a failure has shut its store: then it ends with status 1 after the first answer that
               finds it shut, and says why. Where it can't open its file it ends so, too. Where all calls fail from one on, the
               log has the store's code for each 503
-  commands    the same of `sweep` and `tenant-add` after a kill, and of `init`
+  commands    the same of `sweep`, `tenant-add` and `tenant-remove` after a kill, and of `init`
   openings    the same of the first opening of a file that an earlier program made, which brings it over: afterwards all of it is
               of that program's version or of this one's, and opened again it is of this one's, and tells what it told
   full disk   a tmpfs of 2 MiB, where the user is root: a put is refused, which the log says, the rest is read, and once there
@@ -436,10 +436,10 @@ def test_log_of_a_disk_that_fails(expect, program, folder, library, base, calls)
 
 class Order:
     """A command in the middle of which the disk fails or the program is killed: what it says where it is done, and a question
-    whose answers before and after it are known."""
+    whose answers before and after it are known; `leaves`: a tenant who is gone after it."""
 
-    def __init__(self, words, told, question, before, after):
-        self.words, self.told, self.question, self.before, self.after = words, told, question, before, after
+    def __init__(self, words, told, question, before, after, leaves=None):
+        self.words, self.told, self.question, self.before, self.after, self.leaves = words, told, question, before, after, leaves
 
 
 def one_order(program, folder, library, base, host, order, fault, number):
@@ -453,7 +453,8 @@ def one_order(program, folder, library, base, host, order, fault, number):
     if done not in may_be:
         return f"it said {done}, and then {order.question[0]} says {now!r}"
     then = Host([])
-    then.tenants, then.stored = dict(host.tenants), host.needed()
+    then.tenants = {name: it for name, it in host.tenants.items() if name != order.leaves or now == order.before}
+    then.stored = then.needed()
     wrong = faults(file, folder) or settled(program, file, then, {})
     told = command(program, file, "sweep", *SWEEP)[1], command(program, file, "report")[0]
     removed(file)
@@ -476,7 +477,7 @@ def one_init(program, folder, library, fault, number):
 
 
 def orders_of(program, base):
-    """A sweep and a new tenant, on a file that a killed server left, with its log."""
+    """A sweep, a new tenant, and one that goes with all it has, on a file that a killed server left, with its log."""
     host = made(program, base)
     server = Server(program, base)
     asked = Asked(server, host)
@@ -487,14 +488,17 @@ def orders_of(program, base):
     before, stored = host.report(), host.stored
     swept, after = host.swept(), host.report()
     host.stored = stored
+    blue = host.tenants["blue"].usage()
     return host, {"sweep": Order(["sweep", *SWEEP], swept, ["report"], before, after),
                   "tenant-add": Order(["tenant-add", "--tenant", "red", "--quota", "5"], "tenant red", ["usage", "--tenant", "red"],
-                                      "42 NoSuchTenant", "usage red bytes 0 quota 5")}
+                                      "42 NoSuchTenant", "usage red bytes 0 quota 5"),
+                  "tenant-remove": Order(["tenant-remove", "--tenant", "blue", "--with-objects"], "removed blue", ["usage", "--tenant", "blue"],
+                                         f"usage blue bytes {blue['Bytes']} quota {blue['Quota']}", "42 NoSuchTenant", leaves="blue")}
 
 
 @pytest.fixture(scope="session")
 def ordered(program):
-    """A host after requests, as a server that was killed leaves it, and what its model says of two commands."""
+    """A host after requests, as a server that was killed leaves it, and what its model says of some commands."""
     folder = quick_folder("orders-")
     file = os.path.join(folder, "orders")
     yield file, *orders_of(program, file)
@@ -503,7 +507,7 @@ def ordered(program):
 
 @pytest.mark.cost(50)
 @pytest.mark.parametrize("at", range(len(FAULTS)), ids=[it.name for it in FAULTS])
-@pytest.mark.parametrize("name", ["sweep", "tenant-add", "init"])
+@pytest.mark.parametrize("name", ["sweep", "tenant-add", "tenant-remove", "init"])
 def test_commands(expect, program, folder, library, ordered, full, name, at):
     (file, host, orders), preload, fault = ordered, library("refuse_call"), FAULTS[at]
     if name == "init":

@@ -107,7 +107,12 @@ ORDERS = [
     ("key-remove", "--tenant", "blue", "--name", "k2"),
     ("usage", "--tenant", "blue"),
     ("usage", "--tenant", 'a "name"\n{}'),
+    ("tenant-remove", "--tenant", "none", "--with-objects"),
+    ("tenant-remove", "--tenant", "Gr$en"),
     ("tenants",),
+    ("tenant-remove", "--tenant", "blue"),
+    ("tenant-remove", "--tenant", "blue", "--with-objects"),
+    ("keys", "--tenant", "blue"),
     ("report",),
     ("sweep", "--limit", "4294967295"),
 ]

@@ -181,8 +181,14 @@ class Drawn:
         else:
             self.ask(tenant, self.pick("PUT", "DELETE"), self.pick("/spare", bucket))
 
+    def leave(self, tenant):
+        """The tenant is removed, if it has no date, and made anew."""
+        self.order(tenant, "tenant-remove", with_objects=self.chance.randrange(4) > 0)
+        self.states[tenant], self.versions[tenant], self.uploads[tenant] = dict(BUCKETS), [], []
+        self.beginning(tenant)
+
     def account(self, tenant):
-        kind = self.chance.randrange(6)
+        kind = self.chance.randrange(7)
         if kind < 2:
             self.order(tenant, "usage")
         elif kind == 2:
@@ -191,6 +197,8 @@ class Drawn:
             self.order(tenant, "key-add", name="k2", secret="longsecret")
         elif kind == 4:
             self.order(tenant, "key-remove", name="k2")
+        elif kind == 5:
+            self.leave(tenant)
         else:
             self.ask(tenant, "GET", "/plans/x", secret="anothersecret")
 

@@ -45,6 +45,11 @@ module _ {D G K : Type 0} {g : Ghosts D} {d : digester.Ghosts G} {k : size.Ghost
     working = both_kept (λ o n. Done (kept.IsIntact n × kept.IsOpen n → IsWorking IsSound (kept.seen new.limits n))) s.working;
   }
 
+  -- what it says of the tables before it and after it
+  pub says_kept : (Says : Tables → Tables → Type 0) → (storage.IsIntact over_files b.storage.host × storage.IsOpen over_files b.storage.host → Says (recalling.seen over_files a).now (recalling.seen over_files b).now)
+      → kept.IsIntact new.storage × kept.IsOpen new.storage → Says (kept.seen old.limits old.storage).now (kept.seen new.limits new.storage).now
+  says_kept Says h = both_kept (λ o n. kept.IsIntact n × kept.IsOpen n → Says (kept.seen old.limits o).now (kept.seen new.limits n).now) h
+
 module _ {D G K : Type 0} {g : Ghosts D} {d : digester.Ghosts G} {k : size.Ghosts K} (old : KeptHost D G K g d k) (a b : RecallingStorage (FileStore D g) G) (was : old.storage ≡ Some a) where
   pub opens_kept : {X E : Type 0} (result : Result X E) (B : Type 0) → OnOk result (storage.IsOpen over_files a.storage.host → B) → OnOk result (kept.IsOpen old.storage → B)
   opens_kept result B h = subst (λ o. OnOk result (kept.IsOpen o → B)) (sym was) h

@@ -14,7 +14,7 @@ use Rattle.bh_types.specs.Limits.{HostLimits}
 use Rattle.bh_types.specs.declared.block_digest.BlockDigest.{BlockDigest}
 use Rattle.bh_types.specs.declared.block_digest.BlockDigest.TheVariants.{Sha256, Fast}
 use Rattle.bh_tables.specs.Hosts.{tables_shown, tables_opened}
-use Rattle.bh_tables.specs.Schema.{Octets, host_schema}
+use Rattle.bh_tables.specs.Schema.{Octets, first_schema, second_schema, third_schema, host_schema}
 use Rattle.bh_tables.specs.Typed.{Tables}
 use Rattle.bh_tables.proofs.HostTests.{opened_host, other_schema, unlike_second, unlike_third, second_unlike_first, third_unlike_first, third_unlike_second}
 use Rattle.bh_view.specs.Bodies.{IsSoundHost}
@@ -35,15 +35,16 @@ nothing = record { log = []; db = [] }
 
 -- a database without a list of tables has none
 no_tables : (db : Database) → IsDatabase db → db.trees catalog_tree ≡ [] → IsHostsSchema db.schema → ⊥
-no_tables db sound none one =
-    let listed = subst (λ o. AllZip IsTableRow (filter is_table_row o) db.schema.tables) none sound.lists.listed.tables in
-    elim one [
-      | inl first ↦ subst (λ (s : Schema). AllZip IsTableRow [] s.tables) first listed
-      | inr later ↦ elim later [
-        | inl second ↦ subst (λ (s : Schema). AllZip IsTableRow [] s.tables) second listed
-        | inr third ↦ subst (λ (s : Schema). AllZip IsTableRow [] s.tables) third listed
-      ]
-    ]
+no_tables db sound none = go
+  where
+    unlisted : (schema : Schema) → db.schema ≡ schema → AllZip IsTableRow [] schema.tables
+    unlisted schema is = subst (λ (s : Schema). AllZip IsTableRow [] s.tables) is (subst (λ o. AllZip IsTableRow (filter is_table_row o) db.schema.tables) none sound.lists.listed.tables)
+
+    go : IsHostsSchema db.schema → ⊥
+    go (inl first) = unlisted first_schema first
+    go (inr (inl second)) = unlisted second_schema second
+    go (inr (inr (inl third))) = unlisted third_schema third
+    go (inr (inr (inr fourth))) = unlisted host_schema fourth
 
 found_in_nothing : (trees : Trees) → AreFoundIn nothing trees → trees catalog_tree ≡ []
 found_in_nothing trees (inl it) = absurd (let some = it.3.found.present in omega arith)

@@ -3,3 +3,4 @@ pub mod WholeLemmas
 pub mod KeptLemmas
 pub mod OutboxLemmas
 pub mod SpoolLemmas
+pub mod PlacesLemmas

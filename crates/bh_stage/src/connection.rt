@@ -2,7 +2,7 @@
 
 ghost use Rattle.std.specs.Prelude.{◌≡◌, ◌≢◌, IfSome, is_some};
 ghost use Rattle.bh_stage.specs.Joins.{Joins};
-ghost use Rattle.bh_stage.specs.Places.{IsComing};
+ghost use Rattle.bh_stage.specs.Places.{IsComing, awaited};
 
 use crate::draft::{Draft, Look};
 use crate::outbox::Outbox;
@@ -74,7 +74,7 @@ pub(crate) struct Weight {
 }
 
 /// What is awaited of a connection's request.
-#[derive(Clone, Copy, PartialEq, Eq)]
+#[derive(Clone, Copy)]
 pub(crate) enum Awaited {
     Head,
     /// The rest of it.
@@ -292,7 +292,8 @@ impl<R: Source + Drop, W: Sink + Shut + Drop> Connection<R, W> {
 impl<R: Source, W> Connection<R, W> {
     /// What is awaited of its request.
     pub(crate) fn awaited(&self) -> Awaited
-        ensures { result ≢ Awaited.Nothing → IsComing self.now.state }
+        ensures is { result ≡ awaited self.now.state }
+        ensures coming { result ≢ Awaited.Nothing → IsComing self.now.state }
     {
         match &self.state {
             State::Coming(draft, _) => {

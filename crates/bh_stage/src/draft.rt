@@ -1,7 +1,7 @@
 //! A request while it comes: all the bytes that its connection gave are kept, in memory or, of a long
 //! one, in a file.
 
-ghost use Rattle.std.specs.Prelude.{◌≡◌, ◌≢◌, ◌<◌, ◌≤◌, ◌++◌, true, false, is_some};
+ghost use Rattle.std.specs.Prelude.{◌≡◌, ◌≢◌, ◌<◌, ◌≤◌, ◌++◌, ◌==◌, ◌&&◌, true, false, is_some};
 ghost use Rattle.bh_stage.specs.Joins.{Joins};
 ghost use Rattle.bh_stage.specs.Records.{bytes_of, is_ended};
 ghost use Rattle.bh_stage.specs.Spools.{rest_in};
@@ -130,7 +130,9 @@ impl<R: Source> Draft<R> {
     }
 
     /// Whether its head is still to come.
-    pub(crate) fn is_new(&self) -> bool {
+    pub(crate) fn is_new(&self) -> bool
+        ensures { result ≡ ((self.now.size == 0) && (self.now.wanted == 0)) }
+    {
         self.size == 0 && self.wanted == 0
     }
 

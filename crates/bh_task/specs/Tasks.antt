@@ -98,6 +98,7 @@ commanded it = Task (order.Command it)
 abbrev pub asked_of : OrderGiven → Asked
 asked_of (ordered.TenantAdd tenant quota) = commanded (command.TenantAdd tenant quota)
 asked_of (ordered.Quota tenant quota) = commanded (command.Quota tenant quota)
+asked_of (ordered.TenantRemove tenant with_objects) = commanded (command.TenantRemove tenant with_objects)
 asked_of (ordered.KeyAdd tenant name secret) = KeyAdd tenant name secret
 asked_of (ordered.KeyRemove tenant name) = commanded (command.KeyRemove tenant name)
 asked_of (ordered.Keys tenant) = commanded (command.Keys tenant)

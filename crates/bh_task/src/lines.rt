@@ -44,6 +44,13 @@ fn asked_of(order: OrderGiven) -> Asked
     match order {
         OrderGiven::TenantAdd { tenant, quota } => commanded(Command::TenantAdd { tenant, quota }),
         OrderGiven::Quota { tenant, quota } => commanded(Command::Quota { tenant, quota }),
+        OrderGiven::TenantRemove {
+            tenant,
+            with_objects,
+        } => commanded(Command::TenantRemove {
+            tenant,
+            with_objects,
+        }),
         OrderGiven::KeyAdd {
             tenant,
             name,

@@ -3,7 +3,7 @@
 ghost use Rattle.std.specs.Prelude.{◌≡◌, [], IfOk};
 ghost use Rattle.bh_stage.specs.Spools.{rest_of};
 
-use crate::page::Sizes;
+use bh_figures::page::Sizes;
 use bh_stage::spool::Spool;
 use std::alloc::AllocError;
 use std::fs::{File, Files, OpenOptions};

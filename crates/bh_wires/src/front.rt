@@ -9,18 +9,18 @@ ghost use Rattle.bh_operator.specs.declared.asked.Asked.TheVariants.{Health, Met
 ghost use Rattle.bh_wires.specs.Answers.{HasAccepted, StaysUnless, asked_by, caller_at, health_text as health};
 ghost use Rattle.bh_wires.specs.Ends.{IsBrought};
 ghost use Rattle.bh_wires.specs.Pace.{taken_as, measured_by};
-ghost use Rattle.bh_wires.specs.Page.{page};
-ghost use Rattle.bh_wires.specs.declared.page.Sizes.{Sizes};
+ghost use Rattle.bh_figures.specs.Page.{page};
+ghost use Rattle.bh_figures.specs.declared.page.Sizes.{Sizes};
 ghost use Rattle.bh_wires.specs.Sweeping.{IsAgain};
 
 use crate::answers::{accepted_text, health_text};
 use crate::brought::{Brought, Going, Replying};
-use crate::figures::Figures;
 use crate::log::{ClockNews, Entry, Note, note_of};
 use crate::pace::Pace;
-use crate::page::{Sizes, page_text};
 use crate::sweeping::{REPLY, Sweeping};
 use bh_connection::{Acceptor, Arrival, Clock, End, Served};
+use bh_figures::figures::Figures;
+use bh_figures::page::{Sizes, page_text};
 use bh_host::Caller;
 use bh_link::link::Link;
 use bh_operator::asked::{Asked, asked_of};

@@ -124,37 +124,7 @@ AllTold (s ∷ rest) = IsTold s × AllTold rest
 
 subs_told : AllTold (built the_command).subs
 unfolding AllTold IsTold
-subs_told = (
-  inl (leaf-told chosen.Script),
-  (
-    inl (leaf-told chosen.Init),
-    (
-      inl (leaf-told chosen.TenantAdd),
-      (
-        inl (leaf-told chosen.Quota),
-        (
-          inl (leaf-told chosen.KeyAdd),
-          (
-            inl (leaf-told chosen.KeyRemove),
-            (
-              inl (leaf-told chosen.Keys),
-              (
-                inl (leaf-told chosen.Usage),
-                (
-                  inl (leaf-told chosen.Tenants),
-                  (
-                    inl (leaf-told chosen.Report),
-                    (inl (leaf-told chosen.Check), (inl (leaf-told chosen.Sweep), (inl (leaf-told chosen.Backup), (inl (leaf-told chosen.Export), (inl (leaf-told chosen.Import), (inl (leaf-told chosen.Serve), (inl (leaf-told chosen.Tell), (inl (leaf-told chosen.Stop), (inl (leaf-told chosen.Health), (inl (leaf-told chosen.Metrics), (inl (leaf-told chosen.ClockAccept), (inr (refl, refl), tt)))))))))))),
-                  ),
-                ),
-              ),
-            ),
-          ),
-        ),
-      ),
-    ),
-  ),
-)
+subs_told = (inl (leaf-told chosen.Script), (inl (leaf-told chosen.Init), (inl (leaf-told chosen.TenantAdd), (inl (leaf-told chosen.Quota), (inl (leaf-told chosen.TenantRemove), (inl (leaf-told chosen.KeyAdd), (inl (leaf-told chosen.KeyRemove), (inl (leaf-told chosen.Keys), (inl (leaf-told chosen.Usage), (inl (leaf-told chosen.Tenants), (inl (leaf-told chosen.Report), (inl (leaf-told chosen.Check), (inl (leaf-told chosen.Sweep), (inl (leaf-told chosen.Backup), (inl (leaf-told chosen.Export), (inl (leaf-told chosen.Import), (inl (leaf-told chosen.Serve), (inl (leaf-told chosen.Tell), (inl (leaf-told chosen.Stop), (inl (leaf-told chosen.Health), (inl (leaf-told chosen.Metrics), (inl (leaf-told chosen.ClockAccept), (inr (refl, refl), tt)))))))))))))))))))))))
 
 found-told : (shapes : List Shape) (test : Shape → Bool) (s : Shape) → AllTold shapes → find test shapes ≡ Some s → IsTold s × (test s ≡ true)
 unfolding AllTold

@@ -4,7 +4,7 @@ use Rattle.clap.specs.Words.{App, Shape, Text, with_rule, with_subcommand}
 use Rattle.clap.specs.Simple.{new_shape}
 use Rattle.bh_words.specs.Options.{rule}
 use Rattle.bh_words.specs.declared.options.OptionName.{OptionName}
-use Rattle.bh_words.specs.declared.options.OptionName.TheVariants.{File, HostFile, To, From, Tenant, Name, Secret, Quota, At}
+use Rattle.bh_words.specs.declared.options.OptionName.TheVariants.{File, HostFile, To, From, Tenant, Name, Secret, Quota, WithObjects, At}
 use Rattle.bh_words.specs.declared.options.OptionName.TheVariants.{ClockLeap, Force, Limit, Port, Socket, SocketGroup, Count, Log}
 use Rattle.bh_words.specs.declared.options.OptionName.TheVariants.{Timeout, Connections, Spool, ClockStep, MinPart, MaxBody}
 use Rattle.bh_words.specs.declared.options.OptionName.TheVariants.{BlockSize, CacheBlocks, CacheBytes, Digest, OperatorPort}
@@ -17,6 +17,7 @@ word subcommand.Script = codes "script"
 word subcommand.Init = codes "init"
 word subcommand.TenantAdd = codes "tenant-add"
 word subcommand.Quota = codes "quota"
+word subcommand.TenantRemove = codes "tenant-remove"
 word subcommand.KeyAdd = codes "key-add"
 word subcommand.KeyRemove = codes "key-remove"
 word subcommand.Keys = codes "keys"
@@ -52,6 +53,7 @@ options subcommand.Script = BlockSize ∷ MinPart ∷ MaxBody ∷ CacheBlocks �
 options subcommand.Init = File ∷ MinPart ∷ MaxBody ∷ Digest ∷ []
 options subcommand.TenantAdd = Tenant ∷ Quota ∷ whereabouts ++ clock
 options subcommand.Quota = Tenant ∷ Quota ∷ whereabouts ++ clock
+options subcommand.TenantRemove = Tenant ∷ WithObjects ∷ whereabouts ++ clock
 options subcommand.KeyAdd = Tenant ∷ Name ∷ Secret ∷ whereabouts ++ clock
 options subcommand.KeyRemove = Tenant ∷ Name ∷ whereabouts ++ clock
 options subcommand.Keys = Tenant ∷ whereabouts ++ clock
@@ -72,11 +74,10 @@ options subcommand.Metrics = server
 options subcommand.ClockAccept = server
 
 abbrev pub subcommands : List Subcommand
-subcommands = subcommand.Script ∷ subcommand.Init ∷ subcommand.TenantAdd ∷ subcommand.Quota ∷ subcommand.KeyAdd
-    ∷ subcommand.KeyRemove ∷ subcommand.Keys ∷ subcommand.Usage ∷ subcommand.Tenants ∷ subcommand.Report ∷ subcommand.Check
-    ∷ subcommand.Sweep
-    ∷ subcommand.Backup ∷ subcommand.Export ∷ subcommand.Import ∷ subcommand.Serve ∷ subcommand.Tell
-    ∷ subcommand.Stop ∷ subcommand.Health ∷ subcommand.Metrics ∷ subcommand.ClockAccept ∷ []
+subcommands = subcommand.Script ∷ subcommand.Init ∷ subcommand.TenantAdd ∷ subcommand.Quota ∷ subcommand.TenantRemove
+    ∷ subcommand.KeyAdd ∷ subcommand.KeyRemove ∷ subcommand.Keys ∷ subcommand.Usage ∷ subcommand.Tenants ∷ subcommand.Report
+    ∷ subcommand.Check ∷ subcommand.Sweep ∷ subcommand.Backup ∷ subcommand.Export ∷ subcommand.Import ∷ subcommand.Serve
+    ∷ subcommand.Tell ∷ subcommand.Stop ∷ subcommand.Health ∷ subcommand.Metrics ∷ subcommand.ClockAccept ∷ []
 
 -- a command with these options
 abbrev pub shape : Text → List OptionName → Shape

@@ -56,6 +56,7 @@ pub record Place : Type 0 where
 pub data OperatorOrder : Type 0 where
   TenantAdd : (tenant : Octets) (quota : ℕ) → OperatorOrder
   Quota : (tenant : Octets) (quota : ℕ) → OperatorOrder
+  TenantRemove : (tenant : Octets) (with_objects : Bool) → OperatorOrder
   KeyAdd : (tenant : Octets) (name : Octets) (secret : Secret) → OperatorOrder
   KeyRemove : (tenant : Octets) (name : Octets) → OperatorOrder
   Keys : (tenant : Octets) → OperatorOrder
@@ -113,6 +114,7 @@ place given = record {
 abbrev pub order : OrderGiven → OperatorOrder
 order (ordered.TenantAdd tenant quota) = TenantAdd (string_bytes tenant) quota
 order (ordered.Quota tenant quota) = Quota (string_bytes tenant) quota
+order (ordered.TenantRemove tenant with_objects) = TenantRemove (string_bytes tenant) with_objects
 order (ordered.KeyAdd tenant name s) = KeyAdd (string_bytes tenant) (string_bytes name) (secret s)
 order (ordered.KeyRemove tenant name) = KeyRemove (string_bytes tenant) (string_bytes name)
 order (ordered.Keys tenant) = Keys (string_bytes tenant)

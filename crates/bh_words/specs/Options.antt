@@ -5,7 +5,7 @@ use Rattle.clap.specs.declared.builder.action.ArgAction.TheVariants.{SetTrue}
 use Rattle.clap.specs.declared.builder.value_parser.ValueParser.TheVariants.{Unsigned}
 use Rattle.bh_types.specs.Limits.{default_limits, default_tuning}
 use Rattle.bh_words.specs.declared.options.OptionName.{OptionName}
-use Rattle.bh_words.specs.declared.options.OptionName.TheVariants.{File, HostFile, To, From, Tenant, Name, Secret, Quota, At}
+use Rattle.bh_words.specs.declared.options.OptionName.TheVariants.{File, HostFile, To, From, Tenant, Name, Secret, Quota, WithObjects, At}
 use Rattle.bh_words.specs.declared.options.OptionName.TheVariants.{ClockLeap, Force, Limit, Port, Socket, SocketGroup, Count, Log}
 use Rattle.bh_words.specs.declared.options.OptionName.TheVariants.{Timeout, Connections, Spool, ClockStep, MinPart, MaxBody}
 use Rattle.bh_words.specs.declared.options.OptionName.TheVariants.{BlockSize, CacheBlocks, CacheBytes, Digest, OperatorPort}
@@ -21,6 +21,7 @@ word Tenant = codes "tenant"
 word Name = codes "name"
 word Secret = codes "secret"
 word Quota = codes "quota"
+word WithObjects = codes "with-objects"
 word At = codes "at"
 word ClockLeap = codes "clock-leap"
 word Force = codes "force"
@@ -90,6 +91,7 @@ rule Tenant = text Tenant
 rule Name = text Name
 rule Secret = text Secret
 rule Quota = required (number Quota 0 greatest)
+rule WithObjects = flag WithObjects
 rule At = number At 0 greatest
 rule ClockLeap = number ClockLeap 0 3_000_000
 rule Force = flag Force

@@ -173,6 +173,11 @@ quota rows = do
   quota ← number_at 64 option.Quota rows
   Some (line.Quota tenant quota)
 
+abbrev pub tenant_remove : List Row → Option OperatorOrder
+tenant_remove rows = do
+  tenant ← text_at option.Tenant rows
+  Some (line.TenantRemove tenant (is_given option.WithObjects rows))
+
 abbrev pub key_add : List Row → Option OperatorOrder
 key_add rows = do
   tenant ← text_at option.Tenant rows
@@ -258,6 +263,7 @@ line_at subcommand.Script = script
 line_at subcommand.Init = init
 line_at subcommand.TenantAdd = ordered tenant_add
 line_at subcommand.Quota = ordered quota
+line_at subcommand.TenantRemove = ordered tenant_remove
 line_at subcommand.KeyAdd = ordered key_add
 line_at subcommand.KeyRemove = ordered key_remove
 line_at subcommand.Keys = ordered keys

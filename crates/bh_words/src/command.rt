@@ -38,11 +38,12 @@ fn with_subcommands<'a>(
     Ok(command)
 }
 
-static SUBCOMMANDS: [Subcommand; 21] = [
+static SUBCOMMANDS: [Subcommand; 22] = [
     Subcommand::Script,
     Subcommand::Init,
     Subcommand::TenantAdd,
     Subcommand::Quota,
+    Subcommand::TenantRemove,
     Subcommand::KeyAdd,
     Subcommand::KeyRemove,
     Subcommand::Keys,

@@ -124,6 +124,12 @@ pub enum OrderGiven {
         tenant: String,
         quota: u64,
     },
+    /// Removes a tenant.
+    TenantRemove {
+        tenant: String,
+        /// Whether its buckets go with it; else it is refused while it has one.
+        with_objects: bool,
+    },
     /// Adds an access key to a tenant.
     KeyAdd {
         tenant: String,

@@ -18,6 +18,7 @@ pub(crate) enum OptionName {
     Name,
     Secret,
     Quota,
+    WithObjects,
     At,
     ClockLeap,
     Force,
@@ -57,6 +58,7 @@ impl OptionName {
             OptionName::Name => "name",
             OptionName::Secret => "secret",
             OptionName::Quota => "quota",
+            OptionName::WithObjects => "with-objects",
             OptionName::At => "at",
             OptionName::ClockLeap => "clock-leap",
             OptionName::Force => "force",
@@ -95,6 +97,8 @@ impl OptionName {
                 "The key's secret: 8 to 64 printable ASCII characters; - reads it from standard input",
             OptionName::Quota =>
                 "Maximum size of what the tenant may store, in bytes, or with a unit as in 10GB or 10GiB: 0 to 2^60",
+            OptionName::WithObjects =>
+                "Removes its buckets too, with all objects in them; without it, a tenant with a bucket stays",
             OptionName::At =>
                 "Time of the command, in seconds since 1970; without it, the machine's clock",
             OptionName::ClockLeap =>
@@ -152,6 +156,7 @@ impl OptionName {
             | OptionName::Name
             | OptionName::Secret => self.text(alloc),
             OptionName::Quota => self.number(alloc, 0, u64::MAX).required(true),
+            OptionName::WithObjects => self.flag(alloc),
             OptionName::At => self.number(alloc, 0, u64::MAX),
             OptionName::ClockLeap => self.number(alloc, 0, 3_000_000),
             OptionName::Force => self.flag(alloc),

@@ -5,8 +5,8 @@ ghost use Rattle.bh_words.specs.Lines as lines;
 ghost use Rattle.bh_words.specs.Readings as spec;
 
 use crate::given::{
-    GivenError, clock, digest, door, leap, limits, needed, number, place, secret, serving,
-    small_number, text, text_if_given, tuning,
+    GivenError, clock, digest, door, is_given, leap, limits, needed, number, place, secret,
+    serving, small_number, text, text_if_given, tuning,
 };
 use crate::lines::{Line, OrderGiven, ServerAsked};
 use crate::options::OptionName;
@@ -34,6 +34,7 @@ fn line_of(
         Subcommand::Init => init(alloc, given),
         Subcommand::TenantAdd => ordered(alloc, given, tenant_add(alloc, given)?),
         Subcommand::Quota => ordered(alloc, given, quota(alloc, given)?),
+        Subcommand::TenantRemove => ordered(alloc, given, tenant_remove(alloc, given)?),
         Subcommand::KeyAdd => ordered(alloc, given, key_add(alloc, given)?),
         Subcommand::KeyRemove => ordered(alloc, given, key_remove(alloc, given)?),
         Subcommand::Keys => ordered(alloc, given, keys(alloc, given)?),
@@ -94,6 +95,17 @@ fn quota(alloc: Global, given: &ArgMatches<'_>) -> Result<OrderGiven, GivenError
     let tenant = text(alloc, given, OptionName::Tenant)?;
     let quota = needed(number(given, OptionName::Quota))?;
     Ok(OrderGiven::Quota { tenant, quota })
+}
+
+fn tenant_remove(alloc: Global, given: &ArgMatches<'_>) -> Result<OrderGiven, GivenError>
+    ensures { spec.Gives order result (spec.tenant_remove (spec.rows_in given.now)) }
+{
+    let tenant = text(alloc, given, OptionName::Tenant)?;
+    let with_objects = is_given(given, OptionName::WithObjects);
+    Ok(OrderGiven::TenantRemove {
+        tenant,
+        with_objects,
+    })
 }
 
 fn key_add(alloc: Global, given: &ArgMatches<'_>) -> Result<OrderGiven, GivenError>

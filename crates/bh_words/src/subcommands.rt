@@ -8,7 +8,7 @@ use crate::options::OptionName::{
     At, BlockSize, CacheBlocks, CacheBytes, ClockLeap, ClockStep, Connections, Count, Digest, File,
     Force, HostFile, Limit, Log, MaxBody, MinPart, Name, OperatorPort, OperatorSecretFile,
     OperatorSocket, Order, Port, Quota, Secret, SecretFile, Socket, SocketGroup, Spool, Tenant,
-    Timeout, To,
+    Timeout, To, WithObjects,
 };
 
 /// A subcommand of the program.
@@ -18,6 +18,7 @@ pub(crate) enum Subcommand {
     Init,
     TenantAdd,
     Quota,
+    TenantRemove,
     KeyAdd,
     KeyRemove,
     Keys,
@@ -44,6 +45,18 @@ static INIT: [OptionName; 4] = [File, MinPart, MaxBody, Digest];
 static TENANT_QUOTA: [OptionName; 9] = [
     Tenant,
     Quota,
+    HostFile,
+    OperatorPort,
+    OperatorSocket,
+    OperatorSecretFile,
+    At,
+    ClockLeap,
+    Force,
+];
+
+static TENANT_REMOVE: [OptionName; 9] = [
+    Tenant,
+    WithObjects,
     HostFile,
     OperatorPort,
     OperatorSocket,
@@ -174,6 +187,7 @@ impl Subcommand {
             Subcommand::Init => ("init", "Creates a host in a file"),
             Subcommand::TenantAdd => ("tenant-add", "Adds a tenant"),
             Subcommand::Quota => ("quota", "Sets a tenant's quota"),
+            Subcommand::TenantRemove => ("tenant-remove", "Removes a tenant and its keys"),
             Subcommand::KeyAdd => ("key-add", "Adds an access key to a tenant"),
             Subcommand::KeyRemove => ("key-remove", "Removes a tenant's access key"),
             Subcommand::Keys => ("keys", "Lists a tenant's access keys"),
@@ -211,6 +225,7 @@ impl Subcommand {
             Subcommand::Script => &SCRIPT,
             Subcommand::Init => &INIT,
             Subcommand::TenantAdd | Subcommand::Quota => &TENANT_QUOTA,
+            Subcommand::TenantRemove => &TENANT_REMOVE,
             Subcommand::KeyAdd => &KEY_ADD,
             Subcommand::KeyRemove => &KEY_REMOVE,
             Subcommand::Keys | Subcommand::Usage => &ONE_TENANT,
@@ -236,6 +251,7 @@ impl Subcommand {
             "init" => Some(Subcommand::Init),
             "tenant-add" => Some(Subcommand::TenantAdd),
             "quota" => Some(Subcommand::Quota),
+            "tenant-remove" => Some(Subcommand::TenantRemove),
             "key-add" => Some(Subcommand::KeyAdd),
             "key-remove" => Some(Subcommand::KeyRemove),
             "keys" => Some(Subcommand::Keys),

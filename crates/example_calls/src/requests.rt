@@ -119,7 +119,15 @@ fn command_text(alloc: Global, reading: u64, command: &Command) -> Answer {
     let (what, tenant, name, secret) = match command {
         Command::TenantAdd { tenant, .. } => ("tenant-add", tenant.as_str(), "", ""),
         Command::Quota { tenant, .. } => ("quota", tenant.as_str(), "", ""),
-        Command::TenantRemove { tenant, .. } => ("tenant-remove", tenant.as_str(), "", ""),
+        Command::TenantRemove {
+            tenant,
+            with_objects,
+        } => (
+            "tenant-remove",
+            tenant.as_str(),
+            if *with_objects { "with_objects" } else { "" },
+            "",
+        ),
         Command::KeyAdd {
             tenant,
             name,

@@ -2,7 +2,7 @@
 
 ghost use Rattle.std.specs.Prelude.{◌≡◌, IfOk, decimal, flat_map};
 ghost use Rattle.std.specs.String.{string_bytes};
-ghost use Rattle.bh_wires.specs.Page as spec;
+ghost use Rattle.bh_figures.specs.Page as spec;
 
 use crate::figures::{BOUNDS, CLASSES, Class, Figures, METHODS, Method};
 use std::alloc::{AllocError, Global};
@@ -22,7 +22,7 @@ struct Seconds(u64);
 
 impl fmt::Display for Seconds {
     ghost use Rattle.std.specs.Prelude.{Some};
-    ghost use Rattle.bh_wires.specs.Page.{seconds};
+    ghost use Rattle.bh_figures.specs.Page.{seconds};
 
     ghost output = { λ it. Some (seconds it.0) };
 
@@ -34,11 +34,7 @@ impl fmt::Display for Seconds {
 }
 
 /// The whole page.
-pub(crate) fn page_text(
-    alloc: Global,
-    figures: &Figures,
-    sizes: Sizes,
-) -> Result<String, AllocError>
+pub fn page_text(alloc: Global, figures: &Figures, sizes: Sizes) -> Result<String, AllocError>
     ensures { IfOk result (λ text. string_bytes text ≡ spec.page figures.now sizes) }
 {
     let requests = requests(alloc, figures)?;

@@ -1,7 +1,7 @@
 use Rattle.std.proofs.Common.{◌≡◌, flat_map, take}
 use Rattle.std.specs.String.{string_bytes}
-use Rattle.bh_wires.specs.Page.{method_rows}
-use Rattle.bh_wires.proofs.page.rows_of_methods.Given as goal
+use Rattle.bh_figures.specs.Page.{method_rows}
+use Rattle.bh_figures.proofs.page.rows_of_methods.Given as goal
 
 -- the rows so far
 abbrev pub invariant-loop-method : goal.invariant-loop-method

@@ -1,10 +1,10 @@
 -- The page that Prometheus reads (text format 0.0.4).
 use Rattle.std.specs.Prelude.{ℕ, ◌++◌, ◌/◌, ◌%◌, List, [], codes, decimal, flat_map, Option, Some, None}
-use Rattle.bh_wires.specs.Figures.{bounds, classes, class_word, count_of, methods, method_word, total, within}
-use Rattle.bh_wires.specs.declared.figures.Class.{Class}
-use Rattle.bh_wires.specs.declared.figures.Figures.{Figures}
-use Rattle.bh_wires.specs.declared.figures.Method.{Method}
-use Rattle.bh_wires.specs.declared.page.Sizes.{Sizes}
+use Rattle.bh_figures.specs.Figures.{bounds, classes, class_word, count_of, methods, method_word, total, within}
+use Rattle.bh_figures.specs.declared.figures.Class.{Class}
+use Rattle.bh_figures.specs.declared.figures.Figures.{Figures}
+use Rattle.bh_figures.specs.declared.figures.Method.{Method}
+use Rattle.bh_figures.specs.declared.page.Sizes.{Sizes}
 
 -- ---- a metric
 

@@ -1,7 +1,7 @@
 //! What a server counts from its start on.
 
 ghost use Rattle.std.specs.Prelude.{◌≡◌, ◌<◌, IfSome, length, nat_le, position};
-ghost use Rattle.bh_wires.specs.Figures as spec;
+ghost use Rattle.bh_figures.specs.Figures as spec;
 
 use bh_types::moment::Moment;
 

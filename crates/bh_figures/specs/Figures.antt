@@ -2,11 +2,11 @@
 use Rattle.std.specs.Prelude.{ℕ, zero, suc, ◌+◌, ◌-◌, ◌^◌, Bool, List, [], ◌∷◌, codes, min, nat_eq, nat_le, position, unwrap_or}
 use Rattle.std.specs.Prelude.{if◌then◌else◌, fold, slice_index_or, slice_set, take, Option, Some, None}
 use Rattle.std.specs.List.{starts_with, slice_get}
-use Rattle.bh_wires.specs.declared.figures.Class.{Class}
-use Rattle.bh_wires.specs.declared.figures.Class.TheVariants.{Well, Elsewhere, Refused, Failed, Unanswered}
-use Rattle.bh_wires.specs.declared.figures.Figures.{Figures}
-use Rattle.bh_wires.specs.declared.figures.Method.{Method}
-use Rattle.bh_wires.specs.declared.figures.Method.TheVariants.{Get, Head, Put, Post, Delete, Other}
+use Rattle.bh_figures.specs.declared.figures.Class.{Class}
+use Rattle.bh_figures.specs.declared.figures.Class.TheVariants.{Well, Elsewhere, Refused, Failed, Unanswered}
+use Rattle.bh_figures.specs.declared.figures.Figures.{Figures}
+use Rattle.bh_figures.specs.declared.figures.Method.{Method}
+use Rattle.bh_figures.specs.declared.figures.Method.TheVariants.{Get, Head, Put, Post, Delete, Other}
 
 -- ---- what is counted of a request
 

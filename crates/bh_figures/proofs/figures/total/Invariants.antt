@@ -1,6 +1,6 @@
 use Rattle.std.proofs.Common.{◌≡◌, take}
-use Rattle.bh_wires.specs.Figures.{total}
-use Rattle.bh_wires.proofs.figures.total.Given as goal
+use Rattle.bh_figures.specs.Figures.{total}
+use Rattle.bh_figures.proofs.figures.total.Given as goal
 
 -- the sum so far
 abbrev pub invariant-loop-count : goal.invariant-loop-count

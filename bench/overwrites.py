@@ -1,0 +1,130 @@
+#!/usr/bin/env python3
+"""Times a tenant of 17 MiB who overwrites one object of 8 MiB over and over with new bytes, while the server sweeps by itself.
+
+    bench/overwrites.py [--seconds S] [PROGRAM]
+
+PROGRAM: crates/bucketd/out/bucketd. S: 60. It tells the most bytes that the host's file and log had, beside what is needed, and the
+milliseconds of another tenant's GETs of 1 KiB, one after another, alone and beside that. Then the rate of GETs by 8 clients, in turns
+without and with somebody who asks for the page of metrics ten times a second. Files lie in a new folder of the current one, since a disk
+is measured. It needs Debian's wrk, and fails if the file and its log had more than 1.3 times what is needed and 128 MiB.
+"""
+import argparse
+import os
+import socket
+import statistics
+import sys
+import tempfile
+import threading
+import time
+
+from server import host, need, proved_program
+from wrk import BODY, KEYS, ask, bucketd
+
+MIB, BLOCK = 1 << 20, 1 << 16
+QUOTA, SIZE = 17 * MIB, 8 * MIB
+
+
+def tell(server, line):
+    """What the server says to a line of an operator's."""
+    with socket.create_connection(("127.0.0.1", server.operators()), 60) as it:
+        it.sendall(line.encode() + b"\n")
+        return host.all_of(it)
+
+
+def put(server, path, body=b""):
+    """Puts as the tenant of 17 MiB."""
+    if host.Server.ask(server, "blue", "PUT", path, body).status != 200:
+        sys.exit(f"a put of {path} was refused")
+
+
+def on_disk(server):
+    """Bytes of the host's file and of its log."""
+    return sum(os.path.getsize(server.file + tail) for tail in host.TAILS if os.path.exists(server.file + tail))
+
+
+def overwrite(server, is_over, written):
+    """Puts, of which each block is new."""
+    body = bytearray(os.urandom(SIZE))
+    while not is_over.is_set():
+        for start in range(0, SIZE, BLOCK):
+            body[start : start + 8] = os.urandom(8)
+        put(server, "/maps/large", bytes(body))
+        written.append(SIZE)
+
+
+def gets(server, seconds):
+    """Milliseconds of GETs, one after another, and the most bytes on the disk meanwhile."""
+    took, most, ends = [], 0, time.monotonic() + seconds
+    while time.monotonic() < ends:
+        took.append(server.get("/key0", BODY))
+        most = max(most, on_disk(server))
+    return sorted(took), most
+
+
+def percentile(took):
+    return took[int(0.99 * len(took))]
+
+
+def overwrites(server, seconds):
+    """Whether the disk had no more than it may have."""
+    tell(server, f'{{"op":"tenant-add","tenant":"blue","quota":{QUOTA}}}')
+    tell(server, '{"op":"key-add","tenant":"blue","name":"k1","secret":"bluesecret"}')
+    put(server, "/maps")
+    alone, _ = gets(server, max(1, seconds // 6))
+    is_over, written = threading.Event(), []
+    writer = threading.Thread(target=overwrite, args=(server, is_over, written))
+    writer.start()
+    beside, most = gets(server, seconds)
+    is_over.set()
+    writer.join()
+    needed = SIZE + len(KEYS) * len(BODY)
+    allowed = 1.3 * needed + 128 * MIB
+    print("\n| GETs of 1 KiB by one | count | median, ms | 99 % | longest |\n|---|---|---|---|---|")
+    for name, took in (("alone", alone), ("beside overwrites", beside)):
+        print(f"| {name} | {len(took)} | {statistics.median(took):.2f} | {percentile(took):.2f} | {took[-1]:.0f} |")
+    print(f"\n{sum(written) / MIB:.0f} MiB came in {seconds} s, in {len(written)} puts. The file and its log had at most {most / MIB:.0f} MiB; "
+          f"{needed / MIB:.0f} are needed, and {allowed / MIB:.0f} are allowed. 99 % of GETs rose by {percentile(beside) - percentile(alone):.1f} ms.", flush=True)
+    return most <= allowed
+
+
+def scrape(server, is_over):
+    while not is_over.wait(0.1):
+        if not tell(server, '{"op":"metrics"}').startswith(b"#"):
+            sys.exit("no page of metrics came")
+
+
+def turn(server, target, is_asked):
+    """The rate of GETs by 8 clients."""
+    is_over = threading.Event()
+    asker = threading.Thread(target=scrape, args=(server, is_over))
+    if is_asked:
+        asker.start()
+    rate = ask(target, "GET", 8, 2).rate
+    is_over.set()
+    if is_asked:
+        asker.join()
+    return rate
+
+
+def metrics(server, target):
+    turns = [[turn(server, target, it) for it in (False, True)] for _ in range(6)]
+    ratios = sorted(asked / alone for alone, asked in turns[1:])
+    print(f"\nBeside metrics, GETs by 8 clients have {statistics.median(ratios):.2f} of the rate ({ratios[0]:.2f} to {ratios[-1]:.2f}).", flush=True)
+
+
+def main():
+    options = argparse.ArgumentParser()
+    options.add_argument("--seconds", type=int, default=60)
+    options.add_argument("program", nargs="?")
+    o = options.parse_args()
+    need(wrk="wrk")
+    program = proved_program([o.program] if o.program else [])
+    with tempfile.TemporaryDirectory(dir=".") as folder:
+        server, target = bucketd("bucketd", program, os.path.abspath(folder), "--operator-port", "0")
+        with server:
+            is_well = overwrites(server, o.seconds)
+            metrics(server, target)
+    sys.exit(0 if is_well else "the disk had more than it may have")
+
+
+main()
