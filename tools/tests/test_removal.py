@@ -46,8 +46,8 @@ def on(program, folder, expect):
 
 def answers(on, file, tenant, requests, *options):
     """What a server of a file answers a tenant, a connection each."""
-    told = ask(on, file, *(request(tenant, *it[:3], fields=it[3:]).decode() for it in requests), options=(*SMALL, *options))
-    return [Answer(data, it[0]) for data, it in zip(told, requests)]
+    sent = ask(on, file, *(request(tenant, *it[:3], fields=it[3:]).decode() for it in requests), options=(*SMALL, *options))
+    return [Answer(data, it[0]) for data, it in zip(sent, requests)]
 
 
 def done(on, name, file, tenant, requests):
