@@ -25,6 +25,7 @@ _bucketd() {
         init) words=" --file --min-part --max-body --digest --help " ;;
         tenant-add) words=" --tenant --quota --file --operator-port --operator-socket --operator-secret-file --at --clock-leap --force --help " ;;
         quota) words=" --tenant --quota --file --operator-port --operator-socket --operator-secret-file --at --clock-leap --force --help " ;;
+        tenant-remove) words=" --tenant --with-objects --file --operator-port --operator-socket --operator-secret-file --at --clock-leap --force --help " ;;
         key-add) words=" --tenant --name --secret --file --operator-port --operator-socket --operator-secret-file --at --clock-leap --force --help " ;;
         key-remove) words=" --tenant --name --file --operator-port --operator-socket --operator-secret-file --at --clock-leap --force --help " ;;
         keys) words=" --tenant --file --operator-port --operator-socket --operator-secret-file --at --clock-leap --force --help " ;;
@@ -42,14 +43,14 @@ _bucketd() {
         health) words=" --operator-port --operator-socket --operator-secret-file --help " ;;
         metrics) words=" --operator-port --operator-socket --operator-secret-file --help " ;;
         clock-accept) words=" --operator-port --operator-socket --operator-secret-file --help " ;;
-        help) [ "$COMP_CWORD" -gt 2 ] || words=" script init tenant-add quota key-add key-remove keys usage tenants report check sweep backup export import serve tell stop health metrics clock-accept " ;;
+        help) [ "$COMP_CWORD" -gt 2 ] || words=" script init tenant-add quota tenant-remove key-add key-remove keys usage tenants report check sweep backup export import serve tell stop health metrics clock-accept " ;;
         esac
         # No option comes twice.
         for option in "${COMP_WORDS[@]:2:COMP_CWORD - 2}"; do
             words=${words/ $option / }
         done
     else
-        words=" script init tenant-add quota key-add key-remove keys usage tenants report check sweep backup export import serve tell stop health metrics clock-accept help --help --version "
+        words=" script init tenant-add quota tenant-remove key-add key-remove keys usage tenants report check sweep backup export import serve tell stop health metrics clock-accept help --help --version "
     fi
     mapfile -t COMPREPLY < <(compgen -W "$words" -- "$word")
 }

@@ -56,6 +56,7 @@ def test_completions(expect, folder):
         (["init", "--max-body", "9", "--m"], ["--min-part"]), (["sweep", "--limit", "7", "--li"], []), (["report", "--file", "gr"], ["green host", "green.host"]),
         (["report", "--file", "=", "green."], ["green.host"]), (["report", "--file", "="], ["green host", "green.host"]), (["sweep", "--limit", "="], []),
         (["help", "key-"], ["key-add", "key-remove"]), (["help", "init", ""], []), (["stop", "--f"], []),
+        (["tenant-"], ["tenant-add", "tenant-remove"]), (["tenant-remove", "--tenant", "green", "--w"], ["--with-objects"]),
     ):
         done = run(["bash", "-c", COMPLETE, "bash", os.path.join(DEPLOY, "bucketd.bash"), "bucketd", *words], cwd=folder)
         found = [line for line in done.stdout.splitlines() if line]

@@ -46,8 +46,8 @@ def on(program, folder, expect):
 
 def answers(on, file, tenant, requests, *options):
     """What a server of a file answers a tenant, a connection each."""
-    told = ask(on, file, *(request(tenant, *it[:3], fields=it[3:]).decode() for it in requests), options=(*SMALL, *options))
-    return [Answer(data, it[0]) for data, it in zip(told, requests)]
+    sent = ask(on, file, *(request(tenant, *it[:3], fields=it[3:]).decode() for it in requests), options=(*SMALL, *options))
+    return [Answer(data, it[0]) for data, it in zip(sent, requests)]
 
 
 def done(on, name, file, tenant, requests):
@@ -163,7 +163,8 @@ def test_name_again(on):
     found = told(answers(on, "a", "green", READS[:1]))
     on.note("the key of before is unknown", found == [UNKNOWN], found)
     on.expect("a key", key_add("a", "k1", "greensecret"), 0, "key green$k1\n")
-    found = told(answers(on, "a", "green", [READS[0], ("PUT", "/kept", b""), ("PUT", "/kept/y", b"aaaabbbb"), ("PUT", "/kept?versioning", ENABLED), ("PUT", "/kept/y", b"a")]))
+    requests = [READS[0], ("PUT", "/kept", b""), ("PUT", "/kept/y", b"aaaabbbb"), ("PUT", "/kept?versioning", ENABLED), ("PUT", "/kept/y", b"a")]
+    found = told(answers(on, "a", "green", requests))
     on.note("no bucket of before is there", found == [(404, 12), (200, 0), (403, 24), (200, 0), (200, 0)], found)
     on.expect("a sweep", sweep("a", 100), 0, None)
     on.expect("it goes again", tenant_remove("a", "green", WITH), 0, "removed green\n")
