@@ -21,7 +21,7 @@ use Rattle.bh_schema.specs.Layer.{standing}
 use Rattle.bh_schema.specs.declared.host.Host.{Host}
 use Rattle.bh_schema.specs.Storage.{IsIntact, IsOpen, seen, seen_in, beside, left, left_in}
 use Rattle.bh_schema.proofs.Storing.{sound_host}
-use Rattle.bh_open.specs.Versions.{IsEarlierSchema, IsTypedIfEarlier}
+use Rattle.bh_open.specs.Versions.{IsEarlierSchema, IsHostsSchema, IsTypedIfEarlier}
 use Rattle.bh_open.specs.declared.open.Opened.{Opened}
 use Rattle.bh_host.specs.Runs.{Told}
 use Rattle.bh_host.specs.Turns.{Applied, WouldApply}
@@ -102,16 +102,16 @@ module _ {D G : Type 0} {g : Ghosts D} (digest : Octets → Octets) (host : Host
   found P says = ∥∥₁_map (again.merely clean) (λ it. each it.0 it.1 it.2)
     where
       each : (db : Database) → IsLeft host db → ComesBack db opened → P (seen_again opened).now ⊎ IsOlder host (seen_again opened).now
-      each db may back = elim back.schema [
-        | inl first ↦ older (inl first)
-        | inr later ↦ elim later [
-          | inl second ↦ older (inr second)
-          | inr third ↦ inl (subst P (sym (present_back opened db third back).tables) (says (tables_shown db) (left_shown host db may)))
-        ]
-      ]
+      each db may back = told back.schema
         where
           older : IsEarlierSchema db.schema → P (seen_again opened).now ⊎ IsOlder host (seen_again opened).now
           older earlier = inr (record { db = db; may = may; schema = earlier; shown = λ typed. (back.came_back typed).tables })
+
+          told : IsHostsSchema db.schema → P (seen_again opened).now ⊎ IsOlder host (seen_again opened).now
+          told (inl first) = older (inl first)
+          told (inr (inl second)) = older (inr (inl second))
+          told (inr (inr (inl third))) = older (inr (inr third))
+          told (inr (inr (inr fourth))) = inl (subst P (sym (present_back opened db fourth back).tables) (says (tables_shown db) (left_shown host db may)))
 
 -- ---- after an event on a storage that stands over a host
 
