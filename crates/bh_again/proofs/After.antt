@@ -1,5 +1,5 @@
 -- From what an event does to what an open after a stop finds.
-use Rattle.std.proofs.Common.{◌≡◌, ◌⊎◌, inl, inr, Some, None, refl, sym, subst, ◌∙◌}
+use Rattle.std.proofs.Common.{◌≡◌, ◌⊎◌, inl, inr, List, Some, None, refl, sym, subst, ◌∙◌}
 use Rattle.std.proofs.Math.Logic.{∥∥₁_map}
 use Rattle.sqlite_disk.specs.declared.Disk.{Ghosts}
 use Rattle.sqlite_store.specs.declared.store.FileStore.{FileStore}
@@ -23,7 +23,7 @@ use Rattle.bh_schema.specs.Storage.{IsIntact, IsOpen, seen, seen_in, beside, lef
 use Rattle.bh_schema.proofs.Storing.{sound_host}
 use Rattle.bh_open.specs.Versions.{IsEarlierSchema, IsHostsSchema, IsTypedIfEarlier}
 use Rattle.bh_open.specs.declared.open.Opened.{Opened}
-use Rattle.bh_host.specs.Runs.{Told}
+use Rattle.bh_host.specs.Runs.{Told, MayRemain}
 use Rattle.bh_host.specs.Turns.{Applied, WouldApply}
 use Rattle.bh_kept.specs.Over.{StandsOver, KeptStandsOver}
 use Rattle.bh_connection.specs.Connections.{IsApplied, HasAnswered}
@@ -32,7 +32,8 @@ use Rattle.bh_schema.specs.declared.host.Digester as digester
 use Rattle.bh_kept.specs.declared.host.BlockSize as size
 use Rattle.bh_kept.specs.declared.host.KeptHost.{KeptHost}
 use Rattle.bh_again.specs.Found as storages
-use Rattle.bh_again.specs.Stops.{seen_again, IsCleanAgain, CameBack, ComesBack, AllLeft, AllShown, kept_of, IsLeft, IsOlder, IsReopened, IsReady, AfterStop, AfterReply, AfterKeptStop, AfterKeptReply, OpensSound, StaysSound}
+use Rattle.bh_again.specs.Stops.{seen_again, IsCleanAgain, CameBack, ComesBack, AllLeft, AllShown, kept_of, IsLeft, IsOlder, IsReopened, IsReady, AfterStop, AfterGroup, AfterReply, AfterKeptStop, AfterKeptReply, AfterKeptGroup, OpensSound, StaysSound}
+use Rattle.bh_again.proofs.Remaining.{remains_last}
 
 -- ---- a database of the present version, and one of sound tables
 
@@ -116,7 +117,7 @@ module _ {D G : Type 0} {g : Ghosts D} (digest : Octets → Octets) (host : Host
 -- ---- after an event on a storage that stands over a host
 
 module _ {D G H : Type 0} {g : Ghosts D} (IsIntactOf IsOpenOf : H → Type 0) (seen_of : H → Seen) (left_of : H → Tables → Type 0) (digest : Octets → Octets)
-    (event : Arrival) (old new : H) (host : Host (FileStore D g) G) (opened : Opened (FileStore D g)) (over : StandsOver IsIntactOf IsOpenOf (IsSoundHost digest) seen_of left_of new host)
+    (old new : H) (host : Host (FileStore D g) G) (opened : Opened (FileStore D g)) (over : StandsOver IsIntactOf IsOpenOf (IsSoundHost digest) seen_of left_of new host)
     (ready : storages.IsReady IsIntactOf IsOpenOf seen_of left_of digest new) (again : IsReopened host opened) (clean : IsCleanAgain opened) where
   whole : IsIntactOf new
   whole = over.intact.1 (again.intact clean)
@@ -139,29 +140,29 @@ module _ {D G H : Type 0} {g : Ghosts D} (IsIntactOf IsOpenOf : H → Type 0) (s
   found_of : (P : Tables → Type 0) → ((x : Tables) → left_of new x → P x) → ∥ (P (seen_again opened).now ⊎ IsOlder host (seen_again opened).now) ∥₁
   found_of P says = found digest host opened host_ready again clean P (λ x leaves. says x ((over.leaves x).1 leaves))
 
-  leaves : (told : Told) → IsApplied IsIntactOf IsOpenOf seen_of left_of event told old new → storages.IsLeftBy IsIntactOf IsOpenOf seen_of left_of (IsOlder host) event told old new (seen_again opened).now
-  leaves (None, reply) applied = (
+  leaves : (event : Arrival) (told : Told) → IsApplied IsIntactOf IsOpenOf seen_of left_of event told old new → storages.IsLeftBy IsIntactOf IsOpenOf seen_of left_of (IsOlder host) event told old new (seen_again opened).now
+  leaves event (None, reply) applied = (
     λ up. (came up).tables ∙ (applied.applied whole up).1,
     found_of (λ x. left_of old x ⊎ (IsOpenOf old × WouldApply event (seen_of old).now x)) (applied.crash whole),
   )
-  leaves (Some m, reply) applied =
+  leaves event (Some m, reply) applied =
       let did = applied.applied whole in
       subst (λ (x : Tables). Applied event (seen_of old).now x (Some m) reply) (sym (came did.1).tables) did.2
 
-  pub survives : (told : Told) → IsApplied IsIntactOf IsOpenOf seen_of left_of event told old new
+  pub survives : (event : Arrival) (told : Told) → IsApplied IsIntactOf IsOpenOf seen_of left_of event told old new
       → storages.Survives IsIntactOf IsOpenOf seen_of left_of digest (storages.IsLeftBy IsIntactOf IsOpenOf seen_of left_of (IsOlder host) event told old new) old new (seen_again opened)
-  survives told applied = record { tables = leaves told applied; rest = rests; merely = merely }
+  survives event told applied = record { tables = leaves event told applied; rest = rests; merely = merely }
 
   -- a reply went out since
-  leaves_since : (told : Told) (ended : End) → HasAnswered IsIntactOf IsOpenOf seen_of left_of event told ended old new
+  leaves_since : (event : Arrival) (told : Told) (ended : End) → HasAnswered IsIntactOf IsOpenOf seen_of left_of event told ended old new
       → storages.IsLeftSince IsIntactOf IsOpenOf seen_of left_of (IsOlder host) event told old new (seen_again opened).now
-  leaves_since (None, reply) ended did =
+  leaves_since event (None, reply) ended did =
       let applied = did.applied whole in
       let was = did.kept.intact whole in (
         λ up. (let (before, same) = did.kept.same whole up in (came up).tables ∙ same ∙ (applied.applied was before).1),
         found_of (λ x. left_of old x ⊎ (IsOpenOf old × WouldApply event (seen_of old).now x)) (λ x leaves. applied.crash was x (did.kept.survives whole x leaves)),
       )
-  leaves_since (Some m, reply) ended did =
+  leaves_since event (Some m, reply) ended did =
       let applied = did.applied whole in
       let was = did.kept.intact whole in
       let end = (seen_of did.mid).now in (
@@ -171,9 +172,28 @@ module _ {D G H : Type 0} {g : Ghosts D} (IsIntactOf IsOpenOf : H → Type 0) (s
         found_of (λ x. x ≡ end) (λ x leaves. applied.acknowledged was x (did.kept.survives whole x leaves)),
       )
 
-  pub survives_since : (told : Told) (ended : End) → HasAnswered IsIntactOf IsOpenOf seen_of left_of event told ended old new
+  pub survives_since : (event : Arrival) (told : Told) (ended : End) → HasAnswered IsIntactOf IsOpenOf seen_of left_of event told ended old new
       → storages.Survives IsIntactOf IsOpenOf seen_of left_of digest (storages.IsLeftSince IsIntactOf IsOpenOf seen_of left_of (IsOlder host) event told old new) old new (seen_again opened)
-  survives_since told ended did = record { tables = leaves_since told ended did; rest = rests; merely = merely }
+  survives_since event told ended did = record { tables = leaves_since event told ended did; rest = rests; merely = merely }
+
+  -- after events that were applied together
+  pub all_survive : (events : List Arrival) (tolds : List Told) → storages.HaveApplied IsIntactOf IsOpenOf seen_of left_of events tolds old new
+      → storages.Survives IsIntactOf IsOpenOf seen_of left_of digest (storages.AreLeftBy IsIntactOf IsOpenOf seen_of left_of (IsOlder host) events tolds old new) old new (seen_again opened)
+  all_survive events tolds applied =
+      let ran = applied whole in
+      let x = (seen_again opened).now in
+      let may = found_of (MayRemain events tolds (left_of old) ran.end) ran.crash in
+      record {
+        tables = record {
+          end = ran.end;
+          ran = ran.ran;
+          opened = λ up. (came up).tables ∙ ran.now up;
+          acknowledged = remains_last events tolds (left_of old) (seen_of old).now ran.end x (IsOlder host x) ran.ran may;
+          crash = may;
+        };
+        rest = rests;
+        merely = merely;
+      }
 
 -- a host stands over itself
 itself : {D G : Type 0} {g : Ghosts D} (digest : Octets → Octets) (host : Host (FileStore D g) G) → StandsOver (IsIntact over_files) (IsOpen over_files) (IsSoundHost digest) (seen over_files) (left over_files) host host
@@ -181,22 +201,32 @@ itself digest host = record { intact = (λ i. i, λ i. i); opened = (λ o. o, λ
 
 pub after_stop : {D G : Type 0} {g : Ghosts D} (digest : Octets → Octets) → AfterStop g G digest
 after_stop digest event told old new opened applied ready again clean =
-    survives (IsIntact over_files) (IsOpen over_files) (seen over_files) (left over_files) digest event old new new opened (itself digest new) ready again clean told applied
+    survives (IsIntact over_files) (IsOpen over_files) (seen over_files) (left over_files) digest old new new opened (itself digest new) ready again clean event told applied
+
+pub after_group : {D G : Type 0} {g : Ghosts D} (digest : Octets → Octets) → AfterGroup g G digest
+after_group digest events tolds old new opened applied ready again clean =
+    all_survive (IsIntact over_files) (IsOpen over_files) (seen over_files) (left over_files) digest old new new opened (itself digest new) ready again clean events tolds applied
 
 pub after_reply : {D G : Type 0} {g : Ghosts D} (digest : Octets → Octets) → AfterReply g G digest
 after_reply digest event told ended old new opened did ready again clean =
-    survives_since (IsIntact over_files) (IsOpen over_files) (seen over_files) (left over_files) digest event old new new opened (itself digest new) ready again clean told ended did
+    survives_since (IsIntact over_files) (IsOpen over_files) (seen over_files) (left over_files) digest old new new opened (itself digest new) ready again clean event told ended did
 
 -- ---- after one on a host that is served
 
 pub after_kept_stop : {D G K : Type 0} {g : Ghosts D} {d : digester.Ghosts G} {k : size.Ghosts K} (digest : Octets → Octets) (s : storage.Ghosts (KeptHost D G K g d k)) → s.IsSoundStore ≡ IsSoundHost digest → KeptStandsOver s → AfterKeptStop digest s
 after_kept_stop digest s sound stands event told old new it opened applied stays is again clean =
-    survives s.IsIntact s.IsOpen s.seen s.left digest event old new it.storage.host opened
+    survives s.IsIntact s.IsOpen s.seen s.left digest old new it.storage.host opened
     (subst (λ (P : Tables → Type 0). StandsOver s.IsIntact s.IsOpen P s.seen s.left new it.storage.host) sound (stands new it is))
-    (subst (λ (P : Tables → Type 0). s.IsIntact new × s.IsOpen new → IsAtRest P (s.seen new)) sound stays.ready) again clean told applied
+    (subst (λ (P : Tables → Type 0). s.IsIntact new × s.IsOpen new → IsAtRest P (s.seen new)) sound stays.ready) again clean event told applied
 
 pub after_kept_reply : {D G K : Type 0} {g : Ghosts D} {d : digester.Ghosts G} {k : size.Ghosts K} (digest : Octets → Octets) (s : storage.Ghosts (KeptHost D G K g d k)) → s.IsSoundStore ≡ IsSoundHost digest → KeptStandsOver s → AfterKeptReply digest s
 after_kept_reply digest s sound stands event told ended old new it opened did stays is again clean =
-    survives_since s.IsIntact s.IsOpen s.seen s.left digest event old new it.storage.host opened
+    survives_since s.IsIntact s.IsOpen s.seen s.left digest old new it.storage.host opened
     (subst (λ (P : Tables → Type 0). StandsOver s.IsIntact s.IsOpen P s.seen s.left new it.storage.host) sound (stands new it is))
-    (subst (λ (P : Tables → Type 0). s.IsIntact new × s.IsOpen new → IsAtRest P (s.seen new)) sound stays.ready) again clean told ended did
+    (subst (λ (P : Tables → Type 0). s.IsIntact new × s.IsOpen new → IsAtRest P (s.seen new)) sound stays.ready) again clean event told ended did
+
+pub after_kept_group : {D G K : Type 0} {g : Ghosts D} {d : digester.Ghosts G} {k : size.Ghosts K} (digest : Octets → Octets) (s : storage.Ghosts (KeptHost D G K g d k)) → s.IsSoundStore ≡ IsSoundHost digest → KeptStandsOver s → AfterKeptGroup digest s
+after_kept_group digest s sound stands events tolds old new it opened applied stays is again clean =
+    all_survive s.IsIntact s.IsOpen s.seen s.left digest old new it.storage.host opened
+    (subst (λ (P : Tables → Type 0). StandsOver s.IsIntact s.IsOpen P s.seen s.left new it.storage.host) sound (stands new it is))
+    (subst (λ (P : Tables → Type 0). s.IsIntact new × s.IsOpen new → IsAtRest P (s.seen new)) sound stays.ready) again clean events tolds applied

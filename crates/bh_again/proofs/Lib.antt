@@ -1,3 +1,4 @@
 mod Restart
 mod Back
+mod Remaining
 mod After

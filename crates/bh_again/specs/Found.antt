@@ -1,11 +1,12 @@
--- What an event of a storage leaves for an open after a stop.
-use Rattle.std.specs.Prelude.{◌≡◌, ◌⊎◌, Some, None}
+-- What an event of a storage leaves for an open after a stop, and what events that are applied together leave.
+use Rattle.std.specs.Prelude.{◌≡◌, ◌⊎◌, List, Some, None, IfSome}
 use Rattle.bh_model.specs.State.{Octets}
 use Rattle.bh_event.specs.Events.{Arrival}
 use Rattle.bh_tables.specs.Typed.{Tables}
 use Rattle.bh_view.specs.Bodies.{IsSoundHost}
 use Rattle.bh_storage.specs.Calls.{Seen, Clean, IsAtRest, LeavesSound}
-use Rattle.bh_host.specs.Runs.{Told}
+use Rattle.bh_host.specs.Groups.{last_stamp}
+use Rattle.bh_host.specs.Runs.{Told, Ran, RanOn, MayRemain}
 use Rattle.bh_host.specs.Turns.{Applied, WouldApply}
 
 module _ {H : Type 0} (IsIntact IsOpen : H → Type 0) (seen : H → Seen) (left : H → Tables → Type 0) where
@@ -18,6 +19,10 @@ module _ {H : Type 0} (IsIntact IsOpen : H → Type 0) (seen : H → Seen) (left
   -- all tables that a crash may leave
   abbrev pub AllLeft : (Tables → Type 0) → H → Type 0
   AllLeft P h = (x : Tables) → left h x → P x
+
+  -- events were applied together, as `bh_host::apply_together` promises
+  abbrev pub HaveApplied : List Arrival → List Told → H → H → Type 0
+  HaveApplied events tolds old new = IsIntact new → RanOn IsOpen seen left events tolds old new
 
   module _ (IsOlder : Tables → Type 0) where
     -- a storage's tables after an event, a stop and an open. With a stamp: the event's effect.
@@ -37,6 +42,18 @@ module _ {H : Type 0} (IsIntact IsOpen : H → Type 0) (seen : H → Seen) (left
     IsLeftSince event (Some m, reply) old new x =
         (end : Tables) × Applied event (seen old).now end (Some m) reply × (IsOpen new → x ≡ end)
         × ∥ ((x ≡ end) ⊎ IsOlder x) ∥₁
+
+    -- a storage's tables after events that were applied together, a stop and an open: those after all of
+    -- them, if no fault has shut the store, or if the last has a stamp, which it has once their commit
+    -- returned. Otherwise those that may remain: after the last event with a stamp, or before all of
+    -- them, or what a commit of some since would have written. A database of an earlier version is as
+    -- for one event
+    pub record AreLeftBy (events : List Arrival) (tolds : List Told) (old new : H) (x : Tables) : Type 0 where
+      pub end : Tables
+      pub ran : Ran events tolds (seen old).now end
+      pub opened : IsOpen new → x ≡ end
+      pub acknowledged : IfSome (last_stamp None tolds) (λ _. ∥ ((x ≡ end) ⊎ IsOlder x) ∥₁)
+      pub crash : ∥ (MayRemain events tolds (left old) end x ⊎ IsOlder x) ∥₁
 
   -- an open found tables that have this property
   pub record Survives (digest : Octets → Octets) (Says : Tables → Type 0) (old new : H) (found : Seen) : Type 0 where

@@ -1,5 +1,5 @@
--- What a stop leaves for the next open, and an event's effect over a stop.
-use Rattle.std.specs.Prelude.{◌≡◌, ◌≢◌, ◌⊎◌, Some, None}
+-- What a stop leaves for the next open, and the effect of an event, or of a group of them, over a stop.
+use Rattle.std.specs.Prelude.{◌≡◌, ◌≢◌, List, Some}
 use Rattle.sqlite_disk.specs.declared.Disk.{Ghosts}
 use Rattle.sqlite_store.specs.declared.store.FileStore.{FileStore}
 use Rattle.sqlite.specs.Effect.{Database, IsDatabase}
@@ -116,6 +116,14 @@ module _ {D : Type 0} {g : Ghosts D} where
     IsLeftSince event told old new =
         found.IsLeftSince (IsIntact over_files) (IsOpen over_files) (seen over_files) (left over_files) (IsOlder new) event told old new
 
+    -- events were applied together, as `bh_host::apply_together` promises
+    abbrev pub HaveApplied : List Arrival → List Told → Host (FileStore D g) G → Host (FileStore D g) G → Type 0
+    HaveApplied = found.HaveApplied (IsIntact over_files) (IsOpen over_files) (seen over_files) (left over_files)
+
+    abbrev pub AreLeftBy : List Arrival → List Told → Host (FileStore D g) G → Host (FileStore D g) G → Tables → Type 0
+    AreLeftBy events tolds old new =
+        found.AreLeftBy (IsIntact over_files) (IsOpen over_files) (seen over_files) (left over_files) (IsOlder new) events tolds old new
+
     -- a host came back with tables that have this property
     abbrev pub Survives : (Octets → Octets) → (Tables → Type 0) → Host (FileStore D g) G → Host (FileStore D g) G → Opened (FileStore D g)
         → Type 0
@@ -127,6 +135,14 @@ abbrev pub AfterStop : {D : Type 0} → Ghosts D → Type 0 → (Octets → Octe
 AfterStop {D} g G digest = (event : Arrival) (told : Told) (old new : Host (FileStore D g) G) (opened : Opened (FileStore D g))
     → HasApplied event told old new → IsReady digest new → IsReopened new opened → IsCleanAgain opened
     → Survives digest (IsLeftBy event told old new) old new opened
+
+-- after events that were applied together and a stop, a host comes back with the tables after all of
+-- them, if the last has a stamp, and else with those that may remain of them
+abbrev pub AfterGroup : {D : Type 0} → Ghosts D → Type 0 → (Octets → Octets) → Type 0
+AfterGroup {D} g G digest =
+    (events : List Arrival) (tolds : List Told) (old new : Host (FileStore D g) G) (opened : Opened (FileStore D g))
+    → HaveApplied events tolds old new → IsReady digest new → IsReopened new opened → IsCleanAgain opened
+    → Survives digest (AreLeftBy events tolds old new) old new opened
 
 -- and so it does after a reply was sent and a stop
 abbrev pub AfterReply : {D : Type 0} → Ghosts D → Type 0 → (Octets → Octets) → Type 0
@@ -172,3 +188,15 @@ AfterKeptReply {D} {G} {K} {g} {d} {k} digest s =
     → new.storage ≡ Some it → IsReopened it.storage.host opened → IsCleanAgain opened
     → found.Survives s.IsIntact s.IsOpen s.seen s.left digest
     (found.IsLeftSince s.IsIntact s.IsOpen s.seen s.left (IsOlder it.storage.host) event told old new) old new (seen_again opened)
+
+-- and so it does after events that were applied together and a stop
+abbrev pub AfterKeptGroup : {D G K : Type 0} {g : Ghosts D} {d : digester.Ghosts G} {k : size.Ghosts K} → (Octets → Octets)
+    → storage.Ghosts (KeptHost D G K g d k) → Type 0
+AfterKeptGroup {D} {G} {K} {g} {d} {k} digest s =
+    (events : List Arrival) (tolds : List Told) (old new : KeptHost D G K g d k) (it : RecallingStorage (FileStore D g) G)
+    (opened : Opened (FileStore D g))
+    → found.HaveApplied s.IsIntact s.IsOpen s.seen s.left events tolds old new
+    → StaysAtRest s.IsIntact s.IsOpen s.IsSoundStore s.seen s.left old new
+    → new.storage ≡ Some it → IsReopened it.storage.host opened → IsCleanAgain opened
+    → found.Survives s.IsIntact s.IsOpen s.seen s.left digest
+    (found.AreLeftBy s.IsIntact s.IsOpen s.seen s.left (IsOlder it.storage.host) events tolds old new) old new (seen_again opened)

@@ -1,7 +1,8 @@
-//! Laws of a host whose machine stops after an event, each as the contract of a function that does
-//! nothing.
+//! Laws of a host whose machine stops after an event or a group of them, each as the contract of a
+//! function that does nothing.
 
-ghost use Rattle.bh_again.specs.Stops.{AfterKeptReply, AfterKeptStop, AfterReply, AfterStop, OpensSound, StaysSound};
+ghost use Rattle.bh_again.specs.Stops.{AfterGroup, AfterReply, AfterStop, OpensSound, StaysSound};
+ghost use Rattle.bh_again.specs.Stops.{AfterKeptGroup, AfterKeptReply, AfterKeptStop};
 
 use bh_kept::{BlockSize, KeptHost};
 use bh_schema::host::Digester;
@@ -13,6 +14,14 @@ use sqlite_disk::Crash;
 /// rest.
 pub fn after_stop<D: Crash, G: Digester>()
     ensures { AfterStop D.Disk G G.digest_of }
+{}
+
+/// Events are applied together, the machine stops, and the files are opened again. If the last has a
+/// stamp, the host has the tables after all of them, unless a crash may leave an earlier version's.
+/// Else it has those that may remain: after the last with a stamp, or before all of them, or what a
+/// commit of some since would have written. It is at rest.
+pub fn after_group<D: Crash, G: Digester>()
+    ensures { AfterGroup D.Disk G G.digest_of }
 {}
 
 /// The reply to an event was sent, the machine stops, and the files are opened again. The host then
@@ -42,4 +51,9 @@ pub fn after_kept_stop<'a, D: Crash + Drop, G: Digester + Drop, K: BlockSize>()
 /// The same of `after_reply`, for the host that is served.
 pub fn after_kept_reply<'a, D: Crash + Drop, G: Digester + Drop, K: BlockSize>()
     ensures { AfterKeptReply G.digest_of ⟦<KeptHost<'a, D, G, K> as Storage>⟧ }
+{}
+
+/// The same of `after_group`, for the host that is served.
+pub fn after_kept_group<'a, D: Crash + Drop, G: Digester + Drop, K: BlockSize>()
+    ensures { AfterKeptGroup G.digest_of ⟦<KeptHost<'a, D, G, K> as Storage>⟧ }
 {}

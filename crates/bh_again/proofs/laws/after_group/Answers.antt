@@ -1,0 +1,5 @@
+use Rattle.bh_again.proofs.After.{after_group}
+use Rattle.bh_again.proofs.laws.after_group.Goals as goal
+
+pub returns : goal.returns
+returns g c = after_group g.G.Digester.digest_of
