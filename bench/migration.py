@@ -6,7 +6,7 @@
 A host is filled by `serve` with objects of 4 MiB and closed; Python's sqlite3 drops the tables that the earlier version hasn't and
 sets the number back, and each page gets its sum. Copies of such a file, and of the one that it becomes, are opened in turns, 9 times
 each, by a `serve` that is killed once it listens: the least and the middle of its seconds of a processor, and the pages that the
-opening has left in the log. Ends with 1 where bringing over a file adds 50 ms to the least, or writes 40 pages.
+opening has left in the log. Ends with 1 where bringing over a file adds 50 ms to the least, or writes 50 pages.
 """
 import os
 import shutil
@@ -20,7 +20,7 @@ from server import SHARED_MEMORY, Server, proved_program
 
 PAGE, HEAD, FRAME = 4096, 32, 4096 + 24
 TURNS = 9
-MOST_MILLISECONDS, MOST_PAGES = 50, 40
+MOST_MILLISECONDS, MOST_PAGES = 50, 50
 # The last tables, of each version.
 TABLES = {4: ["garbage", "rights", "upload_notes", "notes", "placed", "packs"], 3: ["tallies"], 2: ["retains", "locks"]}
 

@@ -724,7 +724,7 @@ def test_files_without_rights(on):
 
 
 def test_full_disk(on):
-    with small_disk(on.path("full"), "512k") as place:
+    with small_disk(on.path("full"), "768k") as place:
         if place is None:
             pytest.skip("no small file system can be mounted here: the user isn't root")
         on.expect("init on a small disk", ["init", "--file", "full/a"], 0, "host\n")
