@@ -30,7 +30,8 @@ def is_refusal(answer):
 
 
 def swept(whole, counts):
-    """Adds up what the sweeps of a script took away."""
+    """Adds up what the sweeps of a script took away, and the tenants that went."""
+    counts["removed"] += sum(answer == b"removed %s\n" % tenant.encode() for answer in whole for tenant in TENANTS)
     for words in (answer.split() for answer in whole if answer.startswith(b"sweep ")):
         counts["uploads"] += int(words[2])
         counts["blocks"] += int(words[4])
@@ -46,5 +47,5 @@ def test_each_tenant_alone(expect, program, full):
         swept(whole, counts)
         found = [it for it in (difference(program, lines, whole, tenant, counts) for tenant in TENANTS) if it]
         expect(f"script {number}, {len(lines)} events", not found, "\n".join(found))
-    is_enough = all(counts[word] for word in ("done", "uploads", "blocks", "complete", "partial"))
-    expect("requests are done and sweeps take something away", is_enough, dict(counts))
+    is_enough = all(counts[word] for word in ("done", "uploads", "blocks", "complete", "partial", "removed"))
+    expect("requests are done, tenants go, and sweeps take something away", is_enough, dict(counts))

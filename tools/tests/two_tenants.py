@@ -188,7 +188,7 @@ class Drawn:
         self.beginning(tenant)
 
     def account(self, tenant):
-        kind = self.chance.randrange(7)
+        kind = self.chance.randrange(6)
         if kind < 2:
             self.order(tenant, "usage")
         elif kind == 2:
@@ -197,13 +197,11 @@ class Drawn:
             self.order(tenant, "key-add", name="k2", secret="longsecret")
         elif kind == 4:
             self.order(tenant, "key-remove", name="k2")
-        elif kind == 5:
-            self.leave(tenant)
         else:
             self.ask(tenant, "GET", "/plans/x", secret="anothersecret")
 
     STEPS = [put] * 5 + [get] * 4 + [delete] * 3 + [copy] * 3 + [begin] * 3 + [part] * 5 + [complete] * 2
-    STEPS += [abort, retention, listing, listing, settings, account]
+    STEPS += [abort, retention, listing, listing, settings, account, leave]
 
     def beginning(self, tenant):
         self.order(tenant, "tenant-add", quota=1000)
