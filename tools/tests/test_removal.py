@@ -179,8 +179,8 @@ def test_name_again(on):
 
 @pytest.fixture
 def it(program, folder):
-    """A server of two tenants, green and blue."""
-    with Operated(program, make_host(program, os.path.join(folder, "host"), ["green", "blue"])) as it:
+    """A server of two tenants, green and blue, whose connections have time on a busy machine, too."""
+    with Operated(program, make_host(program, os.path.join(folder, "host"), ["green", "blue"]), timeout=60) as it:
         yield it
 
 
