@@ -1,2 +1,5 @@
 pub mod Contents
-pub mod Shelf
+pub mod Laws
+pub mod Marks
+pub mod Ranges
+pub mod Sound

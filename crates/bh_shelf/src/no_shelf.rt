@@ -1,6 +1,6 @@
 //! A host without packs.
 
-ghost use Rattle.std.specs.Prelude.{ℕ};
+ghost use Rattle.std.specs.Prelude.{ℕ, true, refl};
 ghost use Rattle.std.proofs.Common.{◌∙◌};
 ghost use Rattle.bh_shelf.specs.Contents.{nothing, HasNothing};
 
@@ -15,21 +15,23 @@ pub struct NoShelf;
 impl Shelf for NoShelf {
     ghost seen = { λ _. nothing };
 
+    ghost stood = { λ _. nothing };
+
     ghost kept = { λ _. nothing };
 
-    ghost IsSynced = { λ _. Unit {0} };
-
-    ghost may_leave = { λ _ left. (pack : ℕ) → HasNothing (left pack) };
+    ghost may_leave = { λ _ left. (pack : ℕ) → HasNothing left pack };
 
     ghost holds = { λ _ _. 0 };
 
-    ghost IsClean = { λ _ _. Unit {0} };
+    ghost is_clean = { λ _. true };
 
     ghost kept_seen = { λ _ _ _ _ _ has. has };
 
-    ghost leaves_kept = { λ _ _ leaves pack _ offset size _ has. leaves pack offset size ∙ has };
+    ghost kept_stands = { λ _ _ _ _ _ has. has };
 
-    ghost leaves_synced = { λ _ _ _ leaves pack _ offset size _ has. leaves pack offset size ∙ has };
+    ghost leaves_standing = { λ _ _ _ leaves pack offset size _ has. leaves pack offset size ∙ has };
+
+    ghost may_stay = { λ _ _. (nothing, λ _ _ _. refl, λ _ _ _ _ has. has) };
 
     fn append(&mut self, _lane: Lane, _bytes: &[u8]) -> Result<Place, Trouble> {
         Err(Trouble::Full)
