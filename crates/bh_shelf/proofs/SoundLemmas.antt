@@ -1,5 +1,5 @@
 -- What calls on packs and changes of marks keep of a shelf.
-use Rattle.std.proofs.Common.{◌≡◌, ◌≢◌, ℕ, ◌+◌, ◌<◌, ◌≤◌, Bool, true, false, List, length, slice_index, Option, Some, None, IsTrue, inl, inr, refl, sym, subst, ◌∙◌, ap, arith, zero-add}
+use Rattle.std.proofs.Common.{◌≡◌, ◌≢◌, ℕ, ◌+◌, ◌-◌, ◌<◌, ◌≤◌, Bool, true, false, List, length, slice_index, Option, Some, None, Result, Ok, Err, OnOk, OnErr, IsTrue, inl, inr, refl, sym, subst, ◌∙◌, ap, arith, zero-add}
 use Rattle.std.proofs.lemmas.Bool.{cases_Bool, cases_lt, false≢true}
 use Rattle.sqlite_disk.specs.Disk.{Holds}
 use Rattle.sqlite_disk.specs.declared.Disk.{Ghosts}
@@ -38,6 +38,16 @@ front_next left file at bytes before long next held =
           ]
           ∙ sym (part_index file 0 end i low);
     }
+
+-- a fact at an error
+pub at_err : {T E P : Type 0} (result : Result T E) → P → OnErr result P
+at_err (Ok value) fact = tt
+at_err (Err error) fact = fact
+
+-- what follows of either outcome
+pub outcome : {T E A B C R : Type 0} (result : Result T E) → OnOk result A → OnOk result B → OnErr result C → (A → B → R) → (C → R) → R
+outcome (Ok value) a b c done failed = done a b
+outcome (Err error) a b c done failed = failed c
 
 pub within_same : (a b : Contents) → a ≡ b → Within a b
 within_same a b same pack offset size bytes has = ap (λ (c : Contents). c pack offset size) (sym same) ∙ has
@@ -126,7 +136,7 @@ module _ {D : Type 0} (g : Ghosts D) where
         let bytes = part_of (file_in g old) 0 written in
         let here = length_part (file_in g old) 0 written (omega (arith, w.long)) in
         ranges_same (file_in g old) (file_in g new) bytes end (omega (arith, here, short)) (front_held (file_in g old) written w.long)
-            (front_keeps old new written some keeps w) offset size
+        (front_keeps old new written some keeps w) offset size
     | inr none ↦
         let zero : end ≡ 0 = omega (arith, none, short) in
         rw zero (range_none (file_in g old) offset size ∙ sym (range_none (file_in g new) offset size))
@@ -180,8 +190,8 @@ module _ {D : Type 0} (g : Ghosts D) where
       ends_keep ends short =
           let here = clean_at g new clean in
           let same : (pack offset size : ℕ) → contents_of g new ends pack offset size ≡ contents_of g old ends pack offset size =
-              λ pack offset size. sym (ranges_keep (pack_at old pack) (pack_at new pack) (written_of marks pack) (ends pack) (short pack) (keeps pack)
-              ((sound pack).written ((keeps pack).clean (here pack))) offset size) in
+          λ pack offset size. sym (ranges_keep (pack_at old pack) (pack_at new pack) (written_of marks pack) (ends pack) (short pack) (keeps pack)
+          ((sound pack).written ((keeps pack).clean (here pack))) offset size) in
           λ i pack offset size. same pack offset size i
 
       pub seen_keeps : contents_of g new (seen_of marks) ≡ contents_of g old (seen_of marks)
@@ -370,9 +380,9 @@ module _ {D : Type 0} (g : Ghosts D) where
           stands = λ _ some. absurd (omega (arith, some));
         } in
         one_and_others P pack (subst Q (sym gone) none) (λ n other.
-            let S : Ends → Type 0 = λ ends. IsSoundAt g (pack_at new n) ends in
-            let T : Option (Pack D) → Type 0 = λ slot. IsSoundAt g slot (ends_of before n) in
-            subst S (sym (marks_stay n other)) (subst T (sym (packs_stay n other)) (sound n)))
+        let S : Ends → Type 0 = λ ends. IsSoundAt g (pack_at new n) ends in
+        let T : Option (Pack D) → Type 0 = λ slot. IsSoundAt g slot (ends_of before n) in
+        subst S (sym (marks_stay n other)) (subst T (sym (packs_stay n other)) (sound n)))
 
   -- packs that are all the same
   pub contents_stay : (old new : Packs D) (ends : ℕ → ℕ) → ((n : ℕ) → pack_at new n ≡ pack_at old n) → contents_of g new ends ≡ contents_of g old ends
@@ -393,3 +403,32 @@ module _ {D : Type 0} (g : Ghosts D) where
   others_stay old new ends after pack packs_stay ends_stay n other offset size =
       ap (λ (slot : Option (Pack D)). range_of (file_in g slot) (after n) offset size) (packs_stay n other)
       ∙ ap (λ (end : ℕ). range_of (file_of g old n) end offset size) (ends_stay n other)
+
+  pub sound_none : (packs : Packs D) (marks : Marks) → ((n : ℕ) → ends_of marks n ≡ no_ends) → IsSound g packs marks
+  sound_none packs marks none pack =
+      let P : Ends → Type 0 = λ ends. IsSoundAt g (pack_at packs pack) ends in
+      subst P (sym (none pack)) (record {
+        kept_seen = omega arith;
+        kept_stood = omega arith;
+        seen_written = omega arith;
+        stood_written = omega arith;
+        written = λ _. nothing_written (pack_at packs pack);
+        stands = λ _ some. absurd (omega (arith, some));
+      })
+
+  -- a call that keeps the packs, and after it these ends
+  module _ (old new : Packs D) (keeps : Keeps g old new) (before after : Marks) (sound : IsSound g old before) (clean : IsTrue (clean_of g new)) where
+    pub seen_turns : ((n : ℕ) → seen_of after n ≡ seen_of before n) → contents_of g new (seen_of after) ≡ contents_of g old (seen_of before)
+    seen_turns same = contents_same new (seen_of after) (seen_of before) same ∙ seen_keeps old new keeps before sound clean
+
+    pub kept_turns : ((n : ℕ) → kept_of after n ≡ kept_of before n) → contents_of g new (kept_of after) ≡ contents_of g old (kept_of before)
+    kept_turns same = contents_same new (kept_of after) (kept_of before) same ∙ kept_keeps old new keeps before sound clean
+
+    pub seen_adds : ((n : ℕ) → seen_of before n ≤ seen_of after n) → Within (contents_of g old (seen_of before)) (contents_of g new (seen_of after))
+    seen_adds rises pack offset size bytes has =
+        longer g new (seen_of before) (seen_of after) rises pack offset size bytes
+        (within_same _ _ (sym (seen_keeps old new keeps before sound clean)) pack offset size bytes has)
+
+    pub stood_adds : ((n : ℕ) → stood_of before n ≤ stood_of after n) → Within (contents_of g old (stood_of before)) (contents_of g new (stood_of after))
+    stood_adds rises pack offset size bytes has =
+        longer g new (stood_of before) (stood_of after) rises pack offset size bytes (stood_keeps old new keeps before sound clean pack offset size bytes has)

@@ -30,8 +30,8 @@ part_same file bytes offset size held within =
     let here = length_part bytes offset size within in
     let there = length_part file offset size (omega (arith, within, held.within)) in
     ext_get_or 0 (part_of file offset size) (part_of bytes offset size) (there ∙ sym here) (λ i h.
-        let low : i < size = omega (arith, h, there) in
-        part_index file offset size i low ∙ front file bytes (offset + i) held (omega (arith, low, within)) ∙ sym (part_index bytes offset size i low))
+    let low : i < size = omega (arith, h, there) in
+    part_index file offset size i low ∙ front file bytes (offset + i) held (omega (arith, low, within)) ∙ sym (part_index bytes offset size i low))
 
 -- a file has each part of what it begins with
 pub part_held : (file bytes : List ℕ) (offset size : ℕ) → Holds file 0 bytes → offset + size ≤ length bytes → Holds file offset (part_of bytes offset size)
@@ -82,7 +82,9 @@ pub ranges_same : (a b bytes : List ℕ) (end : ℕ) → end ≤ length bytes �
 ranges_same a b bytes end short one other offset size = elim (cases_Bool (nat_lt 0 size && nat_le (offset + size) end)) [
   | inl inside ↦
       let within : offset + size ≤ end = leb-true _ _ (and_parts _ _ inside).1 in
-      rw inside (ap (λ (part : List ℕ). Some part) (part_same a bytes offset size one (omega (arith, within, short)) ∙ sym (part_same b bytes offset size other (omega (arith, within, short)))))
+      let low : offset + size ≤ length bytes = omega (arith, within, short) in
+      let same : part_of a offset size ≡ part_of b offset size = part_same a bytes offset size one low ∙ sym (part_same b bytes offset size other low) in
+      rw (inside, same) refl
   | inr outside ↦ rw outside refl
 ]
 

@@ -59,7 +59,6 @@ impl<D: Disk + Drop, F: Folder<D>> Shelf for Shelved<D, F> {
 
     ghost may_stay = { λ s. may_stay _ s.packs s.marks s.sound D.seen_may_stay };
 
-    #[tactic(none)]
     fn append(&mut self, lane: Lane, bytes: &[u8]) -> Result<Place, Trouble> {
         if bytes.is_empty() {
             return Err(Trouble::Outside);
@@ -69,7 +68,6 @@ impl<D: Disk + Drop, F: Folder<D>> Shelf for Shelved<D, F> {
         Ok(place)
     }
 
-    #[tactic(none)]
     fn sync(&mut self) -> Result<(), Trouble> {
         self.packs.sync()?;
         self.marks.stand();
@@ -100,7 +98,6 @@ impl<D: Disk + Drop, F: Folder<D>> Shelf for Shelved<D, F> {
         self.packs.let_go(hold);
     }
 
-    #[tactic(none)]
     fn remove(&mut self, pack: usize) -> Result<(), Trouble> {
         let file = self.packs.remove(pack)?;
         self.marks.clear(pack);

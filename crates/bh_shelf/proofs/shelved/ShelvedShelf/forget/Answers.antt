@@ -18,4 +18,4 @@ returns-clause-kept g c = λ clean.
 pub returns-clause-stood : goal.returns-clause-stood
 returns-clause-stood g c = λ clean.
     let same = contents_same g.D.Disk c.args.self.now.packs (stood_of c.forget.new.self) (stood_of c.args.self.now.marks)
-        (λ n. ap (λ (ends : Ends). ends.stood) (c.forget.ensures n)) in within_same _ _ (sym same)
+    (λ n. ap (λ (ends : Ends). ends.stood) (c.forget.ensures n)) in within_same _ _ (sym same)

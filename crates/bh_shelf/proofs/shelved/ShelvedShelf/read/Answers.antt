@@ -10,8 +10,8 @@ pub returns-clause-bytes : goal.returns-clause-bytes
 returns-clause-bytes g c =
     let old = c.args.self.now in
     on_ok_weaker c.read.result (λ read clean bytes placed.
-        let here = clean_at g.D.Disk c.read.new.self clean c.args.place.pack in
-        read here bytes (seen_given g.D.Disk old.packs old.marks old.sound c.args.place bytes ((c.read.ensures.keeps c.args.place.pack).clean here) placed)) c.read.ensures.bytes
+    let here = clean_at g.D.Disk c.read.new.self clean c.args.place.pack in
+    read here bytes (seen_given g.D.Disk old.packs old.marks old.sound c.args.place bytes ((c.read.ensures.keeps c.args.place.pack).clean here) placed)) c.read.ensures.bytes
 
 pub returns-clause-seen : goal.returns-clause-seen
 returns-clause-seen g c = seen_keeps g.D.Disk c.args.self.now.packs c.read.new.self c.read.ensures.keeps c.args.self.now.marks c.args.self.now.sound
