@@ -1,9 +1,9 @@
 -- What calls on packs and changes of marks keep of a shelf.
-use Rattle.std.proofs.Common.{◌≡◌, ◌≢◌, ℕ, ◌+◌, ◌-◌, ◌<◌, ◌≤◌, Bool, true, false, List, length, slice_index, Option, Some, None, Result, Ok, Err, OnOk, OnErr, IsTrue, inl, inr, refl, sym, subst, ◌∙◌, ap, arith, zero-add}
+use Rattle.std.proofs.Common.{◌≡◌, ◌≢◌, ℕ, ◌+◌, ◌-◌, ◌<◌, ◌≤◌, List, length, slice_index, Option, Some, None, Result, Ok, Err, OnOk, OnErr, IsTrue, inl, inr, refl, sym, subst, ◌∙◌, ap, arith, zero-add}
 use Rattle.std.proofs.lemmas.Bool.{cases_Bool, cases_lt, false≢true}
 use Rattle.sqlite_disk.specs.Disk.{Holds}
 use Rattle.sqlite_disk.specs.declared.Disk.{Ghosts}
-use Rattle.bh_packs.specs.Packs.{pack_at, end_in, IsSettled, IsSettledIn, IsWrittenIn, IsCleanIn, IsGiven, IsKept, KeepsPack, Keeps}
+use Rattle.bh_packs.specs.Packs.{pack_at, IsSettled, IsSettledIn, IsWrittenIn, IsCleanIn, IsGiven, IsKept, KeepsPack, Keeps}
 use Rattle.bh_packs.specs.Sums.{sum_of}
 use Rattle.bh_packs.specs.declared.pack.Pack.{Pack}
 use Rattle.bh_packs.specs.declared.packs.Packs.{Packs}

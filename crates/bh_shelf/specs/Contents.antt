@@ -1,5 +1,5 @@
 -- What packs have: the bytes of a range of a pack, if it has them all.
-use Rattle.std.specs.Prelude.{◌≡◌, ◌≢◌, ℕ, ◌+◌, ◌≤◌, List, length, Option, Some, None}
+use Rattle.std.specs.Prelude.{◌≡◌, ◌≢◌, ℕ, ◌+◌, ◌≤◌, List, Option, Some, None}
 use Rattle.bh_packs.specs.Sums.{sum_of}
 use Rattle.bh_packs.specs.declared.place.Place.{Place}
 

@@ -1,15 +1,15 @@
 -- Parts of files, and why a shelf of `Packs` keeps the laws of a shelf.
-use Rattle.std.proofs.Common.{◌≡◌, ℕ, drop, ◌+◌, ◌<◌, ◌≤◌, ◌&&◌, nat_le, nat_lt, if◌then◌else◌, Bool, true, false, List, [], ◌∷◌, zero, suc, slice_index_or, length, Option, Some, None, IsTrue, refl, sym, ◌∙◌, ap, subst, inl, inr, arith, zero-add, add_assoc, ext_get_or, length-take, length-drop, get_or-take, get_or-drop, slice_index}
+use Rattle.std.proofs.Common.{◌≡◌, ℕ, drop, ◌+◌, ◌<◌, ◌≤◌, ◌&&◌, nat_le, nat_lt, List, [], ◌∷◌, zero, suc, slice_index_or, length, Option, Some, None, IsTrue, refl, sym, ◌∙◌, ap, inl, inr, arith, zero-add, ext_get_or, length-take, length-drop, get_or-take, get_or-drop, slice_index}
 use Rattle.std.proofs.lemmas.Bool.{cases_Bool, and_parts, and_from, leb-true, le-leb}
 use Rattle.std.specs.List.{list_all}
 use Rattle.sqlite_disk.specs.Disk.{Holds}
 use Rattle.sqlite_disk.specs.declared.Disk.{Ghosts}
-use Rattle.bh_packs.specs.Packs.{pack_at, IsSettledIn, IsCleanIn}
+use Rattle.bh_packs.specs.Packs.{pack_at, IsCleanIn}
 use Rattle.bh_packs.specs.declared.pack.Pack.{Pack}
 use Rattle.bh_packs.specs.declared.packs.Packs.{Packs}
 use Rattle.bh_shelf.specs.declared.marks.Marks.{Marks}
 use Rattle.bh_shelf.specs.Contents.{Contents, Within}
-use Rattle.bh_shelf.specs.Marks.{ends_of, kept_of, seen_of, stood_of}
+use Rattle.bh_shelf.specs.Marks.{kept_of, seen_of, stood_of}
 use Rattle.bh_shelf.specs.Ranges.{part_of, range_of, file_in, file_of, clean_in, clean_of, contents_of, LeavesIn, Leaves}
 use Rattle.bh_shelf.specs.Sound.{StandsTo, IsSound}
 
@@ -81,7 +81,7 @@ pub ranges_same : (a b bytes : List ℕ) (end : ℕ) → end ≤ length bytes �
     → (offset size : ℕ) → range_of a end offset size ≡ range_of b end offset size
 ranges_same a b bytes end short one other offset size = elim (cases_Bool (nat_lt 0 size && nat_le (offset + size) end)) [
   | inl inside ↦
-      let within : offset + size ≤ end = leb-true _ _ (and_parts _ _ inside).1 in
+      let within : offset + size ≤ end = leb-true (offset + size) end (and_parts _ _ inside).1 in
       let low : offset + size ≤ length bytes = omega (arith, within, short) in
       let same : part_of a offset size ≡ part_of b offset size = part_same a bytes offset size one low ∙ sym (part_same b bytes offset size other low) in
       rw (inside, same) refl

@@ -9,11 +9,11 @@ ghost use Rattle.bh_shelf.specs.Sound.{IsSound, sound_prop};
 
 use crate::marks::Marks;
 use crate::shelf::Shelf;
-use bh_packs::folder::Folder;
+use bh_packs::folder::{Folder, InMemory};
 use bh_packs::packs::Packs;
 use bh_packs::place::{Bounds, Hold, Lane, Place};
 use bh_packs::trouble::Trouble;
-use sqlite_disk::Disk;
+use sqlite_disk::{Disk, Memory};
 use std::alloc::Global;
 
 /// Packs, the folder that their files are in, and up to where each is written, stands, is seen and is kept.
@@ -28,13 +28,22 @@ pub struct Shelved<D: Disk, F> {
 impl<D: Disk + Drop, F: Folder<D>> Shelved<D, F> {
     /// No packs. Their files are to be in this folder.
     pub fn new(alloc: Global, bounds: Bounds, folder: F) -> Shelved<D, F>
-        ensures { (pack : ℕ) → HasNothing (contents_of D.Disk result.packs (seen_of result.marks)) pack }
+        ensures { (pack : ℕ) → HasNothing (⟦<Shelved<D, F> as Shelf>⟧.seen result) pack }
     {
         Shelved {
             packs: Packs::new(alloc, bounds),
             folder,
             marks: Marks::new(alloc),
         }
+    }
+}
+
+impl Shelved<Memory, InMemory> {
+    /// No packs. Their files are to be in memory.
+    pub fn in_memory(alloc: Global, bounds: Bounds) -> Shelved<Memory, InMemory>
+        ensures { (pack : ℕ) → HasNothing (⟦<Shelved<Memory, InMemory> as Shelf>⟧.seen result) pack }
+    {
+        Shelved::new(alloc, bounds, InMemory::new(alloc))
     }
 }
 

@@ -1,6 +1,6 @@
 use Rattle.std.proofs.Common.{sym, ap}
 use Rattle.bh_shelf.specs.declared.marks.Ends.{Ends}
-use Rattle.bh_shelf.specs.Marks.{kept_of, seen_of, stood_of}
+use Rattle.bh_shelf.specs.Marks.{seen_of, stood_of}
 use Rattle.bh_shelf.proofs.SoundLemmas.{sound_kept, kept_all, contents_same, within_same}
 use Rattle.bh_shelf.proofs.shelved.ShelvedShelf.keep.Goals as goal
 
