@@ -10,7 +10,7 @@ use Rattle.bh_packs.specs.declared.packs.Packs.{Packs}
 use Rattle.bh_packs.specs.declared.place.Place.{Place}
 use Rattle.bh_shelf.specs.declared.marks.Ends.{Ends}
 use Rattle.bh_shelf.specs.declared.marks.Marks.{Marks}
-use Rattle.bh_shelf.specs.Contents.{Contents, Within, AreSameBut, EndsBy, HasNothing, IsPlaced}
+use Rattle.bh_shelf.specs.Contents.{Contents, Within, AreSameBut, HasNothing, IsPlaced}
 use Rattle.bh_shelf.specs.Laws.{length_part, part_index, front, part_same, part_held, front_held, part_holds, range_some, range_is, ranges_same, range_none, clean_at, clean_each, longer}
 use Rattle.bh_shelf.specs.Marks.{no_ends, ends_of, all_kept, all_stood, kept_alone, written_to, kept_of, seen_of, stood_of, written_of}
 use Rattle.bh_shelf.specs.Ranges.{part_of, range_of, file_in, file_of, clean_of, contents_of}
@@ -247,11 +247,6 @@ module _ {D : Type 0} (g : Ghosts D) where
         sum = placed.sum;
       }
 
-  -- all that is seen of a pack ends where it is written to
-  pub seen_ends : (packs : Packs D) (marks : Marks) → IsSound g packs marks → (pack : ℕ) → EndsBy (contents_of g packs (seen_of marks)) pack (written_of marks pack)
-  seen_ends packs marks sound pack offset size bytes has =
-      let found = range_some (file_of g packs pack) (seen_of marks pack) offset size bytes has in omega (arith, found.1, (sound pack).seen_written)
-
   -- the same before the same ends
   pub contents_same : (packs : Packs D) (ends others : ℕ → ℕ) → ((n : ℕ) → ends n ≡ others n) → contents_of g packs ends ≡ contents_of g packs others
   contents_same packs ends others same = λ i pack offset size. range_of (file_of g packs pack) (same pack i) offset size
@@ -344,6 +339,13 @@ module _ {D : Type 0} (g : Ghosts D) where
           let here = ap (λ (ends : Ends). ends.seen) to in
           let at_pack = sound pack in
           one_and_others P pack (omega (arith, here, at_pack.seen_written, from)) (λ n other. let same = ap (λ (ends : Ends). ends.seen) (others n other) in omega (arith, same))
+
+      -- no less is written
+      pub written_rises : (n : ℕ) → written_of before n ≤ written_of after n
+      written_rises =
+          let P : ℕ → Type 0 = λ n. written_of before n ≤ written_of after n in
+          let here = ap (λ (ends : Ends). ends.written) to in
+          one_and_others P pack (omega (arith, here, from)) (λ n other. let same = ap (λ (ends : Ends). ends.written) (others n other) in omega (arith, same))
 
       -- the same is kept
       pub kept_stays : (n : ℕ) → kept_of after n ≡ kept_of before n

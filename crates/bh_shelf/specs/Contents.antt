@@ -32,6 +32,10 @@ pub record IsPlaced (packs : Contents) (place : Place) (bytes : List ℕ) : Type
   pub there : packs place.pack place.offset place.size ≡ Some bytes
   pub sum : place.sum ≡ sum_of bytes
 
+-- no pack has less
+abbrev pub Rises : (ℕ → ℕ) → (ℕ → ℕ) → Type 0
+Rises old new = (pack : ℕ) → old pack ≤ new pack
+
 -- as many hold each pack as before
 abbrev pub KeepsHolds : (ℕ → ℕ) → (ℕ → ℕ) → Type 0
 KeepsHolds old new = (pack : ℕ) → new pack ≡ old pack

@@ -8,8 +8,8 @@ use Rattle.bh_packs.specs.Packs.{pack_at, IsCleanIn}
 use Rattle.bh_packs.specs.declared.pack.Pack.{Pack}
 use Rattle.bh_packs.specs.declared.packs.Packs.{Packs}
 use Rattle.bh_shelf.specs.declared.marks.Marks.{Marks}
-use Rattle.bh_shelf.specs.Contents.{Contents, Within}
-use Rattle.bh_shelf.specs.Marks.{kept_of, seen_of, stood_of}
+use Rattle.bh_shelf.specs.Contents.{Contents, nothing, Within, EndsBy}
+use Rattle.bh_shelf.specs.Marks.{kept_of, seen_of, stood_of, written_of}
 use Rattle.bh_shelf.specs.Ranges.{part_of, range_of, file_in, file_of, clean_in, clean_of, contents_of, LeavesIn, Leaves}
 use Rattle.bh_shelf.specs.Sound.{StandsTo, IsSound}
 
@@ -81,7 +81,7 @@ pub ranges_same : (a b bytes : List ℕ) (end : ℕ) → end ≤ length bytes �
     → (offset size : ℕ) → range_of a end offset size ≡ range_of b end offset size
 ranges_same a b bytes end short one other offset size = elim (cases_Bool (nat_lt 0 size && nat_le (offset + size) end)) [
   | inl inside ↦
-      let within : offset + size ≤ end = leb-true (offset + size) end (and_parts _ _ inside).1 in
+      let within : offset + size ≤ end = leb-true (offset + size) end (and_parts (nat_lt 0 size) (nat_le (offset + size) end) inside).1 in
       let low : offset + size ≤ length bytes = omega (arith, within, short) in
       let same : part_of a offset size ≡ part_of b offset size = part_same a bytes offset size one low ∙ sym (part_same b bytes offset size other low) in
       rw (inside, same) refl
@@ -104,6 +104,10 @@ range_none file offset size = elim (cases_Bool (nat_lt 0 size && nat_le (offset 
       let none : offset + size ≤ 0 = leb-true _ _ both.1 in absurd (omega (arith, some, none))
   | inr outside ↦ rw outside refl
 ]
+
+-- where nothing is, all ends anywhere
+pub nothing_ends : (pack : ℕ) → EndsBy nothing pack 0
+nothing_ends pack offset size bytes none = absurd (cc)
 
 module _ {D : Type 0} (g : Ghosts D) where
   each_clean : (slots : List (Option (Pack D))) → IsTrue (list_all (clean_in g) slots) → (n : ℕ) → IsTrue (clean_in g (slice_index_or slots n None))
@@ -151,6 +155,11 @@ module _ {D : Type 0} (g : Ghosts D) where
       range_is file (length file) offset size found.0 (omega (arith, found.1, held.within, here))
       ∙ ap (λ (part : List ℕ). Some part) (part_same file (part_of seen 0 end) offset size held (omega (arith, found.1, here))
       ∙ sym (part_same seen (part_of seen 0 end) offset size (front_held seen end long) (omega (arith, found.1, here))) ∙ found.2)
+
+  -- all that is seen of a pack ends where it is written to
+  pub seen_ends : (packs : Packs D) (marks : Marks) → IsSound g packs marks → (pack : ℕ) → EndsBy (contents_of g packs (seen_of marks)) pack (written_of marks pack)
+  seen_ends packs marks sound pack offset size bytes has =
+      let found = range_some (file_of g packs pack) (seen_of marks pack) offset size bytes has in omega (arith, found.1, (sound pack).seen_written)
 
   pub kept_seen : (packs : Packs D) (marks : Marks) → IsSound g packs marks → Within (contents_of g packs (kept_of marks)) (contents_of g packs (seen_of marks))
   kept_seen packs marks sound = longer packs (kept_of marks) (seen_of marks) (λ n. (sound n).kept_seen)

@@ -3,6 +3,7 @@
 ghost use Rattle.std.specs.Prelude.{ℕ, true, refl};
 ghost use Rattle.std.proofs.Common.{◌∙◌};
 ghost use Rattle.bh_shelf.specs.Contents.{nothing, HasNothing};
+ghost use Rattle.bh_shelf.specs.Laws.{nothing_ends};
 
 use crate::shelf::Shelf;
 use bh_packs::place::{Hold, Lane, Place};
@@ -21,11 +22,15 @@ impl Shelf for NoShelf {
 
     ghost may_leave = { λ _ left. (pack : ℕ) → HasNothing left pack };
 
+    ghost ends = { λ _ _. 0 };
+
     ghost holds = { λ _ _. 0 };
 
     ghost is_clean = { λ _. true };
 
     ghost kept_seen = { λ _ _ _ _ _ has. has };
+
+    ghost seen_ends = { λ _. nothing_ends };
 
     ghost kept_stands = { λ _ _ _ _ _ has. has };
 

@@ -1,8 +1,8 @@
 //! What the layers above ask of a host's packs.
 
-ghost use Rattle.std.specs.Prelude.{◌≡◌, ◌≢◌, ◌+◌, ◌-◌, ◌<◌, ℕ, Bool, List, Some, length, IsTrue, IfOk, IfSome, OnOk, OnErr};
+ghost use Rattle.std.specs.Prelude.{◌≡◌, ◌≢◌, ◌+◌, ◌-◌, ◌<◌, ◌≤◌, ℕ, Bool, List, Some, length, IsTrue, IfOk, IfSome, OnOk, OnErr};
 ghost use Rattle.bh_packs.specs.Sums.{sum_of};
-ghost use Rattle.bh_shelf.specs.Contents.{Contents, Within, AreSameBut, EndsBy, HasNothing, IsPlaced, KeepsHolds, KeepsHoldsBut};
+ghost use Rattle.bh_shelf.specs.Contents.{Contents, Within, AreSameBut, EndsBy, HasNothing, IsPlaced, Rises, KeepsHolds, KeepsHoldsBut};
 
 use bh_packs::place::{Hold, Lane, Place};
 use bh_packs::trouble::Trouble;
@@ -10,7 +10,7 @@ use bh_packs::trouble::Trouble;
 /// A host's packs: files that bytes are appended to, and that rows of its database name places of.
 ///
 /// A commit is `sync`, the database's commit, `keep`. A transaction begins with `forget`: what was appended
-/// for one that was rolled back is a gap then, and its place is given no second time.
+/// for one that was rolled back is a gap then.
 ///
 /// A shelf isn't clean once a file returned other bytes than it had and no code could tell. Then little is
 /// said, but that what is read has the sum of its place.
@@ -28,22 +28,27 @@ pub trait Shelf {
     /// What packs may have after a crash at this moment.
     ghost may_leave: { Self → Contents → Type 0 };
 
+    /// Up to where a pack was written. What is appended to it begins there, so the place of a gap is given
+    /// no second time.
+    ghost ends: { Self → ℕ → ℕ };
+
     /// How many hold a pack.
     ghost holds: { Self → ℕ → ℕ };
 
     /// No wrong answer of a pack's file was taken as true. It may fall at any call, and no call tells it.
     ghost is_clean: { Self → Bool };
 
-    /// Appends bytes to a pack of this lane, and returns their place. It begins after all that is seen of
-    /// that pack. If it fails, nothing more is seen, and what was written in part is a gap.
+    /// Appends bytes to a pack of this lane, and returns their place. It begins after all that was
+    /// written to that pack. If it fails, nothing more is seen, and what was written in part is a gap.
     fn append(&mut self, lane: Lane, bytes: &[u8]) -> Result<Place, Trouble>
         ensures placed { IfOk result (λ place. 0 < length bytes.now
             → seen self.new place.pack place.offset place.size ≡ Some bytes.now) }
         ensures size { IfOk result (λ place. 0 < length bytes.now → place.size ≡ length bytes.now) }
         ensures sum { IfOk result (λ place. 0 < length bytes.now → place.sum ≡ sum_of bytes.now) }
-        ensures apart { IfOk result (λ place. EndsBy (seen self.old) place.pack place.offset) }
+        ensures apart { IfOk result (λ place. ends self.old place.pack ≤ place.offset) }
         ensures failed { OnErr result (IsTrue (is_clean self.new) → seen self.new ≡ seen self.old) }
         ensures seen { IsTrue (is_clean self.new) → Within (seen self.old) (seen self.new) }
+        ensures ends { Rises (ends self.old) (ends self.new) }
         ensures kept { IsTrue (is_clean self.new) → kept self.new ≡ kept self.old }
         ensures stood { IsTrue (is_clean self.new) → Within (stood self.old) (stood self.new) }
         ensures clean { IsTrue (is_clean self.new) → IsTrue (is_clean self.old) }
@@ -54,6 +59,7 @@ pub trait Shelf {
     fn sync(&mut self) -> Result<(), Trouble>
         ensures stands { OnOk result (IsTrue (is_clean self.new) → Within (seen self.old) (stood self.new)) }
         ensures seen { IsTrue (is_clean self.new) → seen self.new ≡ seen self.old }
+        ensures ends { Rises (ends self.old) (ends self.new) }
         ensures kept { IsTrue (is_clean self.new) → kept self.new ≡ kept self.old }
         ensures stood { IsTrue (is_clean self.new) → Within (stood self.old) (stood self.new) }
         ensures clean { IsTrue (is_clean self.new) → IsTrue (is_clean self.old) }
@@ -62,6 +68,7 @@ pub trait Shelf {
     /// The database committed: its rows may name all that is seen. Asks nothing of a file.
     fn keep(&mut self)
         requires { IsTrue (is_clean self.old) → Within (seen self.old) (stood self.old) }
+        ensures ends { Rises (ends self.old) (ends self.new) }
         ensures kept { IsTrue (is_clean self.new) → kept self.new ≡ seen self.old }
         ensures seen { IsTrue (is_clean self.new) → seen self.new ≡ seen self.old }
         ensures stood { IsTrue (is_clean self.new) → Within (stood self.old) (stood self.new) }
@@ -71,6 +78,7 @@ pub trait Shelf {
     /// A transaction begins: what no committed row may name is a gap. Asks nothing of a file.
     fn forget(&mut self)
         ensures seen { IsTrue (is_clean self.new) → seen self.new ≡ kept self.old }
+        ensures ends { Rises (ends self.old) (ends self.new) }
         ensures kept { IsTrue (is_clean self.new) → kept self.new ≡ kept self.old }
         ensures stood { IsTrue (is_clean self.new) → Within (stood self.old) (stood self.new) }
         ensures clean { IsTrue (is_clean self.new) → IsTrue (is_clean self.old) }
@@ -83,6 +91,7 @@ pub trait Shelf {
         ensures bytes { OnOk result (IsTrue (is_clean self.new) → (bytes : List ℕ) → IsPlaced (seen self.old) place bytes
             → room.new ≡ bytes) }
         ensures seen { IsTrue (is_clean self.new) → seen self.new ≡ seen self.old }
+        ensures ends { Rises (ends self.old) (ends self.new) }
         ensures kept { IsTrue (is_clean self.new) → kept self.new ≡ kept self.old }
         ensures stood { IsTrue (is_clean self.new) → Within (stood self.old) (stood self.new) }
         ensures clean { IsTrue (is_clean self.new) → IsTrue (is_clean self.old) }
@@ -99,6 +108,7 @@ pub trait Shelf {
         ensures others { KeepsHoldsBut pack (holds self.old) (holds self.new) }
         ensures failed { OnErr result (KeepsHolds (holds self.old) (holds self.new)) }
         ensures seen { IsTrue (is_clean self.new) → seen self.new ≡ seen self.old }
+        ensures ends { Rises (ends self.old) (ends self.new) }
         ensures kept { IsTrue (is_clean self.new) → kept self.new ≡ kept self.old }
         ensures stood { IsTrue (is_clean self.new) → Within (stood self.old) (stood self.new) }
         ensures clean { IsTrue (is_clean self.new) → IsTrue (is_clean self.old) };
@@ -108,6 +118,7 @@ pub trait Shelf {
         ensures held { holds self.new hold.pack ≡ holds self.old hold.pack - 1 }
         ensures others { KeepsHoldsBut hold.pack (holds self.old) (holds self.new) }
         ensures seen { IsTrue (is_clean self.new) → seen self.new ≡ seen self.old }
+        ensures ends { Rises (ends self.old) (ends self.new) }
         ensures kept { IsTrue (is_clean self.new) → kept self.new ≡ kept self.old }
         ensures stood { IsTrue (is_clean self.new) → Within (stood self.old) (stood self.new) }
         ensures clean { IsTrue (is_clean self.new) → IsTrue (is_clean self.old) };
@@ -120,6 +131,7 @@ pub trait Shelf {
         ensures unheld { OnOk result (holds self.old pack ≡ 0) }
         ensures held { 0 < holds self.old pack → IsTrue (is_clean self.new) → seen self.new ≡ seen self.old }
         ensures seen { IsTrue (is_clean self.new) → AreSameBut pack (seen self.new) (seen self.old) }
+        ensures ends { (n : ℕ) → n ≢ pack → ends self.old n ≤ ends self.new n }
         ensures kept { IsTrue (is_clean self.new) → AreSameBut pack (kept self.new) (kept self.old) }
         ensures stood { IsTrue (is_clean self.new) → AreSameBut pack (stood self.new) (stood self.old) }
         ensures holds { KeepsHoldsBut pack (holds self.old) (holds self.new) };
@@ -127,7 +139,10 @@ pub trait Shelf {
     /// What is kept is seen.
     ghost kept_seen: { (shelf : Self) → Within (kept shelf) (seen shelf) };
 
-    /// And it stands.
+    /// All that is seen of a pack is written.
+    ghost seen_ends: { (shelf : Self) (pack : ℕ) → EndsBy (seen shelf) pack (ends shelf pack) };
+
+    /// What is kept stands.
     ghost kept_stands: { (shelf : Self) → Within (kept shelf) (stood shelf) };
 
     /// A crash leaves what stands.

@@ -2,8 +2,8 @@
 
 ghost use Rattle.std.specs.Prelude.{◌≡◌, ℕ};
 ghost use Rattle.bh_shelf.specs.Contents.{HasNothing};
-ghost use Rattle.bh_shelf.specs.Laws.{kept_seen, kept_stands, leaves_standing, may_stay};
-ghost use Rattle.bh_shelf.specs.Marks.{kept_of, seen_of, stood_of};
+ghost use Rattle.bh_shelf.specs.Laws.{kept_seen, kept_stands, leaves_standing, may_stay, seen_ends};
+ghost use Rattle.bh_shelf.specs.Marks.{kept_of, seen_of, stood_of, written_of};
 ghost use Rattle.bh_shelf.specs.Ranges.{clean_of, contents_of, holds_of, Leaves};
 ghost use Rattle.bh_shelf.specs.Sound.{IsSound, sound_prop};
 
@@ -56,11 +56,15 @@ impl<D: Disk + Drop, F: Folder<D>> Shelf for Shelved<D, F> {
 
     ghost may_leave = { λ s. Leaves D.Disk s.packs };
 
+    ghost ends = { λ s. written_of s.marks };
+
     ghost holds = { λ s. holds_of s.packs };
 
     ghost is_clean = { λ s. clean_of D.Disk s.packs };
 
     ghost kept_seen = { λ s. kept_seen _ s.packs s.marks s.sound };
+
+    ghost seen_ends = { λ s. seen_ends _ s.packs s.marks s.sound };
 
     ghost kept_stands = { λ s. kept_stands _ s.packs s.marks s.sound };
 

@@ -1,11 +1,10 @@
-use Rattle.std.proofs.Common.{◌≡◌, ◌≢◌, ℕ, IsTrue, length, ap, sym, subst, ◌∙◌, arith}
+use Rattle.std.proofs.Common.{◌≡◌, ◌≢◌, ℕ, IsTrue, length, ap, sym, ◌∙◌, arith}
 use Rattle.std.proofs.lemmas.Bool.{eqb-false}
 use Rattle.bh_shelf.specs.declared.marks.Ends.{Ends}
-use Rattle.bh_shelf.specs.Contents.{EndsBy}
 use Rattle.bh_shelf.specs.Marks.{seen_of}
 use Rattle.bh_shelf.specs.Ranges.{clean_of, contents_of}
 use Rattle.bh_shelf.proofs.SoundLemmas.{at_err, outcome, within_same, sound_keeps, sound_same, sound_writes, clean_keeps, seen_keeps, kept_keeps, stood_keeps}
-use Rattle.bh_shelf.proofs.SoundLemmas.{seen_rises, kept_stays, stood_stays, place_seen, seen_ends, seen_turns, kept_turns, seen_adds, stood_adds}
+use Rattle.bh_shelf.proofs.SoundLemmas.{seen_rises, written_rises, kept_stays, stood_stays, place_seen, seen_turns, kept_turns, seen_adds, stood_adds}
 use Rattle.bh_shelf.proofs.shelved.ShelvedShelf.append.Goals as goal
 
 pub invariant_of-self : goal.invariant_of-self
@@ -96,11 +95,18 @@ pub returns-clause-sum : goal.returns-clause-sum
 returns-clause-sum g c = λ some. let given = c.in_ok-place.ensures.given some in given.sum
 
 pub returns-clause-apart : goal.returns-clause-apart
-returns-clause-apart g c =
+returns-clause-apart g c = let from = c.in_ok-write.ensures.from in omega (arith, from)
+
+pub returns-in_err-write-clause-ends : goal.returns-in_err-write-clause-ends
+returns-in_err-write-clause-ends g c = λ n. let same = ap (λ (ends : Ends). ends.written) (c.in_err-write.ensures.failed n) in omega (arith, same)
+
+pub returns-clause-ends : goal.returns-clause-ends
+returns-clause-ends g c =
     let old = c.args.self.now in
     let place = c.in_ok-place.place in
-    let P : ℕ → Type 0 = λ end. EndsBy (contents_of g.D.Disk old.packs (seen_of old.marks)) place.pack end in
-    subst P c.in_ok-write.ensures.from (seen_ends g.D.Disk old.packs old.marks old.sound place.pack)
+    let sound = sound_keeps g.D.Disk old.packs c.append.new.self c.append.ensures.keeps old.marks old.sound in
+    written_rises g.D.Disk c.append.new.self old.marks c.write.new.self sound place.pack place.offset c.args.bytes.now
+    c.in_ok-write.ensures.from c.in_ok-write.ensures.written c.write.ensures.others
 
 pub returns-clause-seen : goal.returns-clause-seen
 returns-clause-seen g c = λ clean.

@@ -1,4 +1,4 @@
-use Rattle.std.proofs.Common.{sym, ap}
+use Rattle.std.proofs.Common.{arith, sym, ap}
 use Rattle.bh_shelf.specs.declared.marks.Ends.{Ends}
 use Rattle.bh_shelf.specs.Marks.{kept_of, seen_of, stood_of}
 use Rattle.bh_shelf.proofs.SoundLemmas.{sound_forgot, contents_same, within_same}
@@ -19,3 +19,6 @@ pub returns-clause-stood : goal.returns-clause-stood
 returns-clause-stood g c = λ clean.
     let same = contents_same g.D.Disk c.args.self.now.packs (stood_of c.forget.new.self) (stood_of c.args.self.now.marks)
     (λ n. ap (λ (ends : Ends). ends.stood) (c.forget.ensures n)) in within_same _ _ (sym same)
+
+pub returns-clause-ends : goal.returns-clause-ends
+returns-clause-ends g c = λ n. let same = ap (λ (ends : Ends). ends.written) (c.forget.ensures n) in omega (arith, same)

@@ -81,3 +81,9 @@ invariant_of-self-2 g c =
 
 pub returns-clause-gone : goal.returns-clause-gone
 returns-clause-gone g c = none_seen g.D.Disk c.remove.new.self c.clear.new.self c.args.pack c.clear.ensures.cleared
+
+pub returns-in_err-delete-clause-ends : goal.returns-in_err-delete-clause-ends
+returns-in_err-delete-clause-ends g c = λ n other. let same = ap (λ (ends : Ends). ends.written) (c.clear.ensures.others n other) in omega (arith, same)
+
+pub returns-clause-ends : goal.returns-clause-ends
+returns-clause-ends g c = λ n other. let same = ap (λ (ends : Ends). ends.written) (c.clear.ensures.others n other) in omega (arith, same)

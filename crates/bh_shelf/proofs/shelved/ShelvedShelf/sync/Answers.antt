@@ -52,3 +52,6 @@ returns-clause-stood g c = λ clean.
 
 pub returns-clause-clean : goal.returns-clause-clean
 returns-clause-clean g c = clean_keeps g.D.Disk c.args.self.now.packs c.sync.new.self c.sync.ensures.keeps
+
+pub returns-clause-ends : goal.returns-clause-ends
+returns-clause-ends g c = λ n. let same = ap (λ (ends : Ends). ends.written) (c.stand.ensures n) in omega (arith, same)
