@@ -1,5 +1,7 @@
 -- Parts of files, and why a shelf of `Packs` keeps the laws of a shelf.
-use Rattle.std.proofs.Common.{◌≡◌, ℕ, drop, ◌+◌, ◌<◌, ◌≤◌, ◌&&◌, nat_le, nat_lt, List, [], ◌∷◌, zero, suc, slice_index_or, length, Option, Some, None, IsTrue, refl, sym, ◌∙◌, ap, inl, inr, arith, zero-add, ext_get_or, length-take, length-drop, get_or-take, get_or-drop, slice_index}
+use Rattle.std.proofs.Common.{◌≡◌, ℕ, drop, ◌+◌, ◌<◌, ◌≤◌, ◌&&◌, nat_le, nat_lt, List, [], ◌∷◌, zero, suc}
+use Rattle.std.proofs.Common.{slice_index, slice_index_or, length, Option, Some, None, IsTrue, refl, sym, ◌∙◌, ap, inl, inr, arith}
+use Rattle.std.proofs.Common.{zero-add, ext_get_or, length-take, length-drop, get_or-take, get_or-drop}
 use Rattle.std.proofs.lemmas.Bool.{cases_Bool, and_parts, and_from, leb-true, le-leb}
 use Rattle.std.specs.List.{list_all}
 use Rattle.sqlite_disk.specs.Disk.{Holds}
@@ -25,16 +27,19 @@ pub front : (file bytes : List ℕ) (i : ℕ) → Holds file 0 bytes → i < len
 front file bytes i held low = ap (slice_index file) (sym (zero-add i)) ∙ held.each i low
 
 -- a part of what a file begins with is that part of the file
-pub part_same : (file bytes : List ℕ) (offset size : ℕ) → Holds file 0 bytes → offset + size ≤ length bytes → part_of file offset size ≡ part_of bytes offset size
+pub part_same : (file bytes : List ℕ) (offset size : ℕ) → Holds file 0 bytes → offset + size ≤ length bytes
+    → part_of file offset size ≡ part_of bytes offset size
 part_same file bytes offset size held within =
     let here = length_part bytes offset size within in
     let there = length_part file offset size (omega (arith, within, held.within)) in
     ext_get_or 0 (part_of file offset size) (part_of bytes offset size) (there ∙ sym here) (λ i h.
     let low : i < size = omega (arith, h, there) in
-    part_index file offset size i low ∙ front file bytes (offset + i) held (omega (arith, low, within)) ∙ sym (part_index bytes offset size i low))
+    part_index file offset size i low ∙ front file bytes (offset + i) held (omega (arith, low, within))
+    ∙ sym (part_index bytes offset size i low))
 
 -- a file has each part of what it begins with
-pub part_held : (file bytes : List ℕ) (offset size : ℕ) → Holds file 0 bytes → offset + size ≤ length bytes → Holds file offset (part_of bytes offset size)
+pub part_held : (file bytes : List ℕ) (offset size : ℕ) → Holds file 0 bytes → offset + size ≤ length bytes
+    → Holds file offset (part_of bytes offset size)
 part_held file bytes offset size held within =
     let here = length_part bytes offset size within in
     record {
@@ -49,7 +54,8 @@ pub part_holds : (file : List ℕ) (at : ℕ) (bytes : List ℕ) → Holds file 
 part_holds file at bytes held =
     let size = length bytes in
     let here = length_part file at size held.within in
-    ext_get_or 0 (part_of file at size) bytes here (λ i h. let low : i < size = omega (arith, h, here) in part_index file at size i low ∙ held.each i low)
+    ext_get_or 0 (part_of file at size) bytes here (λ i h.
+    let low : i < size = omega (arith, h, here) in part_index file at size i low ∙ held.each i low)
 
 -- a file begins with its first bytes
 pub front_held : (file : List ℕ) (end : ℕ) → end ≤ length file → Holds file 0 (part_of file 0 end)
@@ -72,7 +78,8 @@ range_some file end offset size bytes has = elim (cases_Bool (nat_lt 0 size && n
 ]
 
 -- a range inside has its part
-pub range_is : (file : List ℕ) (end offset size : ℕ) → 0 < size → offset + size ≤ end → range_of file end offset size ≡ Some (part_of file offset size)
+pub range_is : (file : List ℕ) (end offset size : ℕ) → 0 < size → offset + size ≤ end
+    → range_of file end offset size ≡ Some (part_of file offset size)
 range_is file end offset size some within =
     let inside : IsTrue (nat_lt 0 size && nat_le (offset + size) end) = and_from _ _ (le-leb _ _ some) (le-leb _ _ within) in rw inside refl
 
@@ -83,14 +90,15 @@ ranges_same a b bytes end short one other offset size = elim (cases_Bool (nat_lt
   | inl inside ↦
       let within : offset + size ≤ end = leb-true (offset + size) end (and_parts (nat_lt 0 size) (nat_le (offset + size) end) inside).1 in
       let low : offset + size ≤ length bytes = omega (arith, within, short) in
-      let same : part_of a offset size ≡ part_of b offset size = part_same a bytes offset size one low ∙ sym (part_same b bytes offset size other low) in
+      let same : part_of a offset size ≡ part_of b offset size =
+      part_same a bytes offset size one low ∙ sym (part_same b bytes offset size other low) in
       rw (inside, same) refl
   | inr outside ↦ rw outside refl
 ]
 
 -- a range before one end is one before a later end
-pub range_longer : (file : List ℕ) (end later : ℕ) → end ≤ later → (offset size : ℕ) (bytes : List ℕ) → range_of file end offset size ≡ Some bytes
-    → range_of file later offset size ≡ Some bytes
+pub range_longer : (file : List ℕ) (end later : ℕ) → end ≤ later → (offset size : ℕ) (bytes : List ℕ)
+    → range_of file end offset size ≡ Some bytes → range_of file later offset size ≡ Some bytes
 range_longer file end later short offset size bytes has =
     let found = range_some file end offset size bytes has in
     range_is file later offset size found.0 (omega (arith, found.1, short)) ∙ ap (λ (part : List ℕ). Some part) found.2
@@ -110,12 +118,14 @@ pub nothing_ends : (pack : ℕ) → EndsBy nothing pack 0
 nothing_ends pack offset size bytes none = absurd (cc)
 
 module _ {D : Type 0} (g : Ghosts D) where
-  each_clean : (slots : List (Option (Pack D))) → IsTrue (list_all (clean_in g) slots) → (n : ℕ) → IsTrue (clean_in g (slice_index_or slots n None))
+  each_clean : (slots : List (Option (Pack D))) → IsTrue (list_all (clean_in g) slots) → (n : ℕ)
+      → IsTrue (clean_in g (slice_index_or slots n None))
   each_clean [] all n = refl
   each_clean (slot ∷ slots) all zero = (and_parts _ _ all).0
   each_clean (slot ∷ slots) all (suc n) = each_clean slots (and_parts _ _ all).1 n
 
-  all_clean : (slots : List (Option (Pack D))) → ((n : ℕ) → IsTrue (clean_in g (slice_index_or slots n None))) → IsTrue (list_all (clean_in g) slots)
+  all_clean : (slots : List (Option (Pack D))) → ((n : ℕ) → IsTrue (clean_in g (slice_index_or slots n None)))
+      → IsTrue (list_all (clean_in g) slots)
   all_clean [] each = refl
   all_clean (slot ∷ slots) each = and_from _ _ (each 0) (all_clean slots (λ n. each (suc n)))
 
@@ -136,17 +146,19 @@ module _ {D : Type 0} (g : Ghosts D) where
   clean_each packs each = all_clean packs.slots.items (λ n. clean_test (pack_at packs n) (each n))
 
   -- later ends have more
-  pub longer : (packs : Packs D) (ends later : ℕ → ℕ) → ((n : ℕ) → ends n ≤ later n) → Within (contents_of g packs ends) (contents_of g packs later)
+  pub longer : (packs : Packs D) (ends later : ℕ → ℕ) → ((n : ℕ) → ends n ≤ later n)
+      → Within (contents_of g packs ends) (contents_of g packs later)
   longer packs ends later short pack = range_longer (file_of g packs pack) (ends pack) (later pack) (short pack)
 
   -- a crash leaves what stands
-  left_in : (slot : Option (Pack D)) (file : List ℕ) → LeavesIn g slot file → (end : ℕ) → end ≤ length (file_in g slot) → StandsTo g slot end → 0 < end
-      → Holds file 0 (part_of (file_in g slot) 0 end)
+  left_in : (slot : Option (Pack D)) (file : List ℕ) → LeavesIn g slot file → (end : ℕ) → end ≤ length (file_in g slot)
+      → StandsTo g slot end → 0 < end → Holds file 0 (part_of (file_in g slot) 0 end)
   left_in None file leaves end long stands some = absurd (stands some)
   left_in (Some pack) file leaves end long stands some = (stands some).stands.left file leaves
 
-  leaves_to : (slot : Option (Pack D)) (file : List ℕ) → LeavesIn g slot file → (end : ℕ) → end ≤ length (file_in g slot) → StandsTo g slot end
-      → (offset size : ℕ) (bytes : List ℕ) → range_of (file_in g slot) end offset size ≡ Some bytes → range_of file (length file) offset size ≡ Some bytes
+  leaves_to : (slot : Option (Pack D)) (file : List ℕ) → LeavesIn g slot file → (end : ℕ) → end ≤ length (file_in g slot)
+      → StandsTo g slot end → (offset size : ℕ) (bytes : List ℕ) → range_of (file_in g slot) end offset size ≡ Some bytes
+      → range_of file (length file) offset size ≡ Some bytes
   leaves_to slot file leaves end long stands offset size bytes has =
       let seen = file_in g slot in
       let found = range_some seen end offset size bytes has in
@@ -157,31 +169,36 @@ module _ {D : Type 0} (g : Ghosts D) where
       ∙ sym (part_same seen (part_of seen 0 end) offset size (front_held seen end long) (omega (arith, found.1, here))) ∙ found.2)
 
   -- all that is seen of a pack ends where it is written to
-  pub seen_ends : (packs : Packs D) (marks : Marks) → IsSound g packs marks → (pack : ℕ) → EndsBy (contents_of g packs (seen_of marks)) pack (written_of marks pack)
+  pub seen_ends : (packs : Packs D) (marks : Marks) → IsSound g packs marks → (pack : ℕ)
+      → EndsBy (contents_of g packs (seen_of marks)) pack (written_of marks pack)
   seen_ends packs marks sound pack offset size bytes has =
-      let found = range_some (file_of g packs pack) (seen_of marks pack) offset size bytes has in omega (arith, found.1, (sound pack).seen_written)
+      let found = range_some (file_of g packs pack) (seen_of marks pack) offset size bytes has in
+      omega (arith, found.1, (sound pack).seen_written)
 
-  pub kept_seen : (packs : Packs D) (marks : Marks) → IsSound g packs marks → Within (contents_of g packs (kept_of marks)) (contents_of g packs (seen_of marks))
+  pub kept_seen : (packs : Packs D) (marks : Marks) → IsSound g packs marks
+      → Within (contents_of g packs (kept_of marks)) (contents_of g packs (seen_of marks))
   kept_seen packs marks sound = longer packs (kept_of marks) (seen_of marks) (λ n. (sound n).kept_seen)
 
-  pub kept_stands : (packs : Packs D) (marks : Marks) → IsSound g packs marks → Within (contents_of g packs (kept_of marks)) (contents_of g packs (stood_of marks))
+  pub kept_stands : (packs : Packs D) (marks : Marks) → IsSound g packs marks
+      → Within (contents_of g packs (kept_of marks)) (contents_of g packs (stood_of marks))
   kept_stands packs marks sound = longer packs (kept_of marks) (stood_of marks) (λ n. (sound n).kept_stood)
 
-  pub leaves_standing : (packs : Packs D) (marks : Marks) → IsSound g packs marks → (left : Contents) → IsTrue (clean_of g packs) → Leaves g packs left
-      → Within (contents_of g packs (stood_of marks)) left
+  pub leaves_standing : (packs : Packs D) (marks : Marks) → IsSound g packs marks → (left : Contents) → IsTrue (clean_of g packs)
+      → Leaves g packs left → Within (contents_of g packs (stood_of marks)) left
   leaves_standing packs marks sound left clean leaves pack offset size bytes has =
       let (file, may, is) = leaves pack in
       let at = sound pack in
       let here = clean_at packs clean pack in
       let w = at.written here in
-      is offset size ∙ leaves_to (pack_at packs pack) file may (stood_of marks pack) (omega (arith, w.long, at.stood_written)) (at.stands here) offset size bytes has
+      let long : stood_of marks pack ≤ length (file_of g packs pack) = omega (arith, w.long, at.stood_written) in
+      is offset size ∙ leaves_to (pack_at packs pack) file may (stood_of marks pack) long (at.stands here) offset size bytes has
 
   stays_in : ((file : D) → g.may_leave file (g.seen file)) → (slot : Option (Pack D)) → LeavesIn g slot (file_in g slot)
   stays_in stay None = refl
   stays_in stay (Some pack) = stay pack.disk
 
-  pub may_stay : (packs : Packs D) (marks : Marks) → IsSound g packs marks → ((file : D) → g.may_leave file (g.seen file)) → IsTrue (clean_of g packs)
-      → (left : Contents) × Leaves g packs left × Within (contents_of g packs (seen_of marks)) left
+  pub may_stay : (packs : Packs D) (marks : Marks) → IsSound g packs marks → ((file : D) → g.may_leave file (g.seen file))
+      → IsTrue (clean_of g packs) → (left : Contents) × Leaves g packs left × Within (contents_of g packs (seen_of marks)) left
   may_stay packs marks sound stay clean = (
     contents_of g packs (λ pack. length (file_of g packs pack)),
     λ pack. (file_of g packs pack, stays_in stay (pack_at packs pack), λ offset size. refl),

@@ -1,5 +1,6 @@
 -- What a file has, and what the files of packs have.
-use Rattle.std.specs.Prelude.{◌≡◌, ℕ, ◌+◌, ◌&&◌, nat_le, nat_lt, if◌then◌else◌, Bool, true, List, [], length, take, drop, Option, Some, None}
+use Rattle.std.specs.Prelude.{◌≡◌, ℕ, ◌+◌, ◌&&◌, nat_le, nat_lt, if◌then◌else◌, Bool, true}
+use Rattle.std.specs.Prelude.{List, [], length, take, drop, Option, Some, None}
 use Rattle.std.specs.List.{list_all}
 use Rattle.sqlite_disk.specs.declared.Disk.{Ghosts}
 use Rattle.bh_packs.specs.Packs.{pack_at, holds_in}
