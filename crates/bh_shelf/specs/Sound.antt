@@ -7,7 +7,7 @@ use Rattle.bh_packs.specs.declared.pack.Pack.{Pack}
 use Rattle.bh_packs.specs.declared.packs.Packs.{Packs}
 use Rattle.bh_shelf.specs.declared.marks.Ends.{Ends}
 use Rattle.bh_shelf.specs.declared.marks.Marks.{Marks}
-use Rattle.bh_shelf.specs.Marks.{ends_of}
+use Rattle.bh_shelf.specs.Marks.{ends_of, written_of}
 use Rattle.bh_shelf.specs.Ranges.{part_of, file_in}
 
 -- bytes were appended to a pack since its last sync
@@ -37,6 +37,10 @@ module _ {D : Type 0} (g : Ghosts D) where
 
   abbrev pub IsSound : Packs D → Marks → Type 0
   IsSound packs marks = (pack : ℕ) → IsSoundAt (pack_at packs pack) (ends_of marks pack)
+
+  -- all that is written stands
+  abbrev pub AllStands : Packs D → Marks → Type 0
+  AllStands packs marks = (pack : ℕ) → IsCleanIn g (pack_at packs pack) → StandsTo (pack_at packs pack) (written_of marks pack)
 
   settled_prop : (slot : Option (Pack D)) (offset : ℕ) (bytes : List ℕ) → IsProp (IsSettledIn g slot offset bytes)
   settled_prop None offset bytes = hlevel props

@@ -1,11 +1,12 @@
 //! Packs and the folder of their files, with what the database knows of them.
 
-ghost use Rattle.std.specs.Prelude.{◌≡◌, ℕ};
+ghost use Rattle.std.specs.Prelude.{◌≡◌, ℕ, OnOk};
+ghost use Rattle.bh_packs.specs.Packs.{Keeps, KeepsHolds};
 ghost use Rattle.bh_shelf.specs.Contents.{HasNothing};
 ghost use Rattle.bh_shelf.specs.Laws.{kept_seen, kept_stands, leaves_standing, may_stay, seen_ends};
-ghost use Rattle.bh_shelf.specs.Marks.{kept_of, seen_of, stood_of, written_of};
+ghost use Rattle.bh_shelf.specs.Marks.{all_stood, ends_of, kept_of, seen_of, stood_of, written_of};
 ghost use Rattle.bh_shelf.specs.Ranges.{clean_of, contents_of, holds_of, Leaves};
-ghost use Rattle.bh_shelf.specs.Sound.{IsSound, sound_prop};
+ghost use Rattle.bh_shelf.specs.Sound.{AllStands, IsSound, sound_prop};
 
 use crate::marks::Marks;
 use crate::shelf::Shelf;
@@ -35,6 +36,25 @@ impl<D: Disk + Drop, F: Folder<D>> Shelved<D, F> {
             folder,
             marks: Marks::new(alloc),
         }
+    }
+
+    /// Syncs the files that were appended to. All that is written stands then.
+    fn settle(&mut self) -> Result<(), Trouble>
+        ensures stands { OnOk result (AllStands D.Disk self.new.packs self.new.marks) }
+        ensures marks { self.new.marks ≡ self.old.marks }
+        ensures keeps { Keeps D.Disk self.old.packs self.new.packs }
+        ensures holds { KeepsHolds self.old.packs self.new.packs }
+    {
+        self.packs.sync()
+    }
+
+    /// Notes that all that is written stands.
+    fn note(&mut self)
+        requires { AllStands D.Disk self.old.packs self.old.marks }
+        ensures ends { (n : ℕ) → ends_of self.new.marks n ≡ all_stood (ends_of self.old.marks n) }
+        ensures packs { self.new.packs ≡ self.old.packs }
+    {
+        self.marks.stand();
     }
 }
 
@@ -82,8 +102,8 @@ impl<D: Disk + Drop, F: Folder<D>> Shelf for Shelved<D, F> {
     }
 
     fn sync(&mut self) -> Result<(), Trouble> {
-        self.packs.sync()?;
-        self.marks.stand();
+        self.settle()?;
+        self.note();
         Ok(())
     }
 
