@@ -1,0 +1,5 @@
+pub mod Contents
+pub mod Laws
+pub mod Marks
+pub mod Ranges
+pub mod Sound

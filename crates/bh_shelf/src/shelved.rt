@@ -1,0 +1,140 @@
+//! Packs and the folder of their files, with what the database knows of them.
+
+ghost use Rattle.std.specs.Prelude.{◌≡◌, ℕ, OnOk};
+ghost use Rattle.bh_packs.specs.Packs.{Keeps, KeepsHolds};
+ghost use Rattle.bh_shelf.specs.Contents.{HasNothing};
+ghost use Rattle.bh_shelf.specs.Laws.{kept_seen, kept_stands, leaves_standing, may_stay, seen_ends};
+ghost use Rattle.bh_shelf.specs.Marks.{all_stood, ends_of, kept_of, seen_of, stood_of, written_of};
+ghost use Rattle.bh_shelf.specs.Ranges.{clean_of, contents_of, holds_of, Leaves};
+ghost use Rattle.bh_shelf.specs.Sound.{AllStands, IsSound, sound_prop};
+
+use crate::marks::Marks;
+use crate::shelf::Shelf;
+use bh_packs::folder::{Folder, InMemory};
+use bh_packs::packs::Packs;
+use bh_packs::place::{Bounds, Hold, Lane, Place};
+use bh_packs::trouble::Trouble;
+use sqlite_disk::{Disk, Memory};
+use std::alloc::Global;
+
+/// Packs, the folder that their files are in, and up to where each is written, stands, is seen and is kept.
+#[derive(Drop)]
+pub struct Shelved<D: Disk, F> {
+    packs: Packs<D>,
+    folder: F,
+    marks: Marks,
+    ghost sound: { IsSound D.Disk packs marks } by { sound_prop D.Disk packs marks },
+}
+
+impl<D: Disk + Drop, F: Folder<D>> Shelved<D, F> {
+    /// No packs. Their files are to be in this folder.
+    pub fn new(alloc: Global, bounds: Bounds, folder: F) -> Shelved<D, F>
+        ensures { (pack : ℕ) → HasNothing (⟦<Shelved<D, F> as Shelf>⟧.seen result) pack }
+    {
+        Shelved {
+            packs: Packs::new(alloc, bounds),
+            folder,
+            marks: Marks::new(alloc),
+        }
+    }
+
+    /// Syncs the files that were appended to. All that is written stands then.
+    fn settle(&mut self) -> Result<(), Trouble>
+        ensures stands { OnOk result (AllStands D.Disk self.new.packs self.new.marks) }
+        ensures marks { self.new.marks ≡ self.old.marks }
+        ensures keeps { Keeps D.Disk self.old.packs self.new.packs }
+        ensures holds { KeepsHolds self.old.packs self.new.packs }
+    {
+        self.packs.sync()
+    }
+
+    /// Notes that all that is written stands.
+    fn note(&mut self)
+        requires { AllStands D.Disk self.old.packs self.old.marks }
+        ensures ends { (n : ℕ) → ends_of self.new.marks n ≡ all_stood (ends_of self.old.marks n) }
+        ensures packs { self.new.packs ≡ self.old.packs }
+    {
+        self.marks.stand();
+    }
+}
+
+impl Shelved<Memory, InMemory> {
+    /// No packs. Their files are to be in memory.
+    pub fn in_memory(alloc: Global, bounds: Bounds) -> Shelved<Memory, InMemory>
+        ensures { (pack : ℕ) → HasNothing (⟦<Shelved<Memory, InMemory> as Shelf>⟧.seen result) pack }
+    {
+        Shelved::new(alloc, bounds, InMemory::new(alloc))
+    }
+}
+
+impl<D: Disk + Drop, F: Folder<D>> Shelf for Shelved<D, F> {
+    ghost seen = { λ s. contents_of D.Disk s.packs (seen_of s.marks) };
+
+    ghost stood = { λ s. contents_of D.Disk s.packs (stood_of s.marks) };
+
+    ghost kept = { λ s. contents_of D.Disk s.packs (kept_of s.marks) };
+
+    ghost may_leave = { λ s. Leaves D.Disk s.packs };
+
+    ghost ends = { λ s. written_of s.marks };
+
+    ghost holds = { λ s. holds_of s.packs };
+
+    ghost is_clean = { λ s. clean_of D.Disk s.packs };
+
+    ghost kept_seen = { λ s. kept_seen _ s.packs s.marks s.sound };
+
+    ghost seen_ends = { λ s. seen_ends _ s.packs s.marks s.sound };
+
+    ghost kept_stands = { λ s. kept_stands _ s.packs s.marks s.sound };
+
+    ghost leaves_standing = { λ s. leaves_standing _ s.packs s.marks s.sound };
+
+    ghost may_stay = { λ s. may_stay _ s.packs s.marks s.sound D.seen_may_stay };
+
+    fn append(&mut self, lane: Lane, bytes: &[u8]) -> Result<Place, Trouble> {
+        if bytes.is_empty() {
+            return Err(Trouble::Outside);
+        }
+        let place = self.packs.append(&mut self.folder, lane, bytes)?;
+        self.marks.write(place.pack, place.offset, bytes.len())?;
+        Ok(place)
+    }
+
+    fn sync(&mut self) -> Result<(), Trouble> {
+        self.settle()?;
+        self.note();
+        Ok(())
+    }
+
+    fn keep(&mut self) {
+        self.marks.keep();
+    }
+
+    fn forget(&mut self) {
+        self.marks.forget();
+    }
+
+    fn read(&mut self, place: Place, room: &mut [u8]) -> Result<(), Trouble> {
+        self.packs.read(place, room)
+    }
+
+    fn mark(&self, pack: usize) -> Option<usize> {
+        self.packs.mark(pack)
+    }
+
+    fn hold(&mut self, pack: usize) -> Result<Hold, Trouble> {
+        self.packs.hold(pack)
+    }
+
+    fn let_go(&mut self, hold: Hold) {
+        self.packs.let_go(hold);
+    }
+
+    fn remove(&mut self, pack: usize) -> Result<(), Trouble> {
+        let file = self.packs.remove(pack)?;
+        self.marks.clear(pack);
+        self.folder.delete(pack, file)?;
+        Ok(())
+    }
+}
