@@ -64,6 +64,7 @@ impl<D: Disk + Drop> Pack<D> {
         ensures marked { IfOk result (λ pack. (pack.synced ≡ mark) × (pack.end ≡ mark)) }
         ensures settled { IfOk result (λ pack. (at : ℕ) (bytes : List ℕ) → at + length bytes ≤ mark
             → Stands D.Disk disk at bytes → IsSettled D.Disk pack at bytes) }
+        ensures long { IfOk result (λ pack. IsTrue (D.Disk.is_clean pack.disk) → mark ≤ length (D.Disk.seen disk)) }
     {
         if !disk.may_be_used() {
             return Err(Trouble::Unusable);

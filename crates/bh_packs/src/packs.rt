@@ -1,7 +1,7 @@
 //! All packs of a host.
 
 ghost use Rattle.std.specs.Prelude.{◌≡◌, ◌≢◌, ◌+◌, ◌-◌, ◌<◌, ◌≤◌, ◌++◌, ◌∷◌, [], ℕ, List, length};
-ghost use Rattle.std.specs.Prelude.{IfOk, IfSome, OnOk, OnErr};
+ghost use Rattle.std.specs.Prelude.{IfOk, IfSome, IsTrue, OnOk, OnErr};
 ghost use Rattle.bh_packs.specs.Stands.{Stands};
 ghost use Rattle.bh_packs.specs.Sums.{sum_of};
 ghost use Rattle.bh_packs.specs.Packs.{pack_at, end_in, holds_in, IsOfLane, IsMark, IsCleanIn, IsSettled, IsSettledIn, IsWrittenIn};
@@ -39,6 +39,7 @@ impl<D: Disk + Drop> Packs<D> {
         ensures settled { OnOk result ((at : ℕ) (bytes : List ℕ) → at + length bytes ≤ mark
             → Stands D.Disk file at bytes → IsSettledIn D.Disk (pack_at self.new pack) at bytes) }
         ensures end { OnOk result (end_in (pack_at self.new pack) ≡ mark) }
+        ensures long { OnOk result (IsCleanIn D.Disk (pack_at self.new pack) → mark ≤ length (D.Disk.seen file)) }
         ensures keeps { Keeps D.Disk self.old self.new }
         ensures holds { KeepsHolds self.old self.new }
     {
@@ -231,6 +232,7 @@ impl<D: Disk + Drop> Packs<D> {
         ensures settled { OnOk result ((at : ℕ) (bytes : List ℕ) → IsSettled D.Disk pack at bytes
             → IsSettledIn D.Disk (pack_at self.new number) at bytes) }
         ensures end { OnOk result (end_in (pack_at self.new number) ≡ pack.end) }
+        ensures clean { OnOk result (IsCleanIn D.Disk (pack_at self.new number) → IsTrue (D.Disk.is_clean pack.disk)) }
         ensures keeps { Keeps D.Disk self.old self.new }
         ensures holds { KeepsHolds self.old self.new }
     {

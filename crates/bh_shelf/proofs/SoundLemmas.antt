@@ -3,7 +3,8 @@ use Rattle.std.proofs.Common.{◌≡◌, ◌≢◌, ℕ, ◌+◌, ◌-◌, ◌<�
 use Rattle.std.proofs.lemmas.Bool.{cases_Bool, cases_lt, false≢true}
 use Rattle.sqlite_disk.specs.Disk.{Holds}
 use Rattle.sqlite_disk.specs.declared.Disk.{Ghosts}
-use Rattle.bh_packs.specs.Packs.{pack_at, IsSettled, IsSettledIn, IsWrittenIn, IsCleanIn, IsGiven, IsKept, KeepsPack, Keeps}
+use Rattle.bh_packs.specs.Packs.{pack_at, end_in, IsSettled, IsSettledIn, IsWrittenIn, IsCleanIn, IsGiven, IsKept, KeepsPack, Keeps}
+use Rattle.bh_packs.specs.Stands.{Stands}
 use Rattle.bh_packs.specs.Sums.{sum_of}
 use Rattle.bh_packs.specs.declared.pack.Pack.{Pack}
 use Rattle.bh_packs.specs.declared.packs.Packs.{Packs}
@@ -12,7 +13,7 @@ use Rattle.bh_shelf.specs.declared.marks.Ends.{Ends}
 use Rattle.bh_shelf.specs.declared.marks.Marks.{Marks}
 use Rattle.bh_shelf.specs.Contents.{Contents, Within, AreSameBut, HasNothing, IsPlaced}
 use Rattle.bh_shelf.specs.Laws.{length_part, part_index, front, part_same, part_held, front_held, part_holds, range_some, range_is, ranges_same, range_none, clean_at, clean_each, longer}
-use Rattle.bh_shelf.specs.Marks.{no_ends, ends_of, all_kept, all_stood, kept_alone, written_to, kept_of, seen_of, stood_of, written_of}
+use Rattle.bh_shelf.specs.Marks.{no_ends, ends_of, all_kept, all_stood, kept_alone, written_to, ends_at, kept_of, seen_of, stood_of, written_of}
 use Rattle.bh_shelf.specs.Ranges.{part_of, range_of, file_in, file_of, clean_of, contents_of}
 use Rattle.bh_shelf.specs.Sound.{StandsTo, WrittenTo, IsSoundAt, IsSound}
 use Rattle.bh_shelf.proofs.MarkLemmas.{one_and_others}
@@ -434,3 +435,61 @@ module _ {D : Type 0} (g : Ghosts D) where
     pub stood_adds : ((n : ℕ) → stood_of before n ≤ stood_of after n) → Within (contents_of g old (stood_of before)) (contents_of g new (stood_of after))
     stood_adds rises pack offset size bytes has =
         longer g new (stood_of before) (stood_of after) rises pack offset size bytes (stood_keeps old new keeps before sound clean pack offset size bytes has)
+
+  -- a file that was synced, opened as a pack up to a mark
+  module _ (slot : Option (Pack D)) (file : D) (mark : ℕ) (synced : (offset : ℕ) (bytes : List ℕ) → Holds (g.seen file) offset bytes → Stands g file offset bytes)
+      (settled : (offset : ℕ) (bytes : List ℕ) → offset + length bytes ≤ mark → Stands g file offset bytes → IsSettledIn g slot offset bytes)
+      (end : end_in slot ≡ mark) (long : mark ≤ length (g.seen file)) where
+    first_settled : IsSettledIn g slot 0 (part_of (g.seen file) 0 mark)
+    first_settled =
+        let here = length_part (g.seen file) 0 mark (omega (arith, long)) in
+        settled 0 (part_of (g.seen file) 0 mark) (omega (arith, here)) (synced 0 (part_of (g.seen file) 0 mark) (front_held (g.seen file) mark long))
+
+    opened_stands : StandsTo g slot mark
+    opened_stands some =
+        let bytes = part_of (g.seen file) 0 mark in
+        let here = length_part (g.seen file) 0 mark (omega (arith, long)) in
+        let s = first_settled in
+        let P : List ℕ → Type 0 = λ b. IsSettledIn g slot 0 b in
+        subst P (sym (ap (part_of (file_in g slot) 0) (sym here) ∙ part_holds (file_in g slot) 0 bytes (settled_held slot 0 bytes s))) s
+
+    opened_written : WrittenTo g slot mark
+    opened_written =
+        let bytes = part_of (g.seen file) 0 mark in
+        let here = length_part (g.seen file) 0 mark (omega (arith, long)) in
+        let held = settled_held slot 0 bytes first_settled in
+        record { below = omega (arith, end); long = omega (arith, here, held.within); safe = λ _. opened_stands }
+
+    -- it has what the file had before the mark
+    pub opened_ranges : (offset size : ℕ) → range_of (file_in g slot) mark offset size ≡ range_of (g.seen file) mark offset size
+    opened_ranges =
+        let bytes = part_of (g.seen file) 0 mark in
+        let here = length_part (g.seen file) 0 mark (omega (arith, long)) in
+        ranges_same (file_in g slot) (g.seen file) bytes mark (omega (arith, here)) (settled_held slot 0 bytes first_settled) (front_held (g.seen file) mark long)
+
+  pub sound_opens : (packs : Packs D) (before after : Marks) → IsSound g packs before → (pack : ℕ) (file : D) (mark : ℕ)
+      → ((offset : ℕ) (bytes : List ℕ) → Holds (g.seen file) offset bytes → Stands g file offset bytes)
+      → ((offset : ℕ) (bytes : List ℕ) → offset + length bytes ≤ mark → Stands g file offset bytes → IsSettledIn g (pack_at packs pack) offset bytes)
+      → end_in (pack_at packs pack) ≡ mark → (IsCleanIn g (pack_at packs pack) → mark ≤ length (g.seen file))
+      → ends_of after pack ≡ ends_at mark → ((n : ℕ) → n ≢ pack → ends_of after n ≡ ends_of before n) → IsSound g packs after
+  sound_opens packs before after sound pack file mark synced settled end long to others =
+      let P : ℕ → Type 0 = λ n. IsSoundAt g (pack_at packs n) (ends_of after n) in
+      let Q : Ends → Type 0 = λ ends. IsSoundAt g (pack_at packs pack) ends in
+      let opened : IsSoundAt g (pack_at packs pack) (ends_at mark) = record {
+        kept_seen = omega arith;
+        kept_stood = omega arith;
+        seen_written = omega arith;
+        stood_written = omega arith;
+        written = λ clean. opened_written (pack_at packs pack) file mark synced settled end (long clean);
+        stands = λ clean. opened_stands (pack_at packs pack) file mark synced settled end (long clean);
+      } in
+      one_and_others P pack (subst Q (sym to) opened)
+      (λ n other. let S : Ends → Type 0 = λ ends. IsSoundAt g (pack_at packs n) ends in subst S (sym (others n other)) (sound n))
+
+  -- packs that are kept, and the ends of all but one
+  pub others_keep : (old new : Packs D) (keeps : Keeps g old new) (marks : Marks) → IsSound g old marks → IsTrue (clean_of g new) → (ends after : ℕ → ℕ)
+      → ((n : ℕ) → ends n ≤ written_of marks n) → (pack : ℕ) → ((n : ℕ) → n ≢ pack → after n ≡ ends n)
+      → AreSameBut pack (contents_of g new after) (contents_of g old ends)
+  others_keep old new keeps marks sound clean ends after short pack same n other offset size =
+      ap (λ (end : ℕ). range_of (file_of g new n) end offset size) (same n other)
+      ∙ ap (λ (c : Contents). c n offset size) (ends_keep old new keeps marks sound clean ends short)

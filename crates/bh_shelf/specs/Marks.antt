@@ -26,6 +26,10 @@ kept_alone ends = record ends { seen = ends.kept }
 abbrev pub written_to : ℕ → Ends → Ends
 written_to end ends = record ends { seen = end; written = end }
 
+-- all before a mark is kept, and nothing is past it
+abbrev pub ends_at : ℕ → Ends
+ends_at mark = record { kept = mark; seen = mark; stood = mark; written = mark }
+
 abbrev pub kept_of : Marks → ℕ → ℕ
 kept_of marks pack = (ends_of marks pack).kept
 

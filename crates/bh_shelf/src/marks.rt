@@ -1,7 +1,7 @@
 //! Up to where each pack is written, seen, standing and kept.
 
 ghost use Rattle.std.specs.Prelude.{◌≡◌, ◌≢◌, ◌+◌, ℕ, OnOk, OnErr};
-ghost use Rattle.bh_shelf.specs.Marks.{no_ends, ends_of, all_kept, all_stood, kept_alone, written_to};
+ghost use Rattle.bh_shelf.specs.Marks.{no_ends, ends_of, all_kept, all_stood, kept_alone, written_to, ends_at};
 
 use bh_packs::trouble::Trouble;
 use std::alloc::Global;
@@ -59,6 +59,24 @@ impl Marks {
         }
         self.ends[pack].seen = end;
         self.ends[pack].written = end;
+        Ok(())
+    }
+
+    /// A pack was opened at a mark: all before it is kept. An error if there is no room for its ends.
+    pub(crate) fn open(&mut self, pack: usize, mark: usize) -> Result<(), Trouble>
+        ensures opened { OnOk result (ends_of self.new pack ≡ ends_at mark) }
+        ensures others { (n : ℕ) → n ≢ pack → ends_of self.new n ≡ ends_of self.old n }
+        ensures failed { OnErr result ((n : ℕ) → ends_of self.new n ≡ ends_of self.old n) }
+    {
+        if pack >= self.ends.len() {
+            return Err(Trouble::Full);
+        }
+        self.ends[pack] = Ends {
+            kept: mark,
+            seen: mark,
+            stood: mark,
+            written: mark,
+        };
         Ok(())
     }
 
@@ -128,7 +146,7 @@ impl Marks {
     }
 
     /// Makes room for the ends of a pack.
-    fn reach(&mut self, pack: usize) -> Result<(), Trouble>
+    pub(crate) fn reach(&mut self, pack: usize) -> Result<(), Trouble>
         ensures { (n : ℕ) → ends_of self.new n ≡ ends_of self.old n }
     {
         let Some(count) = pack.checked_add(1) else {

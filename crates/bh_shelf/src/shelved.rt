@@ -1,11 +1,13 @@
 //! Packs and the folder of their files, with what the database knows of them.
 
-ghost use Rattle.std.specs.Prelude.{◌≡◌, ℕ, OnOk};
+ghost use Rattle.std.specs.Prelude.{◌≡◌, ℕ, List, IsTrue, OnOk};
+ghost use Rattle.sqlite_disk.specs.Disk.{Holds};
 ghost use Rattle.bh_packs.specs.Packs.{Keeps, KeepsHolds};
-ghost use Rattle.bh_shelf.specs.Contents.{HasNothing};
+ghost use Rattle.bh_packs.specs.Stands.{Stands};
+ghost use Rattle.bh_shelf.specs.Contents.{AreSameBut, HasNothing};
 ghost use Rattle.bh_shelf.specs.Laws.{kept_seen, kept_stands, leaves_standing, may_stay, seen_ends};
 ghost use Rattle.bh_shelf.specs.Marks.{all_stood, ends_of, kept_of, seen_of, stood_of, written_of};
-ghost use Rattle.bh_shelf.specs.Ranges.{clean_of, contents_of, holds_of, Leaves};
+ghost use Rattle.bh_shelf.specs.Ranges.{range_of, clean_of, contents_of, holds_of, Leaves};
 ghost use Rattle.bh_shelf.specs.Sound.{AllStands, IsSound, sound_prop};
 
 use crate::marks::Marks;
@@ -55,6 +57,26 @@ impl<D: Disk + Drop, F: Folder<D>> Shelved<D, F> {
         ensures packs { self.new.packs ≡ self.old.packs }
     {
         self.marks.stand();
+    }
+}
+
+impl<D: Disk + Drop, F: Folder<D>> Shelved<D, F> {
+    /// Opens a pack of a file that was synced. All that it has up to this mark is kept, and what is past it
+    /// is nobody's, and is written over. If it fails, the file is closed.
+    pub fn open(&mut self, pack: usize, file: D, mark: usize, lane: Lane) -> Result<(), Trouble>
+        requires { (offset : ℕ) (bytes : List ℕ) → Holds (D.Disk.seen file) offset bytes → Stands D.Disk file offset bytes }
+        ensures opened { OnOk result (IsTrue (⟦<Shelved<D, F> as Shelf>⟧.is_clean self.new) → (offset size : ℕ)
+            → ⟦<Shelved<D, F> as Shelf>⟧.kept self.new pack offset size ≡ range_of (D.Disk.seen file) mark offset size) }
+        ensures others { IsTrue (⟦<Shelved<D, F> as Shelf>⟧.is_clean self.new)
+            → AreSameBut pack (⟦<Shelved<D, F> as Shelf>⟧.kept self.new) (⟦<Shelved<D, F> as Shelf>⟧.kept self.old) }
+        ensures seen { IsTrue (⟦<Shelved<D, F> as Shelf>⟧.is_clean self.new)
+            → AreSameBut pack (⟦<Shelved<D, F> as Shelf>⟧.seen self.new) (⟦<Shelved<D, F> as Shelf>⟧.seen self.old) }
+        ensures clean { IsTrue (⟦<Shelved<D, F> as Shelf>⟧.is_clean self.new)
+            → IsTrue (⟦<Shelved<D, F> as Shelf>⟧.is_clean self.old) }
+    {
+        self.marks.reach(pack)?;
+        self.packs.open(pack, file, mark, lane)?;
+        self.marks.open(pack, mark)
     }
 }
 
