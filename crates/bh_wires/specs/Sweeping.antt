@@ -8,9 +8,13 @@ use Rattle.std.specs.declared.io.impls.Cursor.{Cursor}
 use Rattle.std.specs.declared.vec.Vec.{Vec}
 use Rattle.bh_wires.specs.declared.sweeping.Sweeping.{Sweeping}
 
--- a step is followed by none for 20 ms, and for four times as long as it took
+-- a step is followed by none for 20 ms, and for four times as long as it took, or, while 64 MiB wait for
+-- their sweep, for as long
+abbrev pub times : Sweeping → ℕ
+times it = if nat_lt it.came 67108864 then 4 else 1
+
 abbrev pub has_rested : Sweeping → ℕ → Bool
-has_rested it now = not (nat_lt now (it.ended + max 20 (4 * it.took)))
+has_rested it now = not (nat_lt now (it.ended + max 20 (times it * it.took)))
 
 -- something is known to be left, or was written: 64 MiB of it, or a minute ago
 abbrev pub is_wanted : Sweeping → ℕ → Bool

@@ -24,6 +24,9 @@ const REST: u64 = 20;
 
 const SHARE: u64 = 4;
 
+/// The same while enough came to begin a sweep: who writes fast would be faster than its steps.
+const BEHIND: u64 = 1;
+
 /// How the reply to a step ends that left nothing, and to one that left something.
 const COMPLETE: &[u8] = b" complete";
 
@@ -70,10 +73,16 @@ impl Sweeping {
     fn has_rested(&self, now: u64) -> bool
         ensures { result ≡ spec.has_rested self.now now }
     {
-        match self.took.checked_mul(SHARE) {
+        match self.took.checked_mul(self.times()) {
             Some(long) => is_past(self.ended, long.max(REST), now),
             None => false,
         }
+    }
+
+    fn times(&self) -> u64
+        ensures { result ≡ spec.times self.now }
+    {
+        if self.came < WRITTEN { SHARE } else { BEHIND }
     }
 
     fn is_wanted(&self, now: u64) -> bool
