@@ -10,7 +10,7 @@ READ = [("GET", it, "") for it in """/ /?usage /plans?list-type=2 /plans/a /plan
 # Of a file of version 2 too, which has a locked bucket and a version with a date.
 READ_DATED = [("GET", "/vault?object-lock", ""), ("GET", "/vault/x?retention", "")]
 # The tables of version 4 that nothing fills yet.
-UNFILLED = ("packs", "placed", "notes", "upload_notes", "rights", "garbage")
+UNFILLED = ("packs", "placed", "notes", "upload_notes", "rights")
 HOSTS = os.path.join(CRATES, "examples/data/hosts")
 
 

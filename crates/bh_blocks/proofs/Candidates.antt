@@ -1,13 +1,37 @@
 -- From the blocks of a digest to the one that holds some bytes.
-use Rattle.std.proofs.Common.{◌≡◌, ℕ, ◌+◌, Bool, true, false, ◌&&◌, List, [], ◌∷◌, map, filter, find, length, drop, cond, arith, Ordering, Option, Some, None, option_map, refl, sym, ap, ◌∙◌, subst, if◌then◌else◌}
+use Rattle.std.proofs.Common.{◌≡◌, inl, inr, pos, ℕ, ◌+◌, Bool, true, false, ◌&&◌, List, [], ◌∷◌, map, filter, find, length, drop, cond, arith, Ordering, Option, Some, None, option_map, refl, sym, ap, ◌∙◌, subst, if◌then◌else◌}
 use Rattle.sqlite_typed.specs.Tests.{bytes_eq}
 use Rattle.bh_tables.specs.Schema.{Octets}
 use Rattle.bh_tables.specs.Typed.{BlockRow}
-use Rattle.bh_tables.specs.Shown.{has_digest, is_copy, by_ord}
+use Rattle.bh_tables.specs.Shown.{has_digest, is_block, is_copy, by_ord}
 use Rattle.bh_view.specs.Blocks.{copy_in, free_ord, least}
-use Rattle.std.specs.Ordering.{is_gt}
+use Rattle.std.specs.Cmp.Derive.{both_true}
+use Rattle.std.specs.Ordering.{is_gt, int_eq}
+use Rattle.std.proofs.lemmas.Bool.{and_parts}
+use Rattle.std.proofs.lemmas.Int.{ints}
+use Rattle.sqlite_rules.specs.Lists.{Has}
+use Rattle.sqlite_typed.proofs.TestLemmas.{same_bytes}
 use Rattle.sqlite_keyed.specs.Lists.{insert_sorted, sort_by}
 use Rattle.bh_blocks.specs.Lookups.{ord_of_copy}
+use Rattle.bh_blocks.specs.Uses.{IsSize}
+
+-- what is found is among the elements, and passes
+found_at : {X : Type 0} (p : X → Bool) (xs : List X) (x : X) → find p xs ≡ Some x → Has xs x × (p x ≡ true)
+found_at p [] x is = absurd (cc)
+found_at {X} p (y ∷ xs) x is = go (p y) refl is (found_at p xs x)
+  where
+    go : (b : Bool) → p y ≡ b → (if b then Some y else find p xs) ≡ Some x → (find p xs ≡ Some x → Has xs x × (p x ≡ true)) → Has (y ∷ xs) x × (p x ≡ true)
+    go true on e rest = let same : y ≡ x = cc in (inl (sym same), subst (λ z. p z ≡ true) same on)
+    go false off e rest = let it = rest e in (inr it.0, it.1)
+
+-- an element that passes is among those that do
+has_passed : {X : Type 0} (p : X → Bool) (xs : List X) (x : X) → Has xs x → p x ≡ true → Has (filter p xs) x
+has_passed p [] x has on = absurd has
+has_passed p (y ∷ xs) x (inl is) on = subst (λ b. Has (cond b (y ∷ filter p xs) (filter p xs)) x) (sym (ap p (sym is) ∙ on)) (inl is)
+has_passed p (y ∷ xs) x (inr has) on = elim (p y) as (λ b. Has (cond b (y ∷ filter p xs) (filter p xs)) x) [ true ↦ inr (has_passed p xs x has on) | false ↦ has_passed p xs x has on ]
+
+int_self : (n : ℕ) → int_eq (pos n) (pos n) ≡ true
+int_self n = grind (arith, ints)
 
 abbrev pub has_bytes : Octets → BlockRow → Bool
 has_bytes bytes b = bytes_eq b.bytes bytes
@@ -65,3 +89,24 @@ none_mapped f (x ∷ xs) e = absurd (omega (arith, e))
 pub none_shown : {Y : Type 0} (shown : BlockRow → Y) (digest : Octets) (blocks : List BlockRow) (rows : List Y) → length rows ≡ 0
     → rows ≡ map shown (sort_by by_ord (filter (has_digest digest) blocks)) → filter (has_digest digest) blocks ≡ []
 none_shown shown digest blocks rows none is = none_sorted by_ord _ (none_mapped shown _ (sym (ap length is) ∙ none))
+
+-- the one block of the name under which some bytes are has these
+pub copy_sized : (digest bytes : Octets) (ord : ℕ) (blocks : List BlockRow) → Some ord ≡ ord_of_copy digest bytes blocks → IsSize (digest, ord) (length bytes) blocks
+copy_sized digest bytes ord blocks found b one = go (copy_in digest bytes blocks) refl found
+  where
+    within : (c : BlockRow) → Has blocks c → is_block (digest, ord) c ≡ true → c ≡ b
+    within c has on = only (subst (λ l. Has l c) one (has_passed (is_block (digest, ord)) blocks c has on))
+      where
+        only : Has (b ∷ []) c → c ≡ b
+        only (inl is) = is
+        only (inr none) = absurd none
+
+    its : (c : BlockRow) → is_copy digest bytes c ≡ true → c.ord ≡ ord → is_block (digest, ord) c ≡ true
+    its c copy same = both_true (and_parts _ _ copy).0 (ap (λ n. int_eq (pos n) (pos ord)) same ∙ int_self ord)
+
+    go : (o : Option BlockRow) → copy_in digest bytes blocks ≡ o → Some ord ≡ option_map (λ (c : BlockRow). c.ord) o → length bytes ≡ length b.bytes
+    go None is e = absurd (cc)
+    go (Some c) is e =
+        let same : c.ord ≡ ord = (let z : ord ≡ c.ord = cc in sym z) in
+        let at = found_at (is_copy digest bytes) blocks c is in
+        ap length (sym (same_bytes c.bytes bytes (and_parts _ _ at.1).1)) ∙ ap (λ (x : BlockRow). length x.bytes) (within c at.0 (its c at.1 same))

@@ -1,13 +1,14 @@
 -- Counts of uses and what they count, in the midst of a write: laws of the pairs that come to an end.
-use Rattle.std.proofs.Common.{◌≡◌, ℕ, zero, suc, ◌+◌, pos, true, List, [], ◌∷◌, ◌++◌, take, drop, None, Ok, Err, Result, IfErr, arith, refl, sym, ap, subst, ◌∙◌}
+use Rattle.std.proofs.Common.{◌≡◌, ℕ, zero, suc, ◌+◌, pos, true, List, [], ◌∷◌, ◌++◌, take, drop, length, None, Ok, Err, Result, IfErr, arith, refl, sym, ap, subst, ◌∙◌}
 use Rattle.sqlite.specs.State.{State}
 use Rattle.sqlite.specs.declared.error.Error.{Error}
 use Rattle.bh_rows.specs.Means.{is_trouble}
 use Rattle.bh_tables.specs.Typed.{Totals, totals_of, counted, BlockRow, RefRow, Tables, rebodied, lowered, lowered_by}
-use Rattle.bh_tables.specs.Bodies.{placed}
+use Rattle.bh_tables.specs.Bodies.{placed, block_at, unneeded}
 use Rattle.bh_tables.specs.Shown.{Name, ref_name, block_name}
 use Rattle.bh_tables.proofs.ResolvedLemmas.{rebodied_twice}
-use Rattle.bh_tables.proofs.TotalLemmas.{totals_rebodied, uses_added, lowered_then, use_left}
+use Rattle.bh_tables.proofs.TotalLemmas.{uses_added, lowered_then, use_left}
+use Rattle.bh_tables.proofs.GarbageLemmas.{unneeded_added, measured_with, measured_added, added_at, turned_sums}
 use Rattle.bh_schema.specs.Layer.{Standing, standing, IsIntact, IsInsideBy, HoldsBy}
 use Rattle.bh_blocks.specs.Uses.{IsNewName, IsCounted, IsUsed, AreUsed}
 
@@ -21,9 +22,15 @@ alone old new (Err e) h = λ intact unlimited. h intact unlimited tt
 pub added_twice : (t : Tables) (r : RefRow) (b : BlockRow) → rebodied (rebodied t t.refs (t.blocks ++ b ∷ [])) (t.refs ++ r ∷ []) (t.blocks ++ b ∷ []) ≡ rebodied t (t.refs ++ r ∷ []) (t.blocks ++ b ∷ [])
 added_twice t r b = rebodied_twice t (t.refs ++ r ∷ []) t.refs (t.blocks ++ b ∷ []) (t.blocks ++ b ∷ [])
 
-pub piece_law : (t : Tables) (r : RefRow) (b : BlockRow) → ref_name r ≡ block_name b → IsNewName (block_name b) t
+pub piece_law : (t : Tables) (r : RefRow) (b : BlockRow) → ref_name r ≡ block_name b → r.size ≡ length b.bytes → IsNewName (block_name b) t → (totals_of t).measured ≡ true
     → counted (λ us. us ++ record { digest = b.digest; ord = b.ord; uses = pos 1 } ∷ []) (totals_of t) ≡ totals_of (rebodied (rebodied t t.refs (t.blocks ++ b ∷ [])) (t.refs ++ r ∷ []) (t.blocks ++ b ∷ []))
-piece_law t r b same fresh = sym (ap totals_of (added_twice t r b) ∙ totals_rebodied t (t.refs ++ r ∷ []) (t.blocks ++ b ∷ []) ∙ ap (λ us. record (totals_of t) { uses = us }) (uses_added t.refs t.blocks r b same fresh.free fresh.unused))
+piece_law t r b same size fresh measured =
+    let refs = t.refs ++ r ∷ [] in
+    let blocks = t.blocks ++ b ∷ [] in
+    turned_sums t refs blocks ((totals_of t).uses ++ record { digest = b.digest; ord = b.ord; uses = pos 1 } ∷ []) (unneeded t.refs t.blocks)
+    (sym (uses_added t.refs t.blocks r b same fresh.free fresh.unused)) (sym (unneeded_added t.refs r t.blocks b same fresh.free)) measured
+    (measured_with t.refs blocks r (measured_added t.refs t.blocks b fresh.unused measured) (size ∙ sym (ap length (ap (block_at blocks) same ∙ added_at t.blocks b fresh.free))))
+    ∙ sym (ap totals_of (added_twice t r b))
 
 -- ---- references are taken off, one after another
 

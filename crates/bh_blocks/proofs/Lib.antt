@@ -1,4 +1,5 @@
 pub mod Counting
+pub mod Garbage
 pub mod UseCalls
 pub mod Loops
 pub mod BodySteps

@@ -1,5 +1,14 @@
 -- Loops over the rows that a text shows of typed rows, and the least ordinal that no row has.
-use Rattle.std.proofs.Common.{◌≡◌, ◌≢◌, ℕ, zero, suc, ◌+◌, ◌<◌, cond, List, [], ◌∷◌, map, length, get_or, drop, refl, sym, ap, ◌∙◌, subst, arith}
+use Rattle.std.proofs.Common.{◌≡◌, ◌≢◌, ℕ, zero, suc, ◌+◌, ◌<◌, ◌≤◌, pos, cond, List, [], ◌∷◌, map, length, get_or, slice_get, Some, drop, refl, sym, ap, ◌∙◌, subst, arith}
+use Rattle.std.specs.List.{All, AllByRecursion}
+use Rattle.sqlite.specs.Order.{Row, column}
+use Rattle.sqlite.specs.declared.types.Value.TheVariants.{Int, Blob}
+use Rattle.sqlite_typed.specs.Columns.{int_of, bytes_of}
+use Rattle.bh_tables.specs.Schema.{Octets}
+use Rattle.bh_tables.specs.Typed.{UseRow}
+use Rattle.bh_tables.specs.Shown.{shown_bytes}
+use Rattle.bh_tables.specs.Garbage.{shown_uses}
+use Rattle.bh_blocks.specs.Uses.{size_of}
 use Rattle.std.proofs.lemmas.Bool.{eq-eqb, ne_eqb}
 use Rattle.bh_tables.specs.Typed.{BlockRow}
 use Rattle.bh_view.specs.Blocks.{least}
@@ -37,3 +46,26 @@ module _ (free i : ℕ) (bs : List BlockRow) (b : BlockRow) (left : drop i bs �
     where
       one : (n : ℕ) → suc n ≡ n + 1
       one n = omega arith
+
+-- what each typed row has, the row that is shown of it has
+pub all_shown : {T X : Type 0} (shown : T → X) (P : T → Type 0) (ts : List T) → AllByRecursion P ts → All (λ x. (t : T) × ((x ≡ shown t) × P t)) (map shown ts)
+all_shown shown P [] all i d low = absurd (omega (arith, low))
+all_shown shown P (t ∷ ts) all zero d low = (t, (refl, all.0))
+all_shown shown P (t ∷ ts) all (suc i) d low = all_shown shown P ts all.1 i d (omega (arith, low))
+
+-- the first element of one is it
+pub only_is : {X : Type 0} (xs : List X) (x : X) → slice_get xs 0 ≡ Some x → length xs ≤ 1 → xs ≡ x ∷ []
+only_is [] x is one = absurd (cc)
+only_is (y ∷ []) x is one = let same : y ≡ x = cc in ap (λ z. z ∷ []) same
+only_is (y ∷ z ∷ xs) x is one = absurd (omega (arith, one))
+
+-- the one row of counts, and of blocks
+pub one_use : (us : List UseRow) (row : Row) (n : ℕ) → map shown_uses us ≡ row ∷ [] → column row 0 ≡ Int (pos n) → map (λ (u : UseRow). u.uses) us ≡ pos n ∷ []
+one_use [] row n is told = absurd (cc)
+one_use (u ∷ []) row n is told = let same : shown_uses u ≡ row = cc in ap (λ v. int_of v ∷ []) (ap (λ r. column r 0) same ∙ told)
+one_use (u ∷ v ∷ us) row n is told = absurd (cc)
+
+pub one_size : (bs : List BlockRow) (row : Row) (bytes : Octets) → map shown_bytes bs ≡ row ∷ [] → column row 0 ≡ Blob bytes → map size_of bs ≡ length bytes ∷ []
+one_size [] row bytes is told = absurd (cc)
+one_size (b ∷ []) row bytes is told = let same : shown_bytes b ≡ row = cc in ap (λ v. length (bytes_of v) ∷ []) (ap (λ r. column r 0) same ∙ told)
+one_size (b ∷ c ∷ bs) row bytes is told = absurd (cc)

@@ -1,17 +1,19 @@
 -- Calls over counts of uses, and over references and blocks beside them, in the midst of a write.
-use Rattle.std.proofs.Common.{◌≡◌, ℕ, pos, ◌-ℤ◌, List, [], ◌∷◌, ◌++◌, Bool, true, false, None, int_lt, Ok, Err, Result, OnOk, IfErr, sym, subst}
+use Rattle.std.proofs.Common.{◌≡◌, inl, ℕ, pos, ◌-ℤ◌, codes, List, [], ◌∷◌, ◌++◌, map, filter, Bool, true, false, None, int_lt, Ok, Err, Result, OnOk, IfOk, IfErr, sym, ap, ◌∙◌, subst}
+use Rattle.std.proofs.lemmas.Result.{IfOk-weaker}
 use Rattle.std.specs.List.{list_any, AllByRecursion}
 use Rattle.sqlite.specs.Edit.{next_rowid}
 use Rattle.sqlite.specs.declared.types.Value.TheVariants.{Blob}
 use Rattle.sqlite.specs.Effect.{IsDatabase}
 use Rattle.sqlite.specs.Order.{Row}
-use Rattle.sqlite.specs.State.{State, HasCleanDisk, IsLive, Survives, Executes, CommitsBy}
+use Rattle.sqlite.specs.State.{State, HasCleanDisk, IsLive, Survives, Executes, CommitsBy, CommitsShowing, Shown, FailsToQuery}
 use Rattle.sqlite.specs.declared.error.Error.{Error}
 use Rattle.sqlite_keyed.specs.Lists.{update_where, delete_where}
 use Rattle.sqlite_rules.proofs.ListLemmas.{has_filtered}
 use Rattle.bh_rows.specs.Texts.{IsReadyAt, InsertText, UpdateText, DeleteText, Leaves, AreFree}
 use Rattle.bh_rows.specs.Form.{Entry, put, entries, typed}
-use Rattle.bh_rows.specs.Means.{is_trouble}
+use Rattle.bh_rows.specs.Means.{is_trouble, Asks}
+use Rattle.bh_rows.specs.Scan.{no_limit}
 use Rattle.bh_rows.proofs.TextLemmas as text
 use Rattle.bh_tables.specs.Schema.{host_schema, uses_table, refs_table, blocks_table, at}
 use Rattle.bh_tables.specs.Typed.{Totals, counted, UseRow, use_form, is_named, number, RefRow, ref_form, BlockRow, block_form, IsHostBy, tables, tables_in, rebodied}
@@ -22,7 +24,9 @@ use Rattle.bh_tables.proofs.Places.{orderly, uses_is, refs, refs_is, blocks, blo
 use Rattle.bh_tables.proofs.RefTexts.{new_ref, refs_unused}
 use Rattle.bh_tables.proofs.StoredLemmas.{uses_turned}
 use Rattle.bh_tables.proofs.UseTexts.{uses_unused, lowered_suits, lowered_unwatched}
-use Rattle.bh_schema.specs.Layer.{standing, IsIntact, IsOpen, IsStateClean, IsMidst}
+use Rattle.bh_tables.specs.Garbage.{shown_uses}
+use Rattle.bh_tables.proofs.GarbageTexts.{uses_shown}
+use Rattle.bh_schema.specs.Layer.{standing, IsIntact, IsOpen, IsStateClean, IsStandingSettled, IsInsideBy, IsMidst, StateWithin}
 use Rattle.bh_schema.proofs.Calls.{Turn}
 use Rattle.bh_schema.proofs.Calls as call
 use Rattle.bh_blocks.specs.Uses.{IsNewName, IsUsed}
@@ -139,3 +143,41 @@ module _ (old new : State) (midst : IsStateClean old → IsMidst (standing old))
   turns_trouble change.Raised it runs survives = unsaid result
   turns_trouble change.Lowered it runs survives = lowers_trouble old new midst result live q (it q) runs survives
   turns_trouble change.Removed it runs survives = use_drops_trouble old new midst result live (it q) runs survives
+
+-- ---- the count of a block is told
+
+module _ (old new : State) (midst : IsStateClean old → IsMidst (standing old)) (q : Name) where
+  abbrev count_text : List ℕ
+  count_text = codes "SELECT uses FROM uses WHERE digest = ?1 AND ord = ?2 ORDER BY rowid"
+
+  abbrev its_name : Row
+  its_name = Blob q.0 ∷ number q.1 ∷ []
+
+  count_ready : IsReadyAt use_form host_schema 23 old
+  unfolding standing IsIntact IsOpen
+  count_ready clean up = let m = midst (record { intact = clean; is_open = up }) in (m.by.host.schema, m.by.host.held.uses)
+
+  pub record IsTold {X : Type 0} (rows_in : X → List Row) (result : Result X Error) : Type 0 where
+    pub within : StateWithin old new
+    pub opens : OnOk result (IsIntact new → IsOpen old × IsOpen new)
+    pub same : OnOk result (IsIntact new → standing new ≡ standing old)
+    pub rows : IfOk result (λ x. IsStateClean new → (sums : Totals) → IsInsideBy sums (standing old) → rows_in x ≡ map shown_uses (filter (is_named q) sums.uses))
+    pub trouble : IfErr result (λ e. IsIntact new → (standing old).limit ≡ None → is_trouble e ≡ true)
+
+  pub count_told : {X : Type 0} (rows_in : X → List Row) (result : Result X Error) → (HasCleanDisk new → IfOk result (λ x. Shown count_text its_name old new (rows_in x)))
+      → (HasCleanDisk new → IfErr result (FailsToQuery count_text its_name old new)) → Survives old new (CommitsShowing count_text its_name old) → IsTold rows_in result
+  unfolding standing
+  count_told {X} rows_in result ok err survives = record {
+    within = call.asks_within old new settled result asks;
+    opens = call.asks_opens old new settled result asks;
+    same = call.asks_same old new settled result asks;
+    rows = call.if_clean new result (λ x. (sums : Totals) → IsInsideBy sums (standing old) → rows_in x ≡ map shown_uses (filter (is_named q) sums.uses)) (λ clean. IfOk-weaker result _ _ (λ x is sums by. is ∙ ap (λ us. map shown_uses (filter (is_named q) us)) by.host.held.counts)
+        (text.select_rows use_form host_schema 23 old new count_ready count_text its_name (is_named q) shown_uses no_limit (uses_shown q) rows_in result ok survives clean));
+    trouble = call.asks_trouble old new settled result asks;
+  }
+    where
+      settled : IsStateClean old → IsStandingSettled (standing old)
+      settled c = inl (midst c).by.inside
+
+      asks : Asks old new result
+      asks = text.select_asks use_form host_schema 23 old new count_ready count_text its_name (is_named q) shown_uses no_limit (uses_shown q) rows_in result ok err survives

@@ -1,8 +1,10 @@
--- Facts about the counts of uses within a write, and about the name of a new block.
-use Rattle.std.specs.Prelude.{◌≡◌, pos, true, false, List, ◌∷◌, ◌++◌, int_lt}
+-- Facts about the counts of uses within a write, about the name of a new block, and about sizes.
+use Rattle.std.specs.Prelude.{◌≡◌, ℕ, ◌≤◌, pos, true, false, List, [], ◌∷◌, ◌++◌, filter, length, int_lt}
 use Rattle.std.specs.List.{list_any, AllByRecursion}
-use Rattle.bh_tables.specs.Typed.{Totals, UseRow, RefRow, Tables, is_named, lowered_by}
-use Rattle.bh_tables.specs.Shown.{Name, ref_name, is_block, is_use}
+use Rattle.sqlite.specs.Order.{Row}
+use Rattle.bh_tables.specs.Typed.{Totals, UseRow, RefRow, BlockRow, Tables, is_named, lowered_by, totals_of}
+use Rattle.bh_tables.specs.Garbage.{HasUses}
+use Rattle.bh_tables.specs.Shown.{Name, ref_name, is_block, is_use, is_unreferenced, shown_ref, shown_name}
 use Rattle.bh_schema.specs.Layer.{Standing, IsInsideBy}
 
 -- no block has the name, and no reference names it
@@ -23,3 +25,24 @@ IsUsed q x = (sums : Totals) → IsInsideBy sums x → IsCounted q sums.uses
 abbrev pub AreUsed : List RefRow → Standing → Type 0
 AreUsed rs x = (sums : Totals) → IsInsideBy sums x → (before after : List RefRow) (r : RefRow) → rs ≡ before ++ r ∷ after
     → IsCounted (ref_name r) (lowered_by before sums.uses)
+
+abbrev pub size_of : BlockRow → ℕ
+size_of b = length b.bytes
+
+-- the one block of a name, if it is one, has so many bytes
+abbrev pub IsSize : Name → ℕ → List BlockRow → Type 0
+IsSize q size blocks = (b : BlockRow) → filter (is_block q) blocks ≡ b ∷ [] → size ≡ length b.bytes
+
+-- one block has this name, and some reference names it
+pub record IsInUse (q : Name) (tables : Tables) : Type 0 where
+  pub uses : ℕ
+  pub some : 1 ≤ uses
+  pub counted : HasUses q uses (totals_of tables).uses
+
+-- a row shows a reference that has the size of its block
+abbrev pub IsShownRight : Row → List BlockRow → Type 0
+IsShownRight row blocks = (r : RefRow) × ((row ≡ shown_ref r) × IsSize (ref_name r) r.size blocks)
+
+-- and one the name of a block that no reference names
+abbrev pub IsShownUnused : Row → List RefRow → Type 0
+IsShownUnused row refs = (b : BlockRow) × ((row ≡ shown_name b) × (is_unreferenced refs b ≡ true))

@@ -1,9 +1,13 @@
 //! Bodies as lists of references to blocks: stored, copied, joined, and dropped.
 
-ghost use Rattle.std.specs.Prelude.{◌≡◌, ◌<◌, ◌≤◌, ◌^◌, ◌++◌, ◌∷◌, [], true, List, map, flat_map, IfOk, IfErr, OnOk};
+ghost use Rattle.std.specs.Prelude.{◌≡◌, ℕ, ◌+◌, ◌<◌, ◌≤◌, ◌^◌, ◌++◌, ◌∷◌, [], true, pos, if◌then◌else◌, List};
+ghost use Rattle.std.specs.Prelude.{All, map, flat_map, IfOk, IfErr, OnOk};
+ghost use Rattle.std.specs.Ordering.{int_eq};
 ghost use Rattle.sha2.specs.Sha256.{sha256};
 ghost use Rattle.bh_tables.specs.Schema.{Octets};
-ghost use Rattle.bh_tables.specs.Typed.{RefRow, counted, lowered, lowered_by};
+ghost use Rattle.bh_rows.specs.Means.{is_trouble};
+ghost use Rattle.bh_tables.specs.Garbage.{HasUses, freed_of, Frees};
+ghost use Rattle.bh_tables.specs.Typed.{Totals, RefRow, counted, lowered, lowered_by};
 ghost use Rattle.bh_tables.specs.Bodies.{placed};
 ghost use Rattle.bh_tables.specs.Shown.{ref_name, shown_ref};
 ghost use Rattle.bh_view.specs.Blocks.{AreDigests};
@@ -13,16 +17,18 @@ ghost use Rattle.bh_schema.specs.Connections.{ChangesNothing, Becomes, IsTrouble
 ghost use Rattle.bh_cache.specs.Kept.{AreCopies};
 ghost use Rattle.bh_blocks.specs.Named.{body_at};
 ghost use Rattle.bh_blocks.specs.Added.{IsNewBody, bytes_in};
-ghost use Rattle.bh_blocks.specs.Uses.{IsUsed, AreUsed};
+ghost use Rattle.bh_schema.specs.Layer.{IsInsideBy};
+ghost use Rattle.bh_blocks.specs.Uses.{IsUsed, AreUsed, IsShownRight};
 
 use crate::blocks::store_named;
 use crate::drafts::{begin_body, end_body, push};
 use crate::refs::{Place, delete_refs, read_ref, ref_rows, refer};
 use crate::rows::in_range;
-use crate::uses::{UseChange, change_uses};
+use crate::uses::{UseChange, change_uses, uses_of};
 use bh_cache::blocks::BlockCache;
 use bh_schema::host::Digester;
-use sqlite::{Alter, Connection, Error, Row};
+use bh_schema::rows::garbage::{garbage_bytes, reweigh};
+use sqlite::{Alter, Connection, Error, ErrorCode, Row};
 use std::alloc::Global;
 
 /// Stores a body, cut into blocks of `size` bytes.
@@ -134,6 +140,7 @@ fn refer_again<S: Alter>(
     row: &Row,
 ) -> Result<(), Error>
     requires inside { InTransaction S.Store connection.old }
+    requires size { IsClean S.Store connection.old → IsShownRight row.now (tables S.Store connection.old).blocks }
     requires body { at.now.body < 2 ^ 63 }
     requires place { at.now.place < 2 ^ 63 }
     ensures within { StaysWithin S.Store connection.old connection.new }
@@ -154,6 +161,7 @@ fn refer_to_all<S: Alter>(
     rows: &[Row],
 ) -> Result<(), Error>
     requires inside { InTransaction S.Store connection.old }
+    requires sizes { IsClean S.Store connection.old → All (λ row. IsShownRight row (tables S.Store connection.old).blocks) rows.now }
     requires small { body < 2 ^ 63 }
     ensures within { StaysWithin S.Store connection.old connection.new }
     ensures opens { OnOk result (StaysOpen S.Store connection.old connection.new) }
@@ -255,41 +263,71 @@ pub fn join_bodies<S: Alter>(
     refer_to_all(connection, tenant, body, &rows)
 }
 
-/// Decrements the uses of the block that a row of references names.
-fn lower_named<S: Alter>(connection: &mut Connection<S>, row: &Row) -> Result<(), Error>
+/// The bytes of a block of this size that are needed no more, once one of so many uses goes.
+fn freed(uses: u64, size: u64) -> u64
+    ensures { result ≡ (if int_eq (pos uses) (pos 1) then size else 0) }
+{
+    if uses == 1 { size } else { 0 }
+}
+
+/// A sum of bytes that are needed no more.
+fn freed_too(freed: u64, more: u64) -> Result<u64, Error>
+    ensures sum { IfOk result (λ n. n ≡ freed + more) }
+    ensures trouble { IfErr result (λ e. is_trouble e ≡ true) }
+{
+    match freed.checked_add(more) {
+        Some(sum) => Ok(sum),
+        None => Err(Error::SqliteFailure(ErrorCode::DatabaseCorrupt)),
+    }
+}
+
+/// Decrements the uses of the block that a row of references names. Returns its bytes if that was
+/// its last use, otherwise 0.
+fn lower_named<S: Alter>(connection: &mut Connection<S>, row: &Row) -> Result<u64, Error>
     requires midst { InMidst S.Store connection.old }
     ensures within { StaysWithin S.Store connection.old connection.new }
     ensures opens { OnOk result (StaysOpen S.Store connection.old connection.new) }
     ensures midst { OnOk result (InMidst S.Store connection.new) }
     ensures rewrites { OnOk result ((r : RefRow) → row.now ≡ shown_ref r
         → Rewrites S.Store connection.old connection.new (counted (lowered (ref_name r))) (λ rows. rows)) }
+    ensures frees { IfOk result (λ freed. (r : RefRow) → row.now ≡ shown_ref r → IsClean S.Store connection.new
+        → (sums : Totals) → IsInsideBy sums (stands S.Store connection.old)
+        → (n : ℕ) × (HasUses (ref_name r) n sums.uses × (freed ≡ freed_of n r))) }
     ensures trouble { IfErr result (λ e. (r : RefRow) → row.now ≡ shown_ref r → IsTroubleIf S.Store connection.old connection.new
         (IsUsed (ref_name r) (stands S.Store connection.old)) e) }
 {
     let block = read_ref(row)?;
+    let uses = uses_of(connection, &block.digest, block.ord)?;
     change_uses(connection, UseChange::Lowered, &block.digest, block.ord)?;
-    Ok(())
+    Ok(freed(uses, block.size))
 }
 
-/// Decrements the uses of the blocks that rows of references name.
-fn lower_all<S: Alter>(connection: &mut Connection<S>, rows: &[Row]) -> Result<(), Error>
+/// Decrements the uses of the blocks that rows of references name. Returns the bytes of those that
+/// lost their last use.
+fn lower_all<S: Alter>(connection: &mut Connection<S>, rows: &[Row]) -> Result<u64, Error>
     requires midst { InMidst S.Store connection.old }
     ensures within { StaysWithin S.Store connection.old connection.new }
     ensures opens { OnOk result (StaysOpen S.Store connection.old connection.new) }
     ensures midst { OnOk result (InMidst S.Store connection.new) }
     ensures rewrites { OnOk result ((rs : List RefRow) → rows.now ≡ map shown_ref rs
         → Rewrites S.Store connection.old connection.new (counted (lowered_by rs)) (λ rows. rows)) }
+    ensures frees { IfOk result (λ freed. (rs : List RefRow) → rows.now ≡ map shown_ref rs → IsClean S.Store connection.new
+        → (sums : Totals) → IsInsideBy sums (stands S.Store connection.old) → Frees rs sums.uses freed) }
     ensures trouble { IfErr result (λ e. (rs : List RefRow) → rows.now ≡ map shown_ref rs
         → IsTroubleIf S.Store connection.old connection.new
         (IsOpen S.Store connection.old × AreUsed rs (stands S.Store connection.old)) e) }
 {
+    let mut freed: u64 = 0;
     for row in rows {
-        lower_named(connection, row)?;
+        let more = lower_named(connection, row)?;
+        let sum = freed_too(freed, more)?;
+        freed = sum;
     }
-    Ok(())
+    Ok(freed)
 }
 
-/// Deletes a body. Its blocks stay, each with fewer uses.
+/// Deletes a body. Its blocks stay, each with fewer uses, and the bytes of those that have none left
+/// are counted among what nobody needs.
 pub fn drop_body<S: Alter>(
     connection: &mut Connection<S>,
     tenant: &str,
@@ -303,7 +341,8 @@ pub fn drop_body<S: Alter>(
     ensures trouble { IfErr result (IsTrouble S.Store connection.old connection.new) }
 {
     let rows = ref_rows(connection, tenant, body)?;
-    lower_all(connection, &rows)?;
+    let garbage = garbage_bytes(connection)?;
+    let freed = lower_all(connection, &rows)?;
     delete_refs(connection, tenant, body)?;
-    Ok(())
+    reweigh(connection, garbage, freed, 0)
 }

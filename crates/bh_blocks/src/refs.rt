@@ -5,7 +5,8 @@ ghost use Rattle.std.specs.List.{list_any};
 ghost use Rattle.sqlite_keyed.specs.Lists.{delete_where, sort_by};
 ghost use Rattle.bh_rows.specs.Means.{is_trouble};
 ghost use Rattle.bh_tables.specs.Bodies.{placed};
-ghost use Rattle.bh_tables.specs.Typed.{RefRow, rebodied};
+ghost use Rattle.bh_tables.specs.Garbage.{HasUses};
+ghost use Rattle.bh_tables.specs.Typed.{RefRow, counted, raised, rebodied, totals_of};
 ghost use Rattle.bh_tables.specs.Shown.{ref_name, is_block, is_of_body, is_at_place, by_place, shown_ref};
 ghost use Rattle.bh_schema.specs.Connections.{IsClean, tables, CanRead, InTransaction, InMidst, Rewrites, StaysWithin, StaysOpen, Becomes};
 ghost use Rattle.bh_schema.specs.Connections.{IsTrouble, IsTroubleIf};
@@ -13,9 +14,11 @@ ghost use Rattle.bh_schema.specs.Calls.{Reads, WritesOn};
 ghost use Rattle.bh_view.specs.Bodies.{HasBodies};
 ghost use Rattle.bh_blocks.specs.Named.{named_by, placed_at, body_at};
 ghost use Rattle.bh_blocks.specs.Plans.{IsFirst};
+ghost use Rattle.bh_blocks.specs.Uses.{IsSize, IsInUse};
 
 use crate::rows::in_range;
-use crate::uses::{UseChange, change_uses};
+use crate::uses::{UseChange, change_uses, uses_of};
+use bh_schema::rows::garbage::{garbage_bytes, reweigh};
 use bh_schema::rows::number::number;
 use sqlite::types::ToSql;
 use sqlite::{Alter, Connection, Error, Row};
@@ -166,7 +169,79 @@ pub fn delete_refs<S: Alter>(
     )
 }
 
-/// Adds a reference to a block, and increments its count of uses.
+/// Adds a reference to a block, and increments its count of uses, as one step of a write.
+fn add_ref<S: Alter>(
+    connection: &mut Connection<S>,
+    at: &Place<'_>,
+    digest: &[u8],
+    ord: u64,
+    size: u64,
+) -> Result<(), Error>
+    requires midst { InMidst S.Store connection.old }
+    requires body { at.now.body < 2 ^ 63 }
+    requires place { at.now.place < 2 ^ 63 }
+    requires small { ord < 2 ^ 63 }
+    requires low { size < 2 ^ 63 }
+    ensures writes { WritesOn S.Store connection.old connection.new result }
+    ensures rewrites { OnOk result (Rewrites S.Store connection.old connection.new (counted (raised (digest.now, ord)))
+        (λ rows. rebodied rows (rows.refs ++ placed_at at.now digest.now ord size ∷ []) rows.blocks)) }
+{
+    insert_ref(connection, at, digest, ord, size)?;
+    change_uses(connection, UseChange::Raised, digest, ord)?;
+    Ok(())
+}
+
+/// Adds a reference to a block that others name.
+fn refer_too<S: Alter>(
+    connection: &mut Connection<S>,
+    at: &Place<'_>,
+    digest: &[u8],
+    ord: u64,
+    size: u64,
+) -> Result<(), Error>
+    requires inside { InTransaction S.Store connection.old }
+    requires body { at.now.body < 2 ^ 63 }
+    requires place { at.now.place < 2 ^ 63 }
+    requires small { ord < 2 ^ 63 }
+    requires low { size < 2 ^ 63 }
+    requires size { IsClean S.Store connection.old → IsSize (digest.now, ord) size (tables S.Store connection.old).blocks }
+    requires used { IsClean S.Store connection.old → IsInUse (digest.now, ord) (tables S.Store connection.old) }
+    ensures within { StaysWithin S.Store connection.old connection.new }
+    ensures opens { OnOk result (StaysOpen S.Store connection.old connection.new) }
+    ensures holds { OnOk result (Becomes S.Store connection.old connection.new
+        (λ rows. rebodied rows (rows.refs ++ placed_at at.now digest.now ord size ∷ []) rows.blocks)) }
+{
+    add_ref(connection, at, digest, ord, size)
+}
+
+/// Adds a reference to a block that no other names, whose bytes are needed then.
+fn refer_first<S: Alter>(
+    connection: &mut Connection<S>,
+    at: &Place<'_>,
+    digest: &[u8],
+    ord: u64,
+    size: u64,
+) -> Result<(), Error>
+    requires inside { InTransaction S.Store connection.old }
+    requires body { at.now.body < 2 ^ 63 }
+    requires place { at.now.place < 2 ^ 63 }
+    requires small { ord < 2 ^ 63 }
+    requires low { size < 2 ^ 63 }
+    requires size { IsClean S.Store connection.old → IsSize (digest.now, ord) size (tables S.Store connection.old).blocks }
+    requires unused { IsClean S.Store connection.old
+        → HasUses (digest.now, ord) 0 (totals_of (tables S.Store connection.old)).uses }
+    ensures within { StaysWithin S.Store connection.old connection.new }
+    ensures opens { OnOk result (StaysOpen S.Store connection.old connection.new) }
+    ensures holds { OnOk result (Becomes S.Store connection.old connection.new
+        (λ rows. rebodied rows (rows.refs ++ placed_at at.now digest.now ord size ∷ []) rows.blocks)) }
+{
+    let garbage = garbage_bytes(connection)?;
+    add_ref(connection, at, digest, ord, size)?;
+    reweigh(connection, garbage, 0, size)
+}
+
+/// Adds a reference to a block of this size, and increments its count of uses. If it had none, its
+/// bytes are no longer among those that nobody needs.
 pub fn refer<S: Alter>(
     connection: &mut Connection<S>,
     at: &Place<'_>,
@@ -179,12 +254,16 @@ pub fn refer<S: Alter>(
     requires place { at.now.place < 2 ^ 63 }
     requires small { ord < 2 ^ 63 }
     requires low { size < 2 ^ 63 }
+    requires size { IsClean S.Store connection.old → IsSize (digest.now, ord) size (tables S.Store connection.old).blocks }
     ensures within { StaysWithin S.Store connection.old connection.new }
     ensures opens { OnOk result (StaysOpen S.Store connection.old connection.new) }
     ensures holds { OnOk result (Becomes S.Store connection.old connection.new
         (λ rows. rebodied rows (rows.refs ++ placed_at at.now digest.now ord size ∷ []) rows.blocks)) }
 {
-    insert_ref(connection, at, digest, ord, size)?;
-    change_uses(connection, UseChange::Raised, digest, ord)?;
-    Ok(())
+    let uses = uses_of(connection, digest, ord)?;
+    if uses == 0 {
+        refer_first(connection, at, digest, ord, size)
+    } else {
+        refer_too(connection, at, digest, ord, size)
+    }
 }

@@ -1,4 +1,4 @@
-ghost use Rattle.std.specs.Prelude.{◌≡◌, ◌≢◌, ◌<◌, ◌^◌, List, Contains, map, length, true, false, IfOk, IfErr, OnOk};
+ghost use Rattle.std.specs.Prelude.{◌≡◌, ◌≢◌, ◌<◌, ◌^◌, List, All, Contains, map, length, true, false, IfOk, IfErr, OnOk};
 ghost use Rattle.std.specs.List.{AllByRecursion, list_any};
 ghost use Rattle.sqlite_keyed.specs.Lists.{delete_where};
 ghost use Rattle.bh_tables.specs.Schema.{Octets};
@@ -11,13 +11,16 @@ ghost use Rattle.bh_schema.specs.Connections.{IsOpen, IsClean, tables, InTransac
 ghost use Rattle.bh_schema.specs.Connections.{Becomes, IsTrouble, IsTroubleIf};
 ghost use Rattle.bh_cache.specs.Kept.{Agrees};
 ghost use Rattle.bh_blocks.specs.Named.{stored_name};
+ghost use Rattle.bh_blocks.specs.Uses.{IsShownUnused};
 
-use crate::rows::{StoredName, delete_block, read_name};
+use crate::rows::{StoredName, delete_block, read_name, size_of_block};
 use crate::uses::{UseChange, change_uses, unreferenced_rows};
 use bh_cache::blocks::{BlockCache, BlockName};
+use bh_schema::rows::garbage::{garbage_bytes, reweigh};
 use sqlite::{Alter, Connection, Error, Row};
 
-/// Deletes a block and its count of uses. Fails if a reference names it.
+/// Deletes a block that no reference names, with its count of uses. Its bytes are no longer among
+/// those that nobody needs.
 fn remove_block<S: Alter>(
     connection: &mut Connection<S>,
     digest: &[u8],
@@ -25,6 +28,8 @@ fn remove_block<S: Alter>(
 ) -> Result<(), Error>
     requires inside { InTransaction S.Store connection.old }
     requires small { ord < 2 ^ 63 }
+    requires unused { IsClean S.Store connection.old
+        → list_any (is_use (digest.now, ord)) (tables S.Store connection.old).refs ≡ false }
     ensures within { StaysWithin S.Store connection.old connection.new }
     ensures opens { OnOk result (StaysOpen S.Store connection.old connection.new) }
     ensures removed { OnOk result (Becomes S.Store connection.old connection.new
@@ -32,9 +37,11 @@ fn remove_block<S: Alter>(
     ensures trouble { IfErr result (IsTroubleIf S.Store connection.old connection.new
         (list_any (is_use (digest.now, ord)) (tables S.Store connection.old).refs ≡ false)) }
 {
+    let size = size_of_block(connection, digest, ord)?;
+    let garbage = garbage_bytes(connection)?;
     delete_block(connection, digest, ord)?;
     change_uses(connection, UseChange::Removed, digest, ord)?;
-    Ok(())
+    reweigh(connection, garbage, 0, size)
 }
 
 /// Removes a deleted block from the cache.
@@ -55,6 +62,7 @@ fn remove_named<S: Alter>(
     row: &Row,
 ) -> Result<(), Error>
     requires inside { InTransaction S.Store connection.old }
+    requires unused { IsClean S.Store connection.old → IsShownUnused row.now (tables S.Store connection.old).refs }
     ensures within { StaysWithin S.Store connection.old connection.new }
     ensures opens { OnOk result (StaysOpen S.Store connection.old connection.new) }
     ensures inside { OnOk result (InTransaction S.Store connection.new) }
@@ -78,6 +86,7 @@ fn remove_all<S: Alter>(
     rows: &[Row],
 ) -> Result<(), Error>
     requires inside { InTransaction S.Store connection.old }
+    requires unused { IsClean S.Store connection.old → All (λ row. IsShownUnused row (tables S.Store connection.old).refs) rows.now }
     ensures within { StaysWithin S.Store connection.old connection.new }
     ensures opens { OnOk result (StaysOpen S.Store connection.old connection.new) }
     ensures removed { OnOk result ((gone : List BlockRow) → rows.now ≡ map shown_name gone

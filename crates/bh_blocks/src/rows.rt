@@ -1,6 +1,6 @@
 //! The SQL statements on blocks, one function each, and the values of their rows.
 
-ghost use Rattle.std.specs.Prelude.{◌≡◌, ◌++◌, ◌∷◌, [], ◌<◌, ◌^◌, true, false, map, filter, IfOk, IfErr, OnOk};
+ghost use Rattle.std.specs.Prelude.{◌≡◌, ◌++◌, ◌∷◌, [], ◌<◌, ◌^◌, true, false, map, filter, List, IfOk, IfErr, OnOk};
 ghost use Rattle.std.specs.List.{list_any};
 ghost use Rattle.sqlite_keyed.specs.Lists.{delete_where, sort_by};
 ghost use Rattle.bh_rows.specs.Means.{is_trouble};
@@ -11,10 +11,10 @@ ghost use Rattle.bh_schema.specs.Calls.{Reads, WritesOn};
 ghost use Rattle.bh_tables.specs.Schema.{Octets};
 ghost use Rattle.bh_blocks.specs.Lookups.{IsCandidate};
 ghost use Rattle.bh_blocks.specs.Named.{stored_name};
-ghost use Rattle.bh_blocks.specs.Uses.{IsNewName};
+ghost use Rattle.bh_blocks.specs.Uses.{IsNewName, size_of};
 
 use bh_schema::rows::number::number;
-use sqlite::types::ToSql;
+use sqlite::types::{ToSql, ValueRef};
 use sqlite::{Alter, Connection, Error, ErrorCode, Row};
 
 /// A block's name in a row.
@@ -34,6 +34,21 @@ pub fn in_range(ord: u64) -> Result<u64, Error>
         Ok(ord)
     } else {
         Err(Error::SqliteFailure(ErrorCode::TooBig))
+    }
+}
+
+/// The only one of these rows. Any other number of them is a fault of the store.
+pub fn only_row(rows: &[Row]) -> Result<&Row, Error>
+    ensures only { IfOk result (λ row. rows.now ≡ row.now ∷ []) }
+    ensures trouble { IfErr result (λ e. is_trouble e ≡ true) }
+{
+    let count = rows.len();
+    if count > 1 {
+        return Err(Error::SqliteFailure(ErrorCode::DatabaseCorrupt));
+    }
+    match rows.first() {
+        Some(row) => Ok(row),
+        None => Err(Error::SqliteFailure(ErrorCode::DatabaseCorrupt)),
     }
 }
 
@@ -126,6 +141,34 @@ pub fn bytes_rows<S: Alter>(
         "SELECT bytes FROM blocks WHERE digest = ?1 AND ord = ?2 ORDER BY rowid",
         &[digest.to_sql(), number(ord)],
     )
+}
+
+/// The number of bytes in the only one of these rows.
+fn length_of(rows: &[Row]) -> Result<u64, Error>
+    ensures length { IfOk result (λ n. (bs : List Stored) → rows.now ≡ map shown_bytes bs → map size_of bs ≡ n ∷ []) }
+    ensures trouble { IfErr result (λ e. is_trouble e ≡ true) }
+{
+    match only_row(rows)?.get_ref(0) {
+        Ok(ValueRef::Blob(bytes)) => Ok(bytes.len() as u64),
+        _ => Err(Error::SqliteFailure(ErrorCode::DatabaseCorrupt)),
+    }
+}
+
+/// How many bytes a block has. The block is read.
+pub fn size_of_block<S: Alter>(
+    connection: &mut Connection<S>,
+    digest: &[u8],
+    ord: u64,
+) -> Result<u64, Error>
+    requires inside { InTransaction S.Store connection.old }
+    requires small { ord < 2 ^ 63 }
+    ensures reads { Reads S.Store connection.old connection.new result }
+    ensures size { IfOk result (λ n. IsClean S.Store connection.new
+        → map size_of (filter (is_block (digest.now, ord)) (tables S.Store connection.old).blocks) ≡ n ∷ []) }
+    ensures trouble { IfErr result (IsTrouble S.Store connection.old connection.new) }
+{
+    let rows = bytes_rows(connection, digest, ord)?;
+    length_of(&rows)
 }
 
 /// Adds a block, as one step of a write that counts its uses.

@@ -1,16 +1,20 @@
 //! The SQL statements on the counts of uses. They run within a write of references or blocks, which
 //! the counts have to follow.
 
-ghost use Rattle.std.specs.Prelude.{◌≡◌, ◌<◌, ◌^◌, map, IfOk, IfErr, OnOk};
-ghost use Rattle.bh_tables.specs.Typed.{counted};
+ghost use Rattle.std.specs.Prelude.{◌≡◌, ◌<◌, ◌^◌, [], ◌∷◌, pos, true, List, map, filter, IfOk, IfErr, OnOk};
+ghost use Rattle.bh_rows.specs.Means.{is_trouble};
+ghost use Rattle.bh_tables.specs.Garbage.{HasUses, shown_uses};
+ghost use Rattle.bh_tables.specs.Typed.{Totals, UseRow, counted, is_named};
 ghost use Rattle.bh_tables.specs.Shown.{shown_name, unreferenced};
 ghost use Rattle.bh_schema.specs.Connections.{IsClean, stands, tables, InTransaction, InMidst, Rewrites, IsTrouble, IsTroubleIf};
 ghost use Rattle.bh_schema.specs.Calls.{Reads, WritesOn};
+ghost use Rattle.bh_schema.specs.Layer.{IsInsideBy};
 ghost use Rattle.bh_blocks.specs.UseChanges.{uses_after, MayChange, IsTextOf};
 
+use crate::rows::only_row;
 use bh_schema::rows::number::number;
 use sqlite::types::ToSql;
-use sqlite::{Alter, Connection, Error, Row};
+use sqlite::{Alter, Connection, Error, ErrorCode, Row};
 
 /// The names of unreferenced blocks, at most `limit`. They are the first in an index: no other row
 /// is read.
@@ -29,6 +33,53 @@ pub fn unreferenced_rows<S: Alter>(
         "SELECT digest, ord FROM uses WHERE uses = 0 ORDER BY digest, ord, rowid LIMIT ?1",
         &[number(limit)],
     )
+}
+
+/// The counts of a block, of which there is one. It may be called within a write.
+fn use_rows<S: Alter>(
+    connection: &mut Connection<S>,
+    digest: &[u8],
+    ord: u64,
+) -> Result<Vec<Row>, Error>
+    requires midst { InMidst S.Store connection.old }
+    requires small { ord < 2 ^ 63 }
+    ensures reads { Reads S.Store connection.old connection.new result }
+    ensures rows { IfOk result (λ rows. IsClean S.Store connection.new → (sums : Totals) → IsInsideBy sums (stands S.Store connection.old)
+        → rows.items ≡ map shown_uses (filter (is_named (digest.now, ord)) sums.uses)) }
+    ensures trouble { IfErr result (IsTrouble S.Store connection.old connection.new) }
+{
+    connection.query_all(
+        "SELECT uses FROM uses WHERE digest = ?1 AND ord = ?2 ORDER BY rowid",
+        &[digest.to_sql(), number(ord)],
+    )
+}
+
+/// The count in the only one of these rows.
+fn read_uses(rows: &[Row]) -> Result<u64, Error>
+    ensures read { IfOk result (λ n. (us : List UseRow) → rows.now ≡ map shown_uses us → map (λ (u : UseRow). u.uses) us ≡ pos n ∷ []) }
+    ensures trouble { IfErr result (λ e. is_trouble e ≡ true) }
+{
+    match only_row(rows)?.get(0) {
+        Ok(uses) => Ok(uses),
+        Err(_) => Err(Error::SqliteFailure(ErrorCode::DatabaseCorrupt)),
+    }
+}
+
+/// How many references name a block, by its count. It may be called within a write.
+pub fn uses_of<S: Alter>(
+    connection: &mut Connection<S>,
+    digest: &[u8],
+    ord: u64,
+) -> Result<u64, Error>
+    requires midst { InMidst S.Store connection.old }
+    requires small { ord < 2 ^ 63 }
+    ensures reads { Reads S.Store connection.old connection.new result }
+    ensures counted { IfOk result (λ n. IsClean S.Store connection.new → (sums : Totals) → IsInsideBy sums (stands S.Store connection.old)
+        → HasUses (digest.now, ord) n sums.uses) }
+    ensures trouble { IfErr result (IsTrouble S.Store connection.old connection.new) }
+{
+    let rows = use_rows(connection, digest, ord)?;
+    read_uses(&rows)
 }
 
 /// A change of a block's count of uses.

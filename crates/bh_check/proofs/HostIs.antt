@@ -11,20 +11,23 @@ use Rattle.sqlite_typed.specs.Tests.{bytes_eq}
 use Rattle.bh_rows.specs.Form.{AreRows, typed}
 use Rattle.bh_tables.specs.Schema.{Octets, host_schema}
 use Rattle.bh_tables.specs.Bodies.{resolved, resolved_part, same_name}
-use Rattle.bh_tables.specs.Typed.{Totals, totals_of, tables_in, raw, unfilled_trees, AreHeld, TenantColumns, UploadColumns, VersionRow, PartRow, tenant_columns, upload_columns, tenant_form, stored_tenant_form, upload_form, stored_upload_form, block_form, ref_form, tally_form, version_of, part_of, bytes_used, bytes_kept}
+use Rattle.bh_tables.specs.Typed.{Totals, totals_of, tables_in, raw, unfilled_trees, AreHeld, TenantColumns, UploadColumns, VersionRow, PartRow, tenant_columns, upload_columns, tenant_form, stored_tenant_form, upload_form, stored_upload_form, block_form, ref_form, tally_form, garbage_form, version_of, part_of, bytes_used, bytes_kept}
 use Rattle.bh_tables.proofs.StoredLemmas.{Uses, Keeps, held_shown}
 use Rattle.bh_stored.specs.Cells.{is_fit}
-use Rattle.bh_stored.specs.Fits.{AreFit, tenant_kinds, upload_kinds, use_kinds, tally_kinds}
+use Rattle.bh_stored.specs.Fits.{AreFit, tenant_kinds, upload_kinds, use_kinds, tally_kinds, garbage_kinds}
 use Rattle.bh_stored.specs.Stored.{seen}
 use Rattle.bh_stored.specs.declared.stored.Edition.{Edition}
 use Rattle.bh_stored.specs.declared.stored.Edition.TheVariants.{First, Second, Third, Fourth}
 use Rattle.bh_check.specs.Checked.{IsChecked}
 use Rattle.bh_check.specs.Holds.{owner, first_two, number_at, version_bytes, part_bytes, upload_bytes, block_refs, Holds}
+use Rattle.bh_check.specs.Blocks.{AreUses}
+use Rattle.bh_check.specs.Garbage.{AreWeighed}
 use Rattle.bh_check.specs.Tallies.{AreTallied}
 use Rattle.bh_check.specs.declared.rows.Table.TheVariants as table
-use Rattle.bh_stored.proofs.Fitted.{hosts_are, tenants_are, keys_are, buckets_are, versions_are, blocks_are, refs_are, uploads_are, parts_are, uses_are, locks_are, retains_are, tallies_are, used_is, kept_is}
+use Rattle.bh_stored.proofs.Fitted.{hosts_are, tenants_are, keys_are, buckets_are, versions_are, blocks_are, refs_are, uploads_are, parts_are, uses_are, locks_are, retains_are, tallies_are, garbage_are, used_is, kept_is}
 use Rattle.bh_check.proofs.CountsAre.{counts_are, refs_counted}
 use Rattle.bh_check.proofs.Schemas.{kept}
+use Rattle.bh_check.proofs.Weighed.{weighed_is}
 use Rattle.bh_check.proofs.TallyCounts.{and_true, tallies_counted}
 use Rattle.bh_check.proofs.TotalIs.{total_twice}
 
@@ -39,6 +42,14 @@ tallies_kept First trees tallied fit = refl
 tallies_kept Second trees tallied fit = refl
 tallies_kept Third trees tallied fit = tallies_counted (seen Third trees) (trees 30) (trees 1) (all_from_test (is_fit tally_kinds) (trees 30) fit.fit) tallied
 tallies_kept Fourth trees tallied fit = tallies_counted (seen Fourth trees) (trees 30) (trees 1) (all_from_test (is_fit tally_kinds) (trees 30) fit.fit) tallied
+
+-- where the bytes that nobody needs are counted
+garbage_kept : (edition : Edition) (trees : Trees) → AreWeighed edition (seen edition trees) → AreFit garbage_kinds (seen edition trees 43) → AreUses (block_refs (seen edition trees)) (seen edition trees 23) (seen edition trees 10)
+    → typed garbage_form (seen edition trees 43) ≡ (kept edition (totals_of (tables_in (of_trees (seen edition trees))))).garbage
+garbage_kept First trees weighed fit uses = refl
+garbage_kept Second trees weighed fit uses = refl
+garbage_kept Third trees weighed fit uses = refl
+garbage_kept Fourth trees weighed fit uses = weighed_is (block_refs (seen Fourth trees)) (typed ref_form (trees 12)) (refs_counted (seen Fourth trees)) (trees 43) (trees 23) (trees 10) (all_from_test (is_fit garbage_kinds) (trees 43) fit.fit) uses weighed
 
 -- no table has a row that nothing fills
 none_filled : (d : Trees) (ts : List ℕ) → AllByRecursion (λ t. d t ≡ []) ts → flat_map d ts ≡ []
@@ -95,6 +106,9 @@ module _ (edition : Edition) (digest : Octets → Octets) (trees : Trees) (c : I
     retains = retains_are (d 28) c.fits.retains;
     tallies = tallies_are (d 30) c.fits.tallies;
     tallied = tallies_kept edition trees c.tallies c.fits.tallies;
+    garbage = garbage_are (d 43) c.fits.garbage;
+    weighed = garbage_kept edition trees c.garbage c.fits.garbage c.counts;
+    measured = refl;
     unfilled = none_filled d unfilled_trees c.fits.unfilled;
     counts = counts_are (block_refs d) (typed ref_form (d 12)) (refs_counted d) (d 23) (d 10) (all_from_test (is_fit use_kinds) (d 23) c.fits.uses.fit) c.counts;
   }

@@ -14,6 +14,8 @@ mod NewestLemmas
 mod EntryKeys
 mod TallyCounts
 mod CountsAre
+mod UnusedSums
+mod Weighed
 mod HostIs
 mod Schemas
 mod OneLemmas

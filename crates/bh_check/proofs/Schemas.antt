@@ -1,11 +1,11 @@
 -- The schemas of all editions of a host as one: its first tables, and more of them. And what it keeps of other rows.
-use Rattle.std.proofs.Common.{◌≡◌, ◌⊎◌, inl, inr, List, [], ◌∷◌, ◌++◌, length, refl, sym, ap, ◌∙◌, codes}
+use Rattle.std.proofs.Common.{◌≡◌, ◌⊎◌, inl, inr, true, List, [], ◌∷◌, ◌++◌, length, refl, sym, ap, ◌∙◌, codes}
 use Rattle.sqlite.specs.Schema.{Schema}
 use Rattle.sqlite.specs.Table.{Table}
 use Rattle.sqlite_schema.specs.declared.schema.Index.{Index}
 use Rattle.sqlite_tied.specs.Compute.{everything}
 use Rattle.bh_tables.specs.Schema.{first_schema, second_schema, third_schema, host_schema, at, auto, locks_table, retains_table, tallies_table, packs_table, placed_table, notes_table, upload_notes_table, rights_table, garbage_table}
-use Rattle.bh_tables.specs.Typed.{Totals, TallyRow}
+use Rattle.bh_tables.specs.Typed.{Totals, TallyRow, GarbageRow}
 use Rattle.bh_stored.specs.declared.stored.Edition.{Edition}
 use Rattle.bh_stored.specs.declared.stored.Edition.TheVariants.{First, Second, Third, Fourth}
 use Rattle.bh_check.specs.Checked.{schema_of, edition_with}
@@ -17,8 +17,16 @@ kept_tallies Second tallies = []
 kept_tallies Third tallies = tallies
 kept_tallies Fourth tallies = tallies
 
+-- nothing is counted of what nobody needs where there is no row for it
+abbrev pub kept_garbage : Edition → List GarbageRow → List GarbageRow
+kept_garbage First garbage = []
+kept_garbage Second garbage = []
+kept_garbage Third garbage = []
+kept_garbage Fourth garbage = garbage
+
+-- and that references have the sizes of their blocks is found once no two blocks are known to have one name
 abbrev pub kept : Edition → Totals → Totals
-kept edition sums = record sums { tallies = kept_tallies edition sums.tallies }
+kept edition sums = record sums { tallies = kept_tallies edition sums.tallies; garbage = kept_garbage edition sums.garbage; measured = true }
 
 abbrev more_tables : Edition → List Table
 more_tables First = []

@@ -15,7 +15,8 @@ use Rattle.bh_model.specs.State.{State, used}
 use Rattle.bh_tables.specs.Schema.{Octets, first_schema, second_schema, third_schema, host_schema}
 use Rattle.bh_tables.specs.Bodies.{first}
 use Rattle.bh_tables.specs.Hosts.{with_version, is_of_version, brought_over, tables_opened}
-use Rattle.bh_tables.specs.Typed.{Tables, tables_in, HostRow, TenantRow, BlockRow, tenant_of, block_of}
+use Rattle.bh_tables.specs.Typed.{Tables, totals_of, tables_in, raw, AreHeld, HostRow, TenantRow, BlockRow, RefRow, tenant_of, block_of}
+use Rattle.bh_tables.specs.Bodies.{ref_name, block_at, has_size}
 use Rattle.bh_tables.proofs.HostTests.{host_opens, first_opens, second_opens, third_opens}
 use Rattle.bh_view.specs.Blocks.{AreDigests}
 use Rattle.bh_view.specs.Bodies.{AreBounded, IsSoundHost}
@@ -31,7 +32,7 @@ use Rattle.bh_check.specs.Checked.{IsChecked, MakesSound}
 use Rattle.bh_check.specs.Holds.{version_bytes, part_bytes, Holds}
 use Rattle.bh_check.specs.declared.rows.Table.TheVariants as table
 use Rattle.bh_check.proofs.HostIs.{held_is, used_sum}
-use Rattle.bh_check.proofs.Schemas.{over, over_is}
+use Rattle.bh_check.proofs.Schemas.{over, over_is, kept}
 use Rattle.bh_check.proofs.SoundBodies.{have_bodies}
 use Rattle.bh_check.proofs.SoundLocks.{locks_are, retains_are}
 use Rattle.bh_check.proofs.SoundOwned.{all_in, versions_are, uploads_are, parts_are}
@@ -108,6 +109,19 @@ module _ (edition : Edition) (digest : Octets → Octets) (trees : Trees) (c : I
     bounded = are_bounded;
   }
 
+-- ---- each reference has the size of its block
+
+all_sized : (blocks : List BlockRow) (refs : List RefRow) → AllByRecursion (λ (r : RefRow). r.size ≡ length (block_at blocks (ref_name r))) refs → list_all (has_size blocks) refs ≡ true
+all_sized blocks [] h = refl
+all_sized blocks (r ∷ refs) h = and_from _ _ (eq-eqb r.size _ h.0) (all_sized blocks refs h.1)
+
+-- so the rows are held by the sums of these tables
+held_so : (edition : Edition) (digest : Octets → Octets) (trees : Trees) (c : IsChecked edition digest (seen edition trees)) → IsDatabase (record { schema = over edition; trees = trees })
+    → let sums = totals_of (tables_in (record { schema = host_schema; trees = seen edition trees })) in AreHeld (record (kept edition sums) { measured = sums.measured }) (raw (seen edition trees))
+held_so edition digest trees c sound =
+    let t = tables_in (record { schema = host_schema; trees = seen edition trees }) in
+    subst (λ b. AreHeld (record (kept edition (totals_of t)) { measured = b }) (raw (seen edition trees))) (sym (all_sized t.blocks t.refs (have_bodies edition digest trees c sound).measured)) (held_is edition digest trees c)
+
 -- ---- of each edition
 
 module _ (digest : Octets → Octets) (d : Trees) where
@@ -117,28 +131,28 @@ module _ (digest : Octets → Octets) (d : Trees) where
       let host = c.host.host in
       let hosts : map (with_version 4) (tables_in db).host ≡ (tables_in db).host =
       ap (map (with_version 4)) c.host.alone ∙ ap (λ n. with_version n host ∷ []) (sym c.host.good.version_is) ∙ sym c.host.alone in
-      subst (IsSoundHost digest) (ap (λ rows. record (tables_in db) { host = rows }) hosts ∙ sym (host_opens db (record { schema = refl; held = held_is Fourth digest d c })))
+      subst (IsSoundHost digest) (ap (λ rows. record (tables_in db) { host = rows }) hosts ∙ sym (host_opens db (record { schema = refl; held = held_so Fourth digest d c (subst (λ (x : Schema). IsDatabase (record { schema = x; trees = d })) (over_is Fourth) sound) })))
       (sound_tables Fourth digest d c (subst (λ (s : Schema). IsDatabase (record { schema = s; trees = d })) (over_is Fourth) sound))
 
   third_sound : IsDatabase (record { schema = third_schema; trees = d }) → IsChecked Third digest (seen Third d) → IsSoundHost digest (tables_opened (record { schema = third_schema; trees = d }))
   third_sound sound c =
       let db : Database = record { schema = third_schema; trees = d } in
       subst (IsSoundHost digest)
-      (sym (third_opens db (record { third = record { schema = refl; held = held_is Third digest d c }; version = ap (list_all (is_of_version 3)) c.host.alone ∙ ap (λ n. (n == 3) && true) c.host.good.version_is })))
+      (sym (third_opens db (record { third = record { schema = refl; held = held_so Third digest d c (subst (λ (x : Schema). IsDatabase (record { schema = x; trees = d })) (over_is Third) sound) }; version = ap (list_all (is_of_version 3)) c.host.alone ∙ ap (λ n. (n == 3) && true) c.host.good.version_is })))
       (sound_tables Third digest d c (subst (λ (s : Schema). IsDatabase (record { schema = s; trees = d })) (over_is Third) sound))
 
   second_sound : IsDatabase (record { schema = second_schema; trees = d }) → IsChecked Second digest (seen Second d) → IsSoundHost digest (tables_opened (record { schema = second_schema; trees = d }))
   second_sound sound c =
       let db : Database = record { schema = second_schema; trees = d } in
       subst (IsSoundHost digest)
-      (sym (second_opens db (record { second = record { schema = refl; held = held_is Second digest d c }; version = ap (list_all (is_of_version 2)) c.host.alone ∙ ap (λ n. (n == 2) && true) c.host.good.version_is })))
+      (sym (second_opens db (record { second = record { schema = refl; held = held_so Second digest d c (subst (λ (x : Schema). IsDatabase (record { schema = x; trees = d })) (over_is Second) sound) }; version = ap (list_all (is_of_version 2)) c.host.alone ∙ ap (λ n. (n == 2) && true) c.host.good.version_is })))
       (sound_tables Second digest d c (subst (λ (s : Schema). IsDatabase (record { schema = s; trees = d })) (over_is Second) sound))
 
   first_sound : IsDatabase (record { schema = first_schema; trees = d }) → IsChecked First digest (seen First d) → IsSoundHost digest (tables_opened (record { schema = first_schema; trees = d }))
   first_sound sound c =
       let db : Database = record { schema = first_schema; trees = d } in
       subst (IsSoundHost digest)
-      (sym (first_opens db (record { first = record { schema = refl; held = held_is First digest d c }; version = ap (list_all (is_of_version 1)) c.host.alone ∙ ap (λ n. (n == 1) && true) c.host.good.version_is })))
+      (sym (first_opens db (record { first = record { schema = refl; held = held_so First digest d c (subst (λ (x : Schema). IsDatabase (record { schema = x; trees = d })) (over_is First) sound) }; version = ap (list_all (is_of_version 1)) c.host.alone ∙ ap (λ n. (n == 1) && true) c.host.good.version_is })))
       (sound_tables First digest d c (subst (λ (s : Schema). IsDatabase (record { schema = s; trees = d })) (over_is First) sound))
 
 pub makes_sound : MakesSound

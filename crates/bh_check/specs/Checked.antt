@@ -18,6 +18,7 @@ use Rattle.bh_stored.specs.declared.stored.Edition.TheVariants.{First, Second, T
 use Rattle.bh_check.specs.Blocks.{HasDigest, AreOnce, AreNamed, AreUses, HasChecksum}
 use Rattle.bh_check.specs.Holds.{block_refs, Holds}
 use Rattle.bh_check.specs.Placed.{IsPlaced}
+use Rattle.bh_check.specs.Garbage.{AreWeighed}
 use Rattle.bh_check.specs.Tallies.{AreTallied}
 use Rattle.bh_check.specs.declared.rows.Table.TheVariants as table
 
@@ -92,6 +93,7 @@ pub record IsChecked (edition : Edition) (digest : Octets → Octets) (d : Trees
   pub bytes : AreBytesHeld digest (d 10)
   pub counts : AreUses (block_refs d) (d 23) (d 10)
   pub tallies : AreTallied edition d
+  pub garbage : AreWeighed edition d
 
 -- a host's tables are sound if the store's own rules hold too: keys are unique, and each row has
 -- its parent. Those of an earlier version are as they are once it is opened, without locks and

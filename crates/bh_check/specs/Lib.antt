@@ -4,4 +4,5 @@ pub mod Blocks
 pub mod Groups
 pub mod Placed
 pub mod Tallies
+pub mod Garbage
 pub mod Checked

@@ -15,12 +15,14 @@ ghost use Rattle.bh_stored.specs.Stores.{KeepsTrees};
 ghost use Rattle.bh_check.specs.Blocks.{HasDigest, AreOnce, AreUses};
 ghost use Rattle.bh_check.specs.Checked.{version_of, edition_with, IsHostRowIn, AreRowsHeld, AreDatesHeld, AreBodiesHeld};
 ghost use Rattle.bh_check.specs.Checked.{AreBytesHeld, IsChecked};
+ghost use Rattle.bh_check.specs.Garbage.{IsGarbage, AreWeighed};
 ghost use Rattle.bh_check.specs.Holds.{block_refs, AreMeasures, AreTotals, Holds};
 ghost use Rattle.bh_check.specs.Tallies.{AreTalliesOf, AreTallied};
 
 use crate::blocks::first_again;
 use crate::checksums::{Places, first_missummed};
 use crate::flaw::{Flaw, Stop};
+use crate::garbage::{has_bytes, unused_bytes};
 use crate::groups::first_misnamed_in;
 use crate::measures::Measures;
 use crate::placed::first_misplaced;
@@ -179,6 +181,33 @@ fn check_tallies(alloc: Global, stored: &Stored, edition: Edition) -> Result<(),
     }
 }
 
+/// Checks the number of bytes of the blocks that no reference names.
+fn check_weight(stored: &Stored) -> Result<(), Stop>
+    ensures { OnOk result ((d : Trees) → AreStoredIn d stored.now → IsGarbage (d 43) (d 23) (d 10)) }
+{
+    if stored.uses.len() != stored.blocks.len() {
+        return Err(Stop::Flaw(Flaw::OtherUses));
+    }
+    let bytes = unused_bytes(&stored.uses, &stored.blocks)?;
+    if has_bytes(&stored.garbage, bytes) {
+        Ok(())
+    } else {
+        Err(Stop::Flaw(Flaw::Garbage))
+    }
+}
+
+/// Checks that number, if a host of this edition has it.
+fn check_garbage(stored: &Stored, edition: Edition) -> Result<(), Stop>
+    ensures { OnOk result ((d : Trees) → AreStoredIn d stored.now → AreWeighed edition d) }
+{
+    match edition {
+        Edition::First => Ok(()),
+        Edition::Second => Ok(()),
+        Edition::Third => Ok(()),
+        Edition::Fourth => check_weight(stored),
+    }
+}
+
 fn check_digests<D: Digester>(alloc: Global, digester: &D, blocks: &[Row]) -> Result<(), Stop>
     ensures { OnOk result (AllByRecursion (HasDigest D.digest_of) blocks.now) }
 {
@@ -219,7 +248,8 @@ fn measures_of(alloc: Global, stored: &Stored, version: u64) -> Result<Measures,
     })
 }
 
-/// Checks the number of references to each block, and of each tenant's entries.
+/// Checks the number of references to each block, of each tenant's entries, and of the bytes that
+/// nobody needs.
 fn check_counts(
     alloc: Global,
     stored: &Stored,
@@ -228,9 +258,11 @@ fn check_counts(
 ) -> Result<(), Stop>
     ensures uses { OnOk result ((d : Trees) → AreStoredIn d stored.now → AreTotals d totals.now → AreUses (block_refs d) (d 23) (d 10)) }
     ensures tallies { OnOk result ((d : Trees) → AreStoredIn d stored.now → AreTallied edition d) }
+    ensures garbage { OnOk result ((d : Trees) → AreStoredIn d stored.now → AreWeighed edition d) }
 {
     check_uses(alloc, stored, totals)?;
-    check_tallies(alloc, stored, edition)
+    check_tallies(alloc, stored, edition)?;
+    check_garbage(stored, edition)
 }
 
 /// All rows that were read.

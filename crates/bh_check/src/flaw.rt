@@ -31,6 +31,8 @@ pub enum Flaw {
     Tally(u64),
     /// There isn't exactly one tally for each tenant.
     OtherTallies,
+    /// The row of what nobody needs is missing or wrong.
+    Garbage,
     /// A sum is above 2^64 - 1.
     TooMuch,
 }
@@ -143,6 +145,9 @@ impl fmt::Display for Flaw {
                 "tallies: not how many versions, markers and objects the tenant has, row {row} of tenants"
             ),
             Flaw::OtherTallies => f.write_str("tallies: not as many rows as tenants"),
+            Flaw::Garbage => {
+                f.write_str("garbage: not the bytes of the blocks that no reference names")
+            }
             Flaw::TooMuch => f.write_str("sizes: a sum passes 2^64 - 1"),
         }
     }

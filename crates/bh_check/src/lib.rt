@@ -6,6 +6,7 @@ pub mod buckets;
 pub mod check;
 pub mod checksums;
 pub mod flaw;
+pub mod garbage;
 pub mod groups;
 pub mod laws;
 pub mod measures;

@@ -9,7 +9,7 @@ use Rattle.bh_model.specs.QuotaLaws.{IsBounded}
 use Rattle.bh_model.specs.State.{Octets}
 use Rattle.bh_tables.specs.Schema.{no_schema}
 use Rattle.bh_tables.specs.Made.{with_garbage}
-use Rattle.bh_tables.specs.Typed.{Tables, no_rows, tables_in}
+use Rattle.bh_tables.specs.Typed.{Tables, Totals, totals_of, unweighed, no_rows, tables_in}
 use Rattle.bh_tables.specs.Hosts.{tables_shown}
 use Rattle.bh_tables.proofs.HostTests.{host_shows}
 use Rattle.bh_tables.proofs.Blank.{blank_host}
@@ -33,7 +33,9 @@ use Rattle.bh_rows.specs.Index.{Indexes}
 use Rattle.bh_rows.proofs.IndexLemmas.{index_changes, index_grows}
 use Rattle.bh_rows.proofs.IndexErrors.{IsFreeIndex, blank_trouble}
 use Rattle.sqlite_schema.specs.declared.schema.Index.{Index}
-use Rattle.bh_schema.specs.Layer.{Standing, standing, IsIntact, IsOpen, IsStateClean, Leaves, IsInside, Holds, begun, committed}
+use Rattle.bh_schema.specs.Layer.{Standing, standing, IsIntact, IsOpen, IsStateClean, Leaves, IsInsideBy, IsMidst, Holds, HoldsBy, begun, committed}
+use Rattle.bh_schema.specs.Garbage.{weight_added}
+use Rattle.bh_schema.proofs.Calls.{whole_again}
 use Rattle.bh_schema.specs.Storage.{seen_in, left_in}
 use Rattle.bh_schema.proofs.Storing.{follows_then}
 use Rattle.bh_schema.proofs.Committing.{same_database}
@@ -138,25 +140,41 @@ pub begun_making : (old new : State) → IsEmpty old → standing new ≡ begun 
 unfolding standing
 begun_making old new empty is = record { inside = ap (λ (x : Standing). x.inside) is; blank = record { schema_is = ap (λ (x : Standing). x.now.schema) is ∙ empty; blank = tt } }
 
--- all tables are made
-made_host : (s : State) → IsMaking with_garbage s → IsInside (standing s) × (tables_in (standing s).now ≡ no_rows)
+-- a step of a write changes the sums alone
+abbrev pub Rewritten : State → State → (Totals → Totals) → Type 0
+Rewritten old new after = IsStateClean new → (sums : Totals) → IsInsideBy sums (standing old) → HoldsBy (after sums) (tables_in (standing old).now) (standing new)
+
+-- all tables are made, and nothing is counted of what nobody needs
+made_host : (s : State) → IsMaking with_garbage s → IsInsideBy (unweighed (totals_of (tables_in (standing s).now))) (standing s) × (tables_in (standing s).now ≡ no_rows)
 unfolding standing
 made_host s making =
     let it = blank_host s (subst (λ schema. IsBlank schema s) all_made making.blank) in
     (record { inside = making.inside; host = it.0 }, it.1)
 
-pub made_empty : (s : State) → IsMaking with_garbage s → (tables_in (standing s).now).host ≡ []
-made_empty s making = ap (λ (t : Tables). t.host) (made_host s making).1
+pub made_midst : (s : State) → IsMaking with_garbage s → IsMidst (standing s)
+made_midst s making = record { sums = unweighed (totals_of (tables_in (standing s).now)); by = (made_host s making).0 }
 
-pub made_inside : (s : State) → IsMaking with_garbage s → IsInside (standing s)
-made_inside s making = (made_host s making).0
+pub none_weighed : (s : State) → IsMaking with_garbage s → (sums : Totals) → IsInsideBy sums (standing s) → sums.garbage ≡ []
+none_weighed s making sums by = sym by.host.held.weighed ∙ (made_host s making).0.host.held.weighed
+
+-- the row of what nobody needs is added
+pub weighed_none : (old new : State) → IsMaking with_garbage old → Rewritten old new (weight_added 0) → IsStateClean new → Holds no_rows (standing new)
+weighed_none old new making rewritten clean =
+    let it = made_host old making in
+    let t = tables_in (standing old).now in
+    let h = whole_again (weight_added 0 (unweighed (totals_of t))) t (standing new) (rewritten clean (unweighed (totals_of t)) it.0)
+    (subst (λ (x : Tables). weight_added 0 (unweighed (totals_of x)) ≡ totals_of x) (sym it.1) refl) in
+    record { within = h.within; is = h.is ∙ it.1 }
+
+pub still_empty : (s : State) → Holds no_rows (standing s) → (tables_in (standing s).now).host ≡ []
+still_empty s h = ap (λ (t : Tables). t.host) h.is
 
 -- the host's row is added
-pub filled : (old new : State) (min_part max_body digest : ℕ) → IsMaking with_garbage old
+pub filled : (old new : State) (min_part max_body digest : ℕ) → Holds no_rows (standing old)
     → Holds (record (tables_in (standing old).now) { host = (tables_in (standing old).now).host ++ record { version = 4; latest = 0; min_part = min_part; max_body = max_body; digest = digest } ∷ [] }) (standing new)
     → Holds (new_host min_part max_body digest) (standing new)
-filled old new min_part max_body digest making it =
-    record { within = it.within; is = it.is ∙ ap (λ (t : Tables). record t { host = t.host ++ record { version = 4; latest = 0; min_part = min_part; max_body = max_body; digest = digest } ∷ [] }) (made_host old making).1 }
+filled old new min_part max_body digest none it =
+    record { within = it.within; is = it.is ∙ ap (λ (t : Tables). record t { host = t.host ++ record { version = 4; latest = 0; min_part = min_part; max_body = max_body; digest = digest } ∷ [] }) none.is }
 
 -- it has no body, and no tenant
 new_sound : (digest : Octets → Octets) (tables : Tables) (min_part max_body number : ℕ) → tables ≡ new_host min_part max_body number → IsSound tables → ((t : Octets) → view tables t ≡ None) → IsSoundHost digest tables

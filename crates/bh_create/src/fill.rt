@@ -8,6 +8,7 @@ ghost use Rattle.bh_schema.specs.Layer.{standing, IsIntact, IsStateClean, taken_
 ghost use Rattle.bh_create.specs.Creation.{IsEmpty, IsNewHost, IsMaking, Keeps};
 
 use crate::tables::create_tables;
+use bh_schema::rows::garbage::insert_garbage;
 use bh_schema::rows::host::insert_host;
 use bh_schema::rows::transactions::{begin, commit, take_back};
 use bh_types::block_digest::BlockDigest;
@@ -30,6 +31,7 @@ fn fill<S: Alter>(
         → (standing (state S.Store connection.old)).limit ≡ None → is_trouble e ≡ true) }
 {
     create_tables(connection)?;
+    insert_garbage(connection, 0)?;
     insert_host(connection, min_part, max_body, digest)
 }
 

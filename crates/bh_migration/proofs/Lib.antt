@@ -1,4 +1,5 @@
 pub mod Stages
+mod UnneededText
 mod Texts
 mod Tallied
 mod Made

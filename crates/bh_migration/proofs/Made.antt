@@ -79,6 +79,7 @@ first_kept db next h = λ i. record {
   locks = [];
   retains = [];
   tallies = [];
+  garbage = [];
   unfilled = [];
 }
 
@@ -134,7 +135,7 @@ fourth_made a b c d e f g one two three four five six =
     let w6 : Widens (at 32 packs_table ∷ at 34 placed_table ∷ at 37 notes_table ∷ at 39 upload_notes_table ∷ at 41 rights_table ∷ at 43 garbage_table ∷ []) was g.now.trees =
     widens (at 32 packs_table ∷ at 34 placed_table ∷ at 37 notes_table ∷ at 39 upload_notes_table ∷ at 41 rights_table ∷ []) (at 43 garbage_table) was f.now.trees g.now.trees w5 six.rows six.none in
     let z = w6.none in
-    let none : raw g.now.trees ≡ third_raw g.now.trees = λ i. record (raw g.now.trees) { unfilled = z.0 i ++ (z.1.0 i ++ (z.1.1.0 i ++ (z.1.1.1.0 i ++ (z.1.1.1.1.0 i ++ (z.1.1.1.1.1.0 i ++ []))))) } in
+    let none : raw g.now.trees ≡ third_raw g.now.trees = λ i. record (raw g.now.trees) { garbage = z.1.1.1.1.1.0 i; unfilled = z.0 i ++ (z.1.0 i ++ (z.1.1.0 i ++ (z.1.1.1.0 i ++ (z.1.1.1.1.0 i ++ [])))) } in
     record { inside = six.inside; schema = six.schema; rows = none ∙ w6.rows }
 
 -- ---- several, one after another

@@ -9,7 +9,7 @@ use Rattle.bh_rows.proofs.CallLemmas.{clean_before, write_changes}
 use Rattle.bh_rows.proofs.WriteLemmas.{updates_quiet}
 use Rattle.bh_tables.specs.Hosts.{brought_over, tables_shown, tables_opened}
 use Rattle.bh_tables.specs.Schema.{host_schema, host_table, at}
-use Rattle.bh_tables.specs.Typed.{Raw, raw, Tables, tables_in, tables_of, first_tables_in, totals_of, untallied, AreHeld, IsHost}
+use Rattle.bh_tables.specs.Typed.{raw, Tables, tables_in, tables_of, first_tables_in, totals_of, unweighed, untallied, AreHeld, IsHost}
 use Rattle.bh_tables.proofs.HostTests.{host_shows, first_opens, second_opens, third_opens, second_unlike_first, third_unlike_first, third_unlike_second}
 use Rattle.bh_tables.proofs.HostTexts.{version_set, version_may}
 use Rattle.bh_tables.proofs.Places.{host as hosts, host_is, orderly}
@@ -70,7 +70,7 @@ module _ (old new : State) where
 pub holds_untallied : (version : Earlier) (a b : Standing) → HasRows host_schema raw (earlier_raw version a.now.trees) b → IsEarlierHost version a.now → HoldsUntallied version (tables_of (earlier_raw version a.now.trees)) b
 holds_untallied First a b it host = record { within = record { inside = it.inside; host = record { schema = it.schema; held = subst (AreHeld (untallied (totals_of (first_tables_in a.now)))) (sym it.rows) host.held } }; is = ap tables_of it.rows }
 holds_untallied Second a b it host = record { within = record { inside = it.inside; host = record { schema = it.schema; held = subst (AreHeld (untallied (totals_of (tables_in a.now)))) (sym it.rows) host.held } }; is = ap tables_of it.rows }
-holds_untallied Third a b it host = record { within = record { inside = it.inside; host = record { schema = it.schema; held = subst (λ (r : Raw). AreHeld (totals_of (tables_of r)) r) (sym it.rows) host.held } }; is = ap tables_of it.rows }
+holds_untallied Third a b it host = record { within = record { inside = it.inside; host = record { schema = it.schema; held = subst (AreHeld (unweighed (totals_of (tables_in a.now)))) (sym it.rows) host.held } }; is = ap tables_of it.rows }
 
 module _ (version : Earlier) (a b c d : Standing) (made : HasRows host_schema raw (earlier_raw version a.now.trees) b) (holds : (t : Tables) → HoldsUntallied version t b → Holds t c) where
   -- it is a host's, if it was one of this version

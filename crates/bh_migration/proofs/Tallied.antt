@@ -15,22 +15,25 @@ use Rattle.sqlite_keyed.proofs.ListLemmas.{filter-map}
 use Rattle.bh_rows.specs.Means.{Means, Asks, Changes}
 use Rattle.bh_rows.proofs.CallLemmas.{clean_before, shown_open, shown_same, shows_nothing, query_up, query_undone, write_changes}
 use Rattle.bh_rows.proofs.InsertLemmas.{inserts}
-use Rattle.bh_tables.specs.Schema.{Octets, host_schema, tallies_table, at}
-use Rattle.bh_tables.specs.Bodies.{columns_of}
-use Rattle.bh_tables.specs.Typed.{Totals, totals_of, TallyRow, TenantRow, VersionColumns, VersionRow, Tables, tables_in, IsHostBy, tally, number}
+use Rattle.bh_tables.specs.Schema.{Octets, host_schema, tallies_table, garbage_table, at}
+use Rattle.bh_tables.specs.Bodies.{columns_of, unneeded}
+use Rattle.bh_tables.specs.Typed.{Totals, totals_of, unweighed, weight, TallyRow, TenantRow, VersionColumns, VersionRow, Tables, tables_in, IsHostBy, tally, number}
 use Rattle.bh_tables.specs.Shown.{has_marker}
 use Rattle.bh_tables.proofs.CurrentText.{current_counted}
-use Rattle.bh_tables.proofs.Places.{tenants, versions, tallies_is}
+use Rattle.bh_tables.proofs.Places.{tenants, versions, tallies_is, garbage_is}
+use Rattle.bh_tables.proofs.GarbageTexts.{garbage_inserted}
+use Rattle.bh_migration.proofs.UnneededText.{unneeded_text, unneeded_means, unneeded_summed}
 use Rattle.bh_tables.proofs.Statements.{told_as, ones, all_pass, selected, summed}
 use Rattle.bh_tables.proofs.TallyTexts.{tally_copied}
-use Rattle.bh_schema.specs.Layer.{standing, IsIntact, IsOpen, IsStateClean, KeepsDisk, StateWithin}
+use Rattle.bh_schema.specs.Layer.{standing, IsIntact, IsOpen, IsStateClean, KeepsDisk, StateWithin, HoldsBy}
 use Rattle.bh_schema.proofs.Calls.{asks_within, asks_opens, asks_same, changes_inside}
 use Rattle.bh_schema.proofs.TallyCalls.{adds}
+use Rattle.bh_schema.proofs.GarbageCalls.{adds as weight_turns}
 use Rattle.bh_migration.specs.Migration.{HasSchema}
-use Rattle.bh_migration.specs.Tallying.{count_text, how_many, shown_name, HoldsTallies}
+use Rattle.bh_migration.specs.Tallying.{count_text, how_many, shown_name, HoldsTallies, HoldsUnweighed}
 use Rattle.bh_migration.specs.declared.tallying.Count.{Count}
 use Rattle.bh_migration.specs.declared.tallying.Count.TheVariants as count
-use Rattle.bh_migration.proofs.Texts.{names_text, names_shown, count_means, versions_counted, markers_counted, insert_text, insert_terms, insert_means, insert_gives}
+use Rattle.bh_migration.proofs.Texts.{names_text, names_shown, count_means, versions_counted, markers_counted, insert_text, insert_terms, insert_means, insert_gives, weight_text, weight_terms, weight_means, weight_gives}
 
 -- a question leaves the schema
 pub carried : (old new : State) → KeepsDisk old new → (IsStateClean old → HasSchema host_schema (standing old)) → (IsIntact new → standing new ≡ standing old) → IsStateClean new → HasSchema host_schema (standing new)
@@ -157,9 +160,50 @@ module _ (old new : State) (has : IsStateClean old → HasSchema host_schema (st
         go : (r : Result ℕ Error) → (HasCleanDisk new → Executes insert_text params old new r) → OnOk r (IsStateClean new → (t : Tables) (done : List TallyRow) → HoldsTallies t done (standing old) → (name : Octets) → value ≡ Text name → HoldsTallies t (done ++ tally name a b c ∷ []) (standing new))
         go (Err e) ran = tt
         go (Ok n) ran = λ clean t done h name named.
-            let turn = adds old new (λ _. record { sums = record (totals_of t) { tallies = done }; by = h.within }) (Ok n) live (tally_copied name a b c)
+            let turn = adds old new (λ _. record { sums = record (unweighed (totals_of t)) { tallies = done }; by = h.within }) (Ok n) live (tally_copied name a b c)
             (subst (λ v. HasCleanDisk new → Executes insert_text (v ∷ number a ∷ number b ∷ number c ∷ []) old new (Ok n)) named ran) (subst (λ v. Survives old new (CommitsBy insert_text (v ∷ number a ∷ number b ∷ number c ∷ []) old)) named survives) in
-            let it = turn.rewrites clean (record (totals_of t) { tallies = done }) h.within in
+            let it = turn.rewrites clean (record (unweighed (totals_of t)) { tallies = done }) h.within in
+            record { within = it.within; is = it.is ∙ h.is }
+
+  -- ---- what nobody needs is summed, and its row is added
+
+  module _ {X : Type 0} (rows_in : X → List Row) (result : Result X Error) (ok : HasCleanDisk new → IfOk result (λ x. Shown unneeded_text [] old new (rows_in x))) (err : HasCleanDisk new → IfErr result (FailsToQuery unneeded_text [] old new))
+      (survives : Survives old new (CommitsShowing unneeded_text [] old)) where
+    pub sum_quiet : Quiet rows_in result
+    sum_quiet = quiet rows_in result unneeded_text [] ok err survives _ 0 unneeded_means
+
+    pub sum_told : IfOk result (λ x. IsStateClean new → (sums : Totals) → IsHostBy sums (standing old).now → rows_in x ≡ (number (unneeded (tables_in (standing old).now).refs (tables_in (standing old).now).blocks) ∷ []) ∷ [])
+    unfolding standing IsIntact
+    sum_told = go result ok
+      where
+        go : (r : Result X Error) → (HasCleanDisk new → IfOk r (λ x. Shown unneeded_text [] old new (rows_in x))) → IfOk r (λ x. IsStateClean new → (sums : Totals) → IsHostBy sums old.now → rows_in x ≡ (number (unneeded (tables_in old.now).refs (tables_in old.now).blocks) ∷ []) ∷ [])
+        go (Err e) is = tt
+        go (Ok x) is = λ clean sums host. (unneeded_summed {sums = sums} old new (λ _ _. host) rows_in (Ok x) is (λ _. tt) survives).rows clean.intact
+
+  module _ (n : ℕ) (result : Result ℕ Error) (live : IsLive old) (runs : HasCleanDisk new → Executes weight_text (number n ∷ []) old new result) (survives : Survives old new (CommitsBy weight_text (number n ∷ []) old)) where
+    pub weight_changes : Changes old new result
+    weight_changes = write_changes weight_text (number n ∷ []) old new host_schema _ 1 weight_means refl schema_is result runs survives
+
+    -- no table comes or goes, whatever the rows are
+    pub weight_keeps : OnOk result (IsStateClean new → HasSchema host_schema (standing new))
+    unfolding IsIntact IsOpen standing
+    weight_keeps = go result runs (changes_inside old new (λ clean. (has clean).inside) result weight_changes)
+      where
+        go : (r : Result ℕ Error) → (HasCleanDisk new → Executes weight_text (number n ∷ []) old new r) → OnOk r (IsStateClean new → new.in_transaction ≡ true) → OnOk r (IsStateClean new → HasSchema host_schema (standing new))
+        go (Err e) ran stays = tt
+        go (Ok m) ran stays = λ clean.
+            let was = schema_is (clean_before old new _ survives clean.intact) (weight_changes.up clean.intact clean.is_open) in
+            let done = inserts weight_text host_schema (at 43 garbage_table) 18 weight_terms 3 1 weight_means (garbage_is.is_table ∙ ap Some (sym garbage_is.plain)) (number n ∷ []) _ (weight_gives n) old new was m (ran clean.intact) in
+            record { inside = stays clean; schema = ap (λ (d : Database). d.schema) done.1.now }
+
+    pub weight_adds : OnOk result (IsStateClean new → (t : Tables) → HoldsUnweighed t (standing old) → HoldsBy (record (totals_of t) { garbage = weight n ∷ [] }) t (standing new))
+    weight_adds = go result runs
+      where
+        go : (r : Result ℕ Error) → (HasCleanDisk new → Executes weight_text (number n ∷ []) old new r) → OnOk r (IsStateClean new → (t : Tables) → HoldsUnweighed t (standing old) → HoldsBy (record (totals_of t) { garbage = weight n ∷ [] }) t (standing new))
+        go (Err e) ran = tt
+        go (Ok m) ran = λ clean t h.
+            let turn = weight_turns old new (λ _. record { sums = unweighed (totals_of t); by = h.within }) (Ok m) live (garbage_inserted n) ran survives in
+            let it = turn.rewrites clean (unweighed (totals_of t)) h.within in
             record { within = it.within; is = it.is ∙ h.is }
 
 -- ---- one tenant after another

@@ -1,4 +1,4 @@
--- The texts by which tenants are tallied.
+-- The texts by which tenants are tallied, and what nobody needs is counted.
 use Rattle.std.proofs.Common.{ℕ, pos, codes, List, [], ◌∷◌, length, ◌/◌, ◌≡◌, true, false, refl}
 use Rattle.sqlite.specs.declared.types.Value.{Value}
 use Rattle.sqlite.specs.declared.types.Value.TheVariants.{Null, Int, Text}
@@ -17,7 +17,7 @@ use Rattle.sqlite_typed.proofs.TestLemmas.{at_texts, at_ints, last_term, then_te
 use Rattle.bh_rows.specs.Means.{Means}
 use Rattle.bh_rows.specs.Scan.{no_limit}
 use Rattle.bh_rows.specs.Texts.{SelectText, SumText, plainly}
-use Rattle.bh_tables.specs.Schema.{Octets, host_schema, tallies_table, at}
+use Rattle.bh_tables.specs.Schema.{Octets, host_schema, tallies_table, garbage_table, at}
 use Rattle.bh_tables.specs.Bodies.{bare}
 use Rattle.bh_tables.specs.Typed.{Totals, tenant_form, version_form, number}
 use Rattle.bh_tables.specs.Shown.{has_marker}
@@ -89,3 +89,17 @@ insert_means = record { is = refl; plain = (refl, refl); unlisted = refl; whole 
 pub insert_gives : (v : Value) (a b c : ℕ) → value_rows (stamped (plainly (at 30 tallies_table)) (v ∷ number a ∷ number b ∷ number c ∷ [])) 5 (length insert_terms / 5) insert_terms ≡ (Null ∷ v ∷ number a ∷ number b ∷ number c ∷ []) ∷ []
 unfolding everything
 insert_gives v a b c = refl
+
+abbrev pub weight_text : List ℕ
+weight_text = codes "INSERT INTO garbage (bytes) VALUES (?1)"
+
+abbrev pub weight_terms : List Term
+weight_terms = lit Null ∷ lit Null ∷ col 0 0 ∷ []
+
+pub weight_means : Means host_schema weight_text (Insert 18 (Values weight_terms 3)) 1
+unfolding understood everything
+weight_means = record { is = refl; plain = (refl, refl); unlisted = refl; whole = refl; given = refl }
+
+pub weight_gives : (n : ℕ) → value_rows (stamped (plainly (at 43 garbage_table)) (number n ∷ [])) 3 (length weight_terms / 3) weight_terms ≡ (Null ∷ Null ∷ number n ∷ []) ∷ []
+unfolding everything
+weight_gives n = refl

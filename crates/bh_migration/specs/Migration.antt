@@ -7,8 +7,8 @@ use Rattle.bh_tables.specs.Hosts.{IsOfVersion1, IsOfVersion2, IsOfVersion3, brou
 use Rattle.bh_tables.specs.Schema.{first_schema, second_schema, third_schema, host_schema}
 use Rattle.bh_tables.specs.Typed.{IsHost, IsFirstHost, IsSecondHost, IsThirdHost, Tables, tables_in, first_tables_in}
 use Rattle.bh_tables.specs.Typed.{Raw, first_raw, second_raw, third_raw}
-use Rattle.bh_schema.specs.Layer.{Standing, Holds}
-use Rattle.bh_migration.specs.Tallying.{HoldsTallies}
+use Rattle.bh_schema.specs.Layer.{Standing}
+use Rattle.bh_migration.specs.Tallying.{HoldsTallies, HoldsUnweighed}
 use Rattle.bh_migration.specs.declared.Earlier.{Earlier}
 use Rattle.bh_migration.specs.declared.Earlier.TheVariants.{First, Second, Third}
 
@@ -41,7 +41,8 @@ pub record IsBroughtOver (was : Tables) (new : Database) : Type 0 where
 
 -- a database got the tables of a host of version 4. If its rows were those of a host of an earlier
 -- version, it is upgraded. Those rows are unchanged, no bucket is locked and no version has a date
--- that had none, the tallies are the right counts, and the tables that nothing fills have no row
+-- that had none, the tallies and the bytes that nobody needs are the right counts, and the tables that
+-- nothing fills have no row
 pub record IsChanged (old new : Database) : Type 0 where
   pub schema : new.schema ≡ host_schema
   pub first : IsFirstHost old → IsBroughtOver (first_tables_in old) new
@@ -77,11 +78,12 @@ earlier_raw First = first_raw
 earlier_raw Second = second_raw
 earlier_raw Third = third_raw
 
--- in a transaction, a host's database has these tables, and no tallies yet if the earlier version has none
+-- in a transaction, a host's database has these tables, no count of what nobody needs yet, and no
+-- tallies if the earlier version has none
 abbrev pub HoldsUntallied : Earlier → Tables → Standing → Type 0
 HoldsUntallied First tables = HoldsTallies tables []
 HoldsUntallied Second tables = HoldsTallies tables []
-HoldsUntallied Third tables = Holds tables
+HoldsUntallied Third tables = HoldsUnweighed tables
 
 pub record Brings (old new : Standing) : Type 0 where
   pub inside : new.inside ≡ true

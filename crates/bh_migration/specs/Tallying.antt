@@ -3,7 +3,7 @@ use Rattle.std.specs.Prelude.{ℕ, ◌<◌, ◌^◌, List, [], ◌∷◌, length
 use Rattle.sqlite.specs.declared.types.Value.TheVariants.{Text}
 use Rattle.sqlite.specs.Order.{Row}
 use Rattle.bh_tables.specs.Schema.{Octets}
-use Rattle.bh_tables.specs.Typed.{TenantRow, TallyRow, Tables, totals_of}
+use Rattle.bh_tables.specs.Typed.{TenantRow, TallyRow, Tables, totals_of, unweighed}
 use Rattle.bh_tables.specs.Shown.{has_marker, current_versions}
 use Rattle.bh_schema.specs.Layer.{Standing, HoldsBy}
 use Rattle.bh_schema.specs.declared.rows.tallies.Tally.{Tally}
@@ -36,6 +36,10 @@ pub record IsSmall (tally : Tally) : Type 0 where
 abbrev pub shown_name : TenantRow → Row
 shown_name t = Text t.tenant ∷ []
 
--- in a transaction, a host's database has these tables, and these tallies so far
+-- in a transaction, a host's database has these tables, and no count of what nobody needs yet
+abbrev pub HoldsUnweighed : Tables → Standing → Type 0
+HoldsUnweighed tables = HoldsBy (unweighed (totals_of tables)) tables
+
+-- and these tallies so far
 abbrev pub HoldsTallies : Tables → List TallyRow → Standing → Type 0
-HoldsTallies tables done = HoldsBy (record (totals_of tables) { tallies = done }) tables
+HoldsTallies tables done = HoldsBy (record (unweighed (totals_of tables)) { tallies = done }) tables

@@ -4,6 +4,7 @@
 
 mod making;
 mod tallying;
+mod weighing;
 
 ghost use Rattle.std.specs.Prelude.{◌≡◌, ◌⊎◌, true, false, IfErr, OnOk, OnErr};
 ghost use Rattle.sqlite.specs.Held.{state};
@@ -16,9 +17,11 @@ ghost use Rattle.bh_schema.specs.Connections.{IsIntact, IsOpen, IsClean, stands,
 ghost use Rattle.bh_schema.specs.Layer.{Leaves, Holds, taken_back, KeepsDisk};
 ghost use Rattle.bh_migration.specs.Migration.{IsEarlier, IsEarlierHost, IsOfEarlier, earlier_schema, HasSchema, HoldsUntallied};
 ghost use Rattle.bh_migration.specs.Migration.{Brings, Settles, LeavesChanged};
+ghost use Rattle.bh_migration.specs.Tallying.{HoldsUnweighed};
 
 use crate::making::make_tables;
 use crate::tallying::tally_tenants;
+use crate::weighing::weigh;
 use bh_schema::rows::transactions::{begin, commit, take_back};
 use sqlite::{Alter, Connection, Error};
 
@@ -40,7 +43,7 @@ fn tally<S: Alter>(connection: &mut Connection<S>, version: Earlier) -> Result<(
     ensures opens { OnOk result (StaysOpen S.Store connection.old connection.new) }
     ensures keeps { OnOk result (IsClean S.Store connection.new → HasSchema host_schema (stands S.Store connection.new)) }
     ensures holds { OnOk result (IsClean S.Store connection.new → (t : Tables)
-        → HoldsUntallied version t (stands S.Store connection.old) → Holds t (stands S.Store connection.new)) }
+        → HoldsUntallied version t (stands S.Store connection.old) → HoldsUnweighed t (stands S.Store connection.new)) }
     ensures trouble { IfErr result (λ e. is_trouble e ≡ true) }
 {
     match version {
@@ -77,6 +80,7 @@ fn change<S: Alter>(connection: &mut Connection<S>, version: Earlier) -> Result<
 {
     make_tables(connection, version)?;
     tally(connection, version)?;
+    weigh(connection)?;
     set_version(connection)
 }
 
@@ -98,10 +102,12 @@ fn commit_change<S: Alter>(connection: &mut Connection<S>, version: Earlier) -> 
     commit(connection)
 }
 
-/// Upgrades a database with the tables of a host of an older version to version 4, in one commit. It
-/// creates the missing tables: that of tallies with the counts of each tenant's rows, and the others
-/// without rows. Then it sets the host's version to 4. The host's contents don't change. After an
-/// error nothing has changed.
+/// Upgrades a database with the tables of a host of an older version to version 4, in one commit.
+///
+/// It creates the missing tables: that of tallies with the counts of each tenant's rows, that of what
+/// nobody needs with the bytes of the blocks that no reference names, and the others without rows.
+/// Then it sets the host's version to 4. The host's contents don't change. After an error nothing has
+/// changed.
 pub fn bring_over<S: Alter>(connection: &mut Connection<S>, version: Earlier) -> Result<(), Error>
     requires { IsClean S.Store connection.old → IsEarlier version (stands S.Store connection.old) }
     ensures follows { KeepsDisk (state S.Store connection.old) (state S.Store connection.new) }

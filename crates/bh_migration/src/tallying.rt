@@ -9,9 +9,8 @@ ghost use Rattle.bh_tables.specs.Schema.{Octets, host_schema};
 ghost use Rattle.bh_tables.specs.Typed.{Totals, TenantRow, TallyRow, Tables, IsHostBy, tally as tally_row, tally_of, number as stored};
 ghost use Rattle.bh_schema.specs.Calls.{Reads, MayRead};
 ghost use Rattle.bh_schema.specs.Connections.{IsClean, stands, tables, StaysWithin, StaysOpen};
-ghost use Rattle.bh_schema.specs.Layer.{Holds};
 ghost use Rattle.bh_migration.specs.Migration.{HasSchema};
-ghost use Rattle.bh_migration.specs.Tallying.{count_text, how_many, counted, IsSmall, shown_name, HoldsTallies};
+ghost use Rattle.bh_migration.specs.Tallying.{count_text, how_many, counted, IsSmall, shown_name, HoldsTallies, HoldsUnweighed};
 
 use bh_schema::rows::counts::read_total;
 use bh_schema::rows::number::number;
@@ -177,7 +176,7 @@ fn tally_all<S: Alter>(connection: &mut Connection<S>) -> Result<(), Error>
     ensures opens { OnOk result (StaysOpen S.Store connection.old connection.new) }
     ensures keeps { OnOk result (IsClean S.Store connection.new → HasSchema host_schema (stands S.Store connection.new)) }
     ensures holds { OnOk result (IsClean S.Store connection.new → (t : Tables) → HoldsTallies t [] (stands S.Store connection.old)
-        → Holds t (stands S.Store connection.new)) }
+        → HoldsUnweighed t (stands S.Store connection.new)) }
 {
     let rows = name_rows(connection)?;
     tally_each(connection, &rows)
@@ -185,7 +184,7 @@ fn tally_all<S: Alter>(connection: &mut Connection<S>) -> Result<(), Error>
 
 /// A host's failure for an error. Another error comes from rows that no host has: a repeated
 /// tenant, or more entries than a counter can count.
-fn as_trouble(error: Error) -> Error
+pub fn as_trouble(error: Error) -> Error
     ensures trouble { is_trouble result ≡ true }
     ensures same { is_trouble error ≡ true → result ≡ error }
 {
@@ -207,7 +206,7 @@ pub fn tally_tenants<S: Alter>(connection: &mut Connection<S>) -> Result<(), Err
     ensures opens { OnOk result (StaysOpen S.Store connection.old connection.new) }
     ensures keeps { OnOk result (IsClean S.Store connection.new → HasSchema host_schema (stands S.Store connection.new)) }
     ensures holds { OnOk result (IsClean S.Store connection.new → (t : Tables) → HoldsTallies t [] (stands S.Store connection.old)
-        → Holds t (stands S.Store connection.new)) }
+        → HoldsUnweighed t (stands S.Store connection.new)) }
     ensures trouble { IfErr result (λ e. is_trouble e ≡ true) }
 {
     match tally_all(connection) {

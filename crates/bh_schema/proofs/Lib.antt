@@ -5,6 +5,7 @@ pub mod KeptCalls
 pub mod VersionCalls
 pub mod TallyCalls
 pub mod TallySteps
+pub mod GarbageCalls
 pub mod VersionSteps
 pub mod PartCalls
 pub mod Finds

@@ -15,4 +15,5 @@ pub mod Reading
 pub mod Named
 pub mod Removal
 pub mod Tallies
+pub mod Garbage
 pub mod Digests

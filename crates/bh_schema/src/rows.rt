@@ -3,6 +3,7 @@
 pub mod buckets;
 pub mod contents;
 pub mod counts;
+pub mod garbage;
 pub mod host;
 pub mod keys;
 pub mod known;

@@ -10,9 +10,9 @@ use Rattle.sqlite.specs.Edit.{id_in}
 use Rattle.sqlite_trees.specs.View.{is_int}
 use Rattle.sqlite_typed.specs.Columns.{bytes_of, int_of, or_null}
 use Rattle.bh_rows.specs.Form.{Form, AreRows}
-use Rattle.bh_tables.specs.Typed.{column_number, maybe_number, number, host_form, stored_tenant_form, key_form, bucket_form, version_form, block_form, ref_form, stored_upload_form, part_form, use_form, lock_form, retain_form, tally_form}
+use Rattle.bh_tables.specs.Typed.{column_number, maybe_number, number, host_form, stored_tenant_form, key_form, bucket_form, version_form, block_form, ref_form, stored_upload_form, part_form, use_form, lock_form, retain_form, tally_form, garbage_form}
 use Rattle.bh_stored.specs.Cells.{suits, are_suited, is_fit}
-use Rattle.bh_stored.specs.Fits.{AreFit, host_kinds, tenant_kinds, key_kinds, bucket_kinds, version_kinds, block_kinds, ref_kinds, upload_kinds, part_kinds, use_kinds, lock_kinds, retain_kinds, tally_kinds}
+use Rattle.bh_stored.specs.Fits.{AreFit, host_kinds, tenant_kinds, key_kinds, bucket_kinds, version_kinds, block_kinds, ref_kinds, upload_kinds, part_kinds, use_kinds, lock_kinds, retain_kinds, tally_kinds, garbage_kinds}
 use Rattle.bh_stored.specs.declared.cells.Kind.{Kind}
 use Rattle.bh_stored.specs.declared.cells.Kind.TheVariants as kind
 
@@ -203,6 +203,12 @@ tally_each id (a ∷ b ∷ c ∷ []) h = let h0 = and_parts (suits kind.Text a) 
 tally_each id (a ∷ b ∷ c ∷ d ∷ []) h = let h0 = and_parts (suits kind.Text a) _ h in let h1 = and_parts (suits kind.Number b) _ h0.1 in let h2 = and_parts (suits kind.Number c) _ h1.1 in let h3 = and_parts (suits kind.Number d) _ h2.1 in (λ i. text_is a h0.0 i ∷ int_is b h1.0 i ∷ int_is c h2.0 i ∷ int_is d h3.0 i ∷ [])
 tally_each id (a ∷ b ∷ c ∷ d ∷ v ∷ vs) h = let h0 = and_parts (suits kind.Text a) _ h in let h1 = and_parts (suits kind.Number b) _ h0.1 in let h2 = and_parts (suits kind.Number c) _ h1.1 in let h3 = and_parts (suits kind.Number d) _ h2.1 in no h3.1
 
+garbage_each : (id : Value) (vs : Row) → are_suited garbage_kinds vs ≡ true → vs ≡ garbage_form.encode (garbage_form.decode (id ∷ vs))
+garbage_each id [] h = no h
+garbage_each id (a ∷ []) h = let h0 = and_parts (suits kind.Key a) _ h in no h0.1
+garbage_each id (a ∷ b ∷ []) h = let h0 = and_parts (suits kind.Key a) _ h in let h1 = and_parts (suits kind.Number b) _ h0.1 in (λ i. null_is a h0.0 i ∷ int_is b h1.0 i ∷ [])
+garbage_each id (a ∷ b ∷ v ∷ vs) h = let h0 = and_parts (suits kind.Key a) _ h in let h1 = and_parts (suits kind.Number b) _ h0.1 in no h1.1
+
 -- ---- the rows of each
 
 pub hosts_are : (rows : List Row) → AreFit host_kinds rows → AreRows host_form rows
@@ -298,3 +304,15 @@ tallied_each id (a ∷ b ∷ c ∷ d ∷ vs) h = let h0 = and_parts (suits kind.
 pub tallied_is : (r : Row) → is_fit tally_kinds r ≡ true → AreCounts r
 tallied_is [] h = no h
 tallied_is (v ∷ vs) h = tallied_each v vs (and_parts (is_int v) _ h).1
+
+pub garbage_are : (rows : List Row) → AreFit garbage_kinds rows → AreRows garbage_form rows
+garbage_are = rows_are garbage_form garbage_kinds garbage_each
+
+garbage_bytes_each : (id : Value) (vs : Row) → are_suited garbage_kinds vs ≡ true → int_of (column (id ∷ vs) 2) ≡ pos (column_number (column (id ∷ vs) 2))
+garbage_bytes_each id [] h = no h
+garbage_bytes_each id (a ∷ []) h = let h0 = and_parts (suits kind.Key a) _ h in no h0.1
+garbage_bytes_each id (a ∷ b ∷ vs) h = let h0 = and_parts (suits kind.Key a) _ h in let h1 = and_parts (suits kind.Number b) _ h0.1 in ap int_of (number_is b h1.0)
+
+pub garbage_is : (r : Row) → is_fit garbage_kinds r ≡ true → int_of (column r 2) ≡ pos (column_number (column r 2))
+garbage_is [] h = no h
+garbage_is (v ∷ vs) h = garbage_bytes_each v vs (and_parts (is_int v) _ h).1

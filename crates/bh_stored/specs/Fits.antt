@@ -49,6 +49,9 @@ retain_kinds = kind.Text ∷ kind.Number ∷ kind.Number ∷ []
 abbrev pub tally_kinds : List Kind
 tally_kinds = kind.Text ∷ kind.Number ∷ kind.Number ∷ kind.Number ∷ []
 
+abbrev pub garbage_kinds : List Kind
+garbage_kinds = kind.Key ∷ kind.Number ∷ []
+
 -- rows of these kinds, whose numbers ascend
 pub record AreFit (kinds : List Kind) (rows : List Row) : Type 0 where
   pub fit : list_all (is_fit kinds) rows ≡ true
@@ -72,4 +75,5 @@ pub record AreAllFit (d : Trees) : Type 0 where
   pub locks : AreFit lock_kinds (d 26)
   pub retains : AreFit retain_kinds (d 28)
   pub tallies : AreFit tally_kinds (d 30)
+  pub garbage : AreFit garbage_kinds (d 43)
   pub unfilled : AreUnfilled d

@@ -6,7 +6,7 @@ use Rattle.bh_stored.specs.declared.stored.Edition.TheVariants.{First, Second, T
 use Rattle.bh_stored.specs.declared.stored.Stored.{Stored}
 
 -- whether a host of an edition has the tables of locks and of dates, that of tallies, and those that
--- nothing fills yet
+-- the fourth added
 abbrev pub has_locks : Edition → Bool
 has_locks First = false
 has_locks Second = true
@@ -19,16 +19,16 @@ has_tallies Second = false
 has_tallies Third = true
 has_tallies Fourth = true
 
-abbrev pub has_unfilled : Edition → Bool
-has_unfilled First = false
-has_unfilled Second = false
-has_unfilled Third = false
-has_unfilled Fourth = true
+abbrev pub has_fourth : Edition → Bool
+has_fourth First = false
+has_fourth Second = false
+has_fourth Third = false
+has_fourth Fourth = true
 
 -- the rows of a database; a table that a host of its edition does not have is empty
 abbrev pub seen : Edition → Trees → Trees
 seen edition d t = if ((t == 26 || t == 28) && not (has_locks edition)) || ((t == 30 && not (has_tallies edition))
-    || (nat_lt 31 t && not (has_unfilled edition))) then [] else d t
+    || (nat_lt 31 t && not (has_fourth edition))) then [] else d t
 
 -- they are those of a database
 pub record AreStoredIn (d : Trees) (s : Stored) : Type 0 where
@@ -45,3 +45,4 @@ pub record AreStoredIn (d : Trees) (s : Stored) : Type 0 where
   pub locks_is : s.locks.items ≡ d 26
   pub retains_is : s.retains.items ≡ d 28
   pub tallies_is : s.tallies.items ≡ d 30
+  pub garbage_is : s.garbage.items ≡ d 43

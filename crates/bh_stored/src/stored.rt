@@ -45,6 +45,8 @@ const RETAINS: [Kind; 3] = [Text, Number, Number];
 
 const TALLIES: [Kind; 4] = [Text, Number, Number, Number];
 
+const GARBAGE: [Kind; 2] = [Key, Number];
+
 /// The edition of a host, by its version, which determines its tables.
 #[derive(Clone, Copy, PartialEq, Eq)]
 pub enum Edition {
@@ -53,7 +55,7 @@ pub enum Edition {
     Second,
     /// With those and one of tallies.
     Third,
-    /// With those and some that nothing fills yet.
+    /// With those, one of what nobody needs, and some that nothing fills yet.
     Fourth,
 }
 
@@ -73,6 +75,7 @@ pub struct Stored {
     pub locks: Vec<Row>,
     pub retains: Vec<Row>,
     pub tallies: Vec<Row>,
+    pub garbage: Vec<Row>,
 }
 
 /// The number of the first row whose columns aren't of these kinds.
@@ -126,8 +129,7 @@ fn none_filled<S: Store>(alloc: Global, store: &mut S) -> Result<(), Failure>
     no_rows(alloc, store, 34)?;
     no_rows(alloc, store, 37)?;
     no_rows(alloc, store, 39)?;
-    no_rows(alloc, store, 41)?;
-    no_rows(alloc, store, 43)
+    no_rows(alloc, store, 41)
 }
 
 impl Stored {
@@ -151,6 +153,7 @@ impl Stored {
             locks: Vec::new(alloc),
             retains: Vec::new(alloc),
             tallies: Vec::new(alloc),
+            garbage: Vec::new(alloc),
         })
     }
 
@@ -177,13 +180,14 @@ impl Stored {
         Ok(stored)
     }
 
-    /// The same rows, where the tables that nothing fills have none.
+    /// The same rows, and those of what nobody needs, where the tables that nothing fills have none.
     fn read_fourth<S: Store>(alloc: Global, store: &mut S) -> Result<Stored, Failure>
         ensures keeps { OnOk result (KeepsTrees (S.view store.old) (S.view store.new)) }
         ensures stored { IfOk result (λ it. IsClean (S.view store.new) → AreStoredIn (seen Fourth (S.view store.old).trees) it) }
         ensures fit { OnOk result (IsClean (S.view store.new) → AreAllFit (seen Fourth (S.view store.old).trees)) }
     {
-        let stored = Stored::read_third(alloc, store)?;
+        let mut stored = Stored::read_third(alloc, store)?;
+        stored.garbage = fit_rows(alloc, store, 43, &GARBAGE)?;
         none_filled(alloc, store)?;
         Ok(stored)
     }

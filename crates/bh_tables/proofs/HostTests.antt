@@ -13,7 +13,7 @@ use Rattle.sqlite_tied.specs.Compute.{everything}
 use Rattle.sqlite_schema.specs.contracts.schema.Schema as schema
 use Rattle.bh_rows.specs.Form.{Form, AreRows, typed}
 use Rattle.bh_tables.specs.Schema.{first_schema, second_schema, third_schema, host_schema}
-use Rattle.bh_tables.specs.Typed.{Totals, totals_of, untallied, HostRow, Tables, Raw, raw, first_raw, second_raw, third_raw, tables_in, first_tables_in, no_rows, AreHeld, IsHost, IsFirstHost, IsSecondHost, IsThirdHost, lock_form, retain_form, tally_form, host_form, tenant_form, key_form, bucket_form, version_form, block_form, ref_form, upload_form, part_form, use_form}
+use Rattle.bh_tables.specs.Typed.{Totals, totals_of, unweighed, untallied, HostRow, Tables, Raw, raw, first_raw, second_raw, third_raw, tables_in, first_tables_in, no_rows, AreHeld, IsHost, IsFirstHost, IsSecondHost, IsThirdHost, lock_form, retain_form, tally_form, garbage_form, host_form, tenant_form, key_form, bucket_form, version_form, block_form, ref_form, upload_form, part_form, use_form}
 use Rattle.bh_tables.specs.Hosts.{same_code, same, ascends, coded_row, are_rows, are_these, are_held, is_host, is_first_host, is_second_host, is_third_host, is_of_version, brought_over, earlier_shown, IsOfVersion1, IsOfVersion2, IsOfVersion3, tables_shown, tables_opened}
 
 -- ---- codes
@@ -99,6 +99,9 @@ held_of sums r h =
     let n = and_parts _ _ m.1 in
     let o = and_parts _ _ n.1 in
     let p = and_parts _ _ o.1 in
+    let q = and_parts _ _ p.1 in
+    let s = and_parts _ _ q.1 in
+    let t = and_parts _ _ s.1 in
     record {
       host = rows_of host_form r.host a.0;
       tenants = rows_of (tenant_form sums) r.tenants b.0;
@@ -115,7 +118,10 @@ held_of sums r h =
       retains = rows_of retain_form r.retains n.0;
       tallies = rows_of tally_form r.tallies o.0;
       tallied = these_of tally_form r.tallies sums.tallies p.0;
-      unfilled = same_value (coded_list coded_row) r.unfilled [] p.1;
+      garbage = rows_of garbage_form r.garbage q.0;
+      weighed = these_of garbage_form r.garbage sums.garbage s.0;
+      measured = t.0;
+      unfilled = same_value (coded_list coded_row) r.unfilled [] t.1;
     }
 
 of_held : (sums : Totals) (r : Raw) → AreHeld sums r → are_held sums r ≡ true
@@ -123,7 +129,8 @@ of_held sums r h = and_from _ _ (of_rows host_form r.host h.host) (and_from _ _ 
     (and_from _ _ (of_rows version_form r.versions h.versions) (and_from _ _ (of_rows block_form r.blocks h.blocks) (and_from _ _ (of_rows ref_form r.refs h.refs)
     (and_from _ _ (of_rows (upload_form sums) r.uploads h.uploads) (and_from _ _ (of_rows part_form r.parts h.parts) (and_from _ _ (of_rows use_form r.uses h.uses) (and_from _ _ (of_these use_form r.uses sums.uses h.counts) (and_from _ _ (of_rows lock_form r.locks h.locks)
     (and_from _ _ (of_rows retain_form r.retains h.retains) (and_from _ _ (of_rows tally_form r.tallies h.tallies)
-    (and_from _ _ (of_these tally_form r.tallies sums.tallies h.tallied) (value_same (coded_list coded_row) r.unfilled [] h.unfilled)))))))))))))))
+    (and_from _ _ (of_these tally_form r.tallies sums.tallies h.tallied) (and_from _ _ (of_rows garbage_form r.garbage h.garbage) (and_from _ _ (of_these garbage_form r.garbage sums.garbage h.weighed)
+    (and_from _ _ h.measured (value_same (coded_list coded_row) r.unfilled [] h.unfilled))))))))))))))))))
 
 -- ---- databases
 
@@ -153,11 +160,11 @@ of_second db h = and_from _ _ (value_same schema.the_row.coded db.schema second_
 
 third_of : (db : Database) → is_third_host db ≡ true → IsThirdHost db
 unfolding is_third_host
-third_of db h = let parts = and_parts _ _ h in record { schema = same_value schema.the_row.coded db.schema third_schema parts.0; held = held_of (totals_of (tables_in db)) (third_raw db.trees) parts.1 }
+third_of db h = let parts = and_parts _ _ h in record { schema = same_value schema.the_row.coded db.schema third_schema parts.0; held = held_of (unweighed (totals_of (tables_in db))) (third_raw db.trees) parts.1 }
 
 of_third : (db : Database) → IsThirdHost db → is_third_host db ≡ true
 unfolding is_third_host
-of_third db h = and_from _ _ (value_same schema.the_row.coded db.schema third_schema h.schema) (of_held (totals_of (tables_in db)) (third_raw db.trees) h.held)
+of_third db h = and_from _ _ (value_same schema.the_row.coded db.schema third_schema h.schema) (of_held (unweighed (totals_of (tables_in db))) (third_raw db.trees) h.held)
 
 -- a host's database shows its tables
 pub host_shows : (db : Database) → IsHost db → tables_shown db ≡ tables_in db

@@ -21,6 +21,7 @@ pub mod RefTexts
 pub mod UseTexts
 pub mod UsedTexts
 pub mod TallyTexts
+pub mod GarbageTexts
 pub mod CurrentText
 pub mod UploadTexts
 pub mod PartTexts
@@ -29,6 +30,7 @@ pub mod DueText
 pub mod StoredLemmas
 pub mod UsedLemmas
 pub mod TotalLemmas
+pub mod GarbageLemmas
 pub mod TallyLemmas
 pub mod PartTotals
 pub mod OwnedLemmas

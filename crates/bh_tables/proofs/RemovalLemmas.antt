@@ -34,8 +34,9 @@ module _ (was now : Totals) where
 
   -- the database of one is that of the other, if they agree at its rows
   host_again : (db : Database) → IsHostBy was db → AllByRecursion (λ (t : TenantRow). was.used t.tenant ≡ now.used t.tenant) (tables_in db).tenants
-      → AllByRecursion (λ (u : UploadRow). was.kept (u.tenant, u.upload) ≡ now.kept (u.tenant, u.upload)) (tables_in db).uploads → was.uses ≡ now.uses → was.tallies ≡ now.tallies → IsHostBy now db
-  host_again db host used kept uses tallies = record {
+      → AllByRecursion (λ (u : UploadRow). was.kept (u.tenant, u.upload) ≡ now.kept (u.tenant, u.upload)) (tables_in db).uploads → was.uses ≡ now.uses → was.tallies ≡ now.tallies
+      → was.garbage ≡ now.garbage → was.measured ≡ now.measured → IsHostBy now db
+  host_again db host used kept uses tallies garbage measured = record {
     schema = host.schema;
     held = record {
       host = host.held.host;
@@ -53,6 +54,9 @@ module _ (was now : Totals) where
       retains = host.held.retains;
       tallies = host.held.tallies;
       tallied = host.held.tallied ∙ tallies;
+      garbage = host.held.garbage;
+      weighed = host.held.weighed ∙ garbage;
+      measured = sym measured ∙ host.held.measured;
       unfilled = host.held.unfilled;
     };
   }
@@ -126,4 +130,4 @@ module _ (tenant : Octets) where
       (each_left (λ (r : TenantRow). was.used r.tenant ≡ (totals_of gone).used r.tenant) (is_tenant tenant) (λ r other. used_left r.tenant other t.versions t.parts) t.tenants))
       (subst (λ (x : Tables). AllByRecursion (λ (u : UploadRow). was.kept (u.tenant, u.upload) ≡ (totals_of gone).kept (u.tenant, u.upload)) x.uploads) (sym is)
       (each_left (λ (u : UploadRow). was.kept (u.tenant, u.upload) ≡ (totals_of gone).kept (u.tenant, u.upload)) (is_owned_upload tenant) (λ u other. kept_left u.tenant other u.upload t.parts) t.uploads))
-      refl (tallies_left t.versions t.tenants))
+      refl (tallies_left t.versions t.tenants) refl refl)

@@ -14,7 +14,7 @@ use Rattle.sqlite_typed.specs.Columns.{int_of}
 use Rattle.bh_rows.specs.Form.{Form, AreRows, typed}
 use Rattle.bh_rows.specs.Texts.{Leaves}
 use Rattle.bh_tables.specs.Schema.{host_schema}
-use Rattle.bh_tables.specs.Typed.{Totals, TenantColumns, tenant_form, tenant_columns, stored_tenant_form, UploadColumns, upload_form, upload_columns, stored_upload_form, UseRow, use_form, TallyRow, tally_form, raw, AreHeld, IsHostBy, tables, tables_of}
+use Rattle.bh_tables.specs.Typed.{Totals, TenantColumns, tenant_form, tenant_columns, stored_tenant_form, UploadColumns, upload_form, upload_columns, stored_upload_form, UseRow, use_form, TallyRow, tally_form, GarbageRow, garbage_form, raw, AreHeld, IsHostBy, tables, tables_of}
 use Rattle.bh_tables.proofs.RawLemmas.{raw_changed}
 
 -- ---- rows as they are shown, and as they are stored
@@ -97,6 +97,9 @@ tenants_turned before used cs old new host all l =
       retains = host.held.retains;
       tallies = host.held.tallies;
       tallied = host.held.tallied;
+      garbage = host.held.garbage;
+      weighed = host.held.weighed;
+      measured = host.held.measured;
       unfilled = host.held.unfilled;
     } in (
       record { schema = ap (λ (d : Database). d.schema) l.now; held = subst (AreHeld after) (sym now_is) held },
@@ -140,6 +143,9 @@ uploads_turned before kept cs old new host all l =
       retains = host.held.retains;
       tallies = host.held.tallies;
       tallied = host.held.tallied;
+      garbage = host.held.garbage;
+      weighed = host.held.weighed;
+      measured = host.held.measured;
       unfilled = host.held.unfilled;
     } in (
       record { schema = ap (λ (d : Database). d.schema) l.now; held = subst (AreHeld after) (sym now_is) held },
@@ -169,6 +175,9 @@ uses_turned sums us old new host l =
       retains = host.held.retains;
       tallies = host.held.tallies;
       tallied = host.held.tallied;
+      garbage = host.held.garbage;
+      weighed = host.held.weighed;
+      measured = host.held.measured;
       unfilled = host.held.unfilled;
     } in (
       record { schema = ap (λ (d : Database). d.schema) l.now; held = subst (AreHeld (record sums { uses = us })) (sym now_is) held },
@@ -198,8 +207,43 @@ tallies_turned sums ts old new host l =
       retains = host.held.retains;
       tallies = l.held;
       tallied = l.rows;
+      garbage = host.held.garbage;
+      weighed = host.held.weighed;
+      measured = host.held.measured;
       unfilled = host.held.unfilled;
     } in (
       record { schema = ap (λ (d : Database). d.schema) l.now; held = subst (AreHeld (record sums { tallies = ts })) (sym now_is) held },
+      ap tables_of now_is,
+    )
+
+-- ---- what nobody needs
+
+-- the database keeps this row of it, and else is as it was
+pub garbage_turned : (sums : Totals) (gs : List GarbageRow) (old new : State) → IsHostBy sums old.now → Leaves garbage_form host_schema 43 old new gs → IsHostBy (record sums { garbage = gs }) new.now × (tables new ≡ tables old)
+garbage_turned sums gs old new host l =
+    let was = raw old.now.trees in
+    let now_is : raw new.now.trees ≡ record was { garbage = l.next 43 } = ap (λ (d : Database). raw d.trees) l.now ∙ raw_changed 43 old.now.trees l.next l.others in
+    let held : AreHeld (record sums { garbage = gs }) (record was { garbage = l.next 43 }) = record {
+      host = host.held.host;
+      tenants = host.held.tenants;
+      keys = host.held.keys;
+      buckets = host.held.buckets;
+      versions = host.held.versions;
+      blocks = host.held.blocks;
+      refs = host.held.refs;
+      uploads = host.held.uploads;
+      parts = host.held.parts;
+      uses = host.held.uses;
+      counts = host.held.counts;
+      locks = host.held.locks;
+      retains = host.held.retains;
+      tallies = host.held.tallies;
+      tallied = host.held.tallied;
+      garbage = l.held;
+      weighed = l.rows;
+      measured = host.held.measured;
+      unfilled = host.held.unfilled;
+    } in (
+      record { schema = ap (λ (d : Database). d.schema) l.now; held = subst (AreHeld (record sums { garbage = gs })) (sym now_is) held },
       ap tables_of now_is,
     )

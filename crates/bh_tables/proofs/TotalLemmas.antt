@@ -3,7 +3,7 @@ use Rattle.std.proofs.Common.{◌≡◌, inl, inr, ℕ, ℤ, ◌+◌, ◌+ℤ◌
 use Rattle.std.specs.Bool.{one_answer}
 use Rattle.std.specs.Cmp.{signed_Decides}
 use Rattle.std.specs.Cmp.Derive.{both_true}
-use Rattle.std.specs.List.{list_any, AllByRecursion}
+use Rattle.std.specs.List.{list_any, list_all, AllByRecursion}
 use Rattle.std.specs.Ordering.{int_eq}
 use Rattle.std.proofs.lemmas.Bool.{and_parts, cases_Bool}
 use Rattle.std.proofs.lemmas.List.{take-map, map-append, length-map}
@@ -14,8 +14,8 @@ use Rattle.std.proofs.lemmas.Int.{ints}
 use Rattle.sqlite_typed.specs.Tests.{bytes_eq}
 use Rattle.sqlite_typed.proofs.TestLemmas.{same_bytes, bytes_eq_refl}
 use Rattle.bh_tables.specs.Schema.{Octets}
-use Rattle.bh_tables.specs.Typed.{totals_of, tally_of, bytes_used, used_changed, use_among, counted, raised, lowered, lowered_by, is_named, UseRow, BlockRow, RefRow, TenantRow, VersionRow, PartRow, Tables, rebodied}
-use Rattle.bh_tables.specs.Bodies.{Name, same_name, ref_name, block_name, placed, resolved_again, resolved_part_again}
+use Rattle.bh_tables.specs.Typed.{Totals, totals_of, weight, tally_of, bytes_used, used_changed, use_among, raised, lowered, lowered_by, is_named, UseRow, BlockRow, RefRow, TenantRow, VersionRow, PartRow, Tables, rebodied}
+use Rattle.bh_tables.specs.Bodies.{Name, same_name, ref_name, has_size, unneeded, block_name, placed, resolved_again, resolved_part_again}
 use Rattle.bh_tables.specs.Shown.{is_use, is_block, is_of_body, is_unreferenced, is_unused, has_marker, is_later, is_current, by_place, by_name, by_use_name, shown_name, shown_use_name, unreferenced}
 
 -- ---- names
@@ -54,7 +54,7 @@ module _ {X : Type 0} (p : X → Bool) where
       let d = many_cons x (y ∷ xs) in
       elim (is_gt (o x y)) as (λ s. many (cond s (y ∷ insert_sorted o x xs) (x ∷ y ∷ xs)) ≡ one x + many (y ∷ xs)) [ true ↦ omega (arith, a, b, c) | false ↦ d ]
 
-  many_sorted : (o : X → X → Ordering) (xs : List X) → many (sort_by o xs) ≡ many xs
+  pub many_sorted : (o : X → X → Ordering) (xs : List X) → many (sort_by o xs) ≡ many xs
   many_sorted o [] = refl
   many_sorted o (x ∷ xs) = let a = many_inserted o x (sort_by o xs) in let b = many_sorted o xs in let c = many_cons x xs in omega (arith, a, b, c)
 
@@ -102,14 +102,20 @@ module _ (refs : List RefRow) (blocks : List BlockRow) where
       current : (v : VersionRow) → is_current t.tenant (map (resolved_again refs blocks) vs) (resolved_again refs blocks v) ≡ is_current t.tenant vs v
       current v = ap (λ b. bytes_eq v.tenant t.tenant && (int_eq (pos v.marker) (pos 0) && not b)) (any_seen (is_later v) (λ w. refl) vs)
 
--- other references and blocks change the counts of uses alone
-pub totals_rebodied : (t : Tables) (refs : List RefRow) (blocks : List BlockRow) → totals_of (rebodied t refs blocks) ≡ record (totals_of t) { uses = map (use_among refs) blocks }
+-- the sums beside other references and blocks
+abbrev pub rebodied_sums : List RefRow → List BlockRow → Totals → Totals
+rebodied_sums refs blocks sums = record sums { uses = map (use_among refs) blocks; garbage = weight (unneeded refs blocks) ∷ []; measured = list_all (has_size blocks) refs }
+
+-- those alone change
+pub totals_rebodied : (t : Tables) (refs : List RefRow) (blocks : List BlockRow) → totals_of (rebodied t refs blocks) ≡ rebodied_sums refs blocks (totals_of t)
 totals_rebodied t refs blocks = λ i. record {
   used = λ tenant. pos (sum_seen (resolved_again refs blocks) (λ (v : VersionRow). v.size) (λ v. bytes_eq v.tenant tenant) (λ v. refl) (λ v. refl) t.versions i
       + sum_seen (resolved_part_again refs blocks) (λ (p : PartRow). p.size) (λ p. bytes_eq p.tenant tenant) (λ p. refl) (λ p. refl) t.parts i);
   kept = λ q. pos (sum_seen (resolved_part_again refs blocks) (λ (p : PartRow). p.size) (λ p. bytes_eq p.tenant q.0 && int_eq (pos p.upload) (pos q.1)) (λ p. refl) (λ p. refl) t.parts i);
   uses = map (use_among refs) blocks;
   tallies = map (λ x. tally_rebodied refs blocks t.versions x i) t.tenants;
+  garbage = weight (unneeded refs blocks) ∷ [];
+  measured = list_all (has_size blocks) refs;
 }
 
 -- ---- references come and go
@@ -134,9 +140,6 @@ each_named q f refs after same (b ∷ blocks) = ap₂ ◌∷◌ (ap (counts (use
 -- one reference more
 pub uses_with : (refs : List RefRow) (blocks : List BlockRow) (r : RefRow) → map (use_among (refs ++ r ∷ [])) blocks ≡ raised (ref_name r) (map (use_among refs) blocks)
 uses_with refs blocks r = each_named (ref_name r) (λ z. z +ℤ pos 1) refs (refs ++ r ∷ []) (λ b. ap pos (many_last (λ x. same_name (ref_name x) (block_name b)) refs r) ∙ at_one (block_name b) r _) blocks
-
-pub totals_with : (t : Tables) (r : RefRow) → totals_of (rebodied t (t.refs ++ r ∷ []) t.blocks) ≡ counted (raised (ref_name r)) (totals_of t)
-totals_with t r = totals_rebodied t (t.refs ++ r ∷ []) t.blocks ∙ ap (λ us. record (totals_of t) { uses = us }) (uses_with t.refs t.blocks r)
 
 -- none raises the counts of other blocks
 raised_other : (q : Name) (refs : List RefRow) (blocks : List BlockRow) → list_any (is_block q) blocks ≡ false → raised q (map (use_among refs) blocks) ≡ map (use_among refs) blocks
@@ -172,10 +175,10 @@ uses_added refs blocks r b same free unused =
 abbrev less_by : List RefRow → UseRow → UseRow
 less_by rs u = counts u (u.uses -ℤ pos (length (filter (λ (r : RefRow). same_name (ref_name r) (u.digest, u.ord)) rs)))
 
-none_less : (z : ℤ) → z ≡ z -ℤ pos 0
+pub none_less : (z : ℤ) → z ≡ z -ℤ pos 0
 none_less z = grind (arith, ints)
 
-step_less : (z : ℤ) (n k : ℕ) → k ≡ 1 + n → z -ℤ pos 1 -ℤ pos n ≡ z -ℤ pos k
+pub step_less : (z : ℤ) (n k : ℕ) → k ≡ 1 + n → z -ℤ pos 1 -ℤ pos n ≡ z -ℤ pos k
 step_less z n k is = grind (arith, ints, is)
 
 lowered_all : (rs : List RefRow) (us : List UseRow) → lowered_by rs us ≡ map (less_by rs) us
@@ -250,9 +253,6 @@ use_left refs blocks body before after r is = subst (AllByRecursion (λ (u : Use
     go [] = tt
     go (b ∷ blocks) = (at b, go blocks)
 
-pub totals_dropped : (t : Tables) (body : Name) → totals_of (rebodied t (delete_where (is_of_body body) t.refs) t.blocks) ≡ counted (lowered_by (placed t.refs body)) (totals_of t)
-totals_dropped t body = totals_rebodied t (delete_where (is_of_body body) t.refs) t.blocks ∙ ap (λ us. record (totals_of t) { uses = us }) (sym (uses_dropped t.refs t.blocks body))
-
 -- ---- a block goes
 
 pub uses_without : (q : Name) (refs : List RefRow) (blocks : List BlockRow) → delete_where (is_named q) (map (use_among refs) blocks) ≡ map (use_among refs) (delete_where (is_block q) blocks)
@@ -261,9 +261,6 @@ uses_without q refs (b ∷ blocks) = elim (is_block q b) as (λ s. cond (not s) 
   | true ↦ uses_without q refs blocks
   | false ↦ ap (λ l. use_among refs b ∷ l) (uses_without q refs blocks)
 ]
-
-pub totals_without : (t : Tables) (q : Name) → totals_of (rebodied t t.refs (delete_where (is_block q) t.blocks)) ≡ counted (delete_where (is_named q)) (totals_of t)
-totals_without t q = totals_rebodied t t.refs (delete_where (is_block q) t.blocks) ∙ ap (λ us. record (totals_of t) { uses = us }) (sym (uses_without q t.refs t.blocks))
 
 -- ---- the counts of 0 are those of the blocks that no reference names
 
@@ -297,7 +294,7 @@ module _ {X : Type 0} (size : X → ℕ) (p : X → Bool) where
   abbrev share : X → ℕ
   share x = cond (p x) (size x) 0
 
-  total_cons : (x : X) (xs : List X) → total (x ∷ xs) ≡ share x + total xs
+  pub total_cons : (x : X) (xs : List X) → total (x ∷ xs) ≡ share x + total xs
   total_cons x xs = let more = sum_by-cons size x (filter p xs) in elim (p x) as (λ b. sum_by size (cond b (x ∷ filter p xs) (filter p xs)) ≡ cond b (size x) 0 + total xs) [ true ↦ more | false ↦ omega (arith) ]
 
   pub total_last : (xs : List X) (x : X) → total (xs ++ x ∷ []) ≡ total xs + share x

@@ -1,6 +1,7 @@
 -- The bytes of a body: those of its references' blocks, by place; and the versions and parts with
 -- these bytes.
-use Rattle.std.specs.Prelude.{ℕ, Bool, ◌&&◌, pos, List, [], ◌∷◌, filter, flat_map, Option, Some, None}
+use Rattle.std.specs.Prelude.{ℕ, Bool, ◌==◌, ◌&&◌, not, pos, List, [], ◌∷◌, filter, length, flat_map, Option, Some, None}
+use Rattle.std.specs.List.{list_any, sum_by}
 use Rattle.std.specs.Option.{option_map_or}
 use Rattle.std.specs.Ordering.{int_eq, int_cmp}
 use Rattle.std.specs.declared.cmp.Ordering.{Ordering}
@@ -54,6 +55,25 @@ block_at blocks q = option_map_or (λ (b : BlockRow). b.bytes) (row_at blocks q)
 -- a body's references, by place
 abbrev pub placed : List RefRow → Name → List RefRow
 placed refs body = sort_by by_place (matching same_name body_name body refs)
+
+-- whether a reference has the size of its block
+abbrev pub has_size : List BlockRow → RefRow → Bool
+has_size blocks r = r.size == length (block_at blocks (ref_name r))
+
+-- ---- the blocks that nobody needs
+
+-- a reference to the block of this name
+abbrev pub is_use : Name → RefRow → Bool
+is_use q r = same_name (ref_name r) q
+
+abbrev pub is_unreferenced : List RefRow → BlockRow → Bool
+is_unreferenced refs b = not (list_any (is_use (block_name b)) refs)
+
+-- the bytes of the blocks that no reference names
+abbrev pub unneeded : List RefRow → List BlockRow → ℕ
+unneeded refs blocks = sum_by (λ (b : BlockRow). length b.bytes) (filter (is_unreferenced refs) blocks)
+
+-- ---- bodies
 
 -- the bytes of each body
 unfoldable pub whole : List RefRow → List BlockRow → Name → Octets

@@ -14,10 +14,11 @@ use Rattle.sqlite_value.specs.contracts.value.Value as value
 use Rattle.sqlite_schema.specs.contracts.schema.Schema as schema
 use Rattle.bh_rows.specs.Form.{Form, typed}
 use Rattle.bh_tables.specs.Schema.{first_schema, second_schema, third_schema, host_schema}
-use Rattle.bh_tables.specs.Typed.{HostRow, Tables, Totals, totals_of, untallied, Raw, raw, first_raw, second_raw, third_raw}
+use Rattle.bh_tables.specs.Typed.{HostRow, Tables, Totals, totals_of, unweighed, untallied, Raw, raw, first_raw, second_raw, third_raw}
 use Rattle.bh_tables.specs.Typed.{tables_in, first_tables_in, IsFirstHost, IsSecondHost, IsThirdHost, no_rows, host_form}
 use Rattle.bh_tables.specs.Typed.{tenant_form, key_form, bucket_form}
-use Rattle.bh_tables.specs.Typed.{version_form, block_form, ref_form, upload_form, part_form, use_form, lock_form, retain_form, tally_form}
+use Rattle.bh_tables.specs.Typed.{version_form, block_form, ref_form, upload_form, part_form, use_form, lock_form, retain_form}
+use Rattle.bh_tables.specs.Typed.{tally_form, garbage_form}
 
 -- ---- equality, by the codes of values
 
@@ -63,7 +64,8 @@ are_held sums r = are_rows host_form r.host && (are_rows (tenant_form sums) r.te
     && (are_rows part_form r.parts && (are_rows use_form r.uses
     && (are_these use_form r.uses sums.uses && (are_rows lock_form r.locks && (are_rows retain_form r.retains
     && (are_rows tally_form r.tallies && (are_these tally_form r.tallies sums.tallies
-    && same (coded_list coded_row) r.unfilled []))))))))))))))
+    && (are_rows garbage_form r.garbage && (are_these garbage_form r.garbage sums.garbage && (sums.measured
+    && same (coded_list coded_row) r.unfilled [])))))))))))))))))
 
 -- ---- databases
 
@@ -72,10 +74,10 @@ are_held sums r = are_rows host_form r.host && (are_rows (tenant_form sums) r.te
 unfoldable pub is_host : Database → Bool
 is_host db = same schema.the_row.coded db.schema host_schema && are_held (totals_of (tables_in db)) (raw db.trees)
 
--- a host's database under the third schema
+-- a host's database under the third schema, which has no count of what nobody needs
 unfoldable pub is_third_host : Database → Bool
 is_third_host db = same schema.the_row.coded db.schema third_schema
-    && are_held (totals_of (tables_in db)) (third_raw db.trees)
+    && are_held (unweighed (totals_of (tables_in db))) (third_raw db.trees)
 
 -- under the second schema, which has no tallies
 unfoldable pub is_second_host : Database → Bool

@@ -4,6 +4,7 @@ pub mod Rows
 pub mod Bodies
 pub mod Entries
 pub mod Typed
+pub mod Garbage
 pub mod Shown
 pub mod Hosts
 pub mod Due

@@ -1,5 +1,5 @@
 -- The rows of each table as typed records, with their stored columns.
-use Rattle.std.specs.Prelude.{◌≡◌, ℕ, ℤ, pos, List, [], ◌∷◌, Option, Some, None, refl, unsigned_abs}
+use Rattle.std.specs.Prelude.{◌≡◌, ℕ, ℤ, pos, Bool, List, [], ◌∷◌, Option, Some, None, refl, unsigned_abs}
 use Rattle.sqlite.specs.declared.types.Value.{Value}
 use Rattle.sqlite.specs.declared.types.Value.TheVariants.{Null, Int, Text, Blob}
 use Rattle.sqlite.specs.Order.{Row, column}
@@ -26,8 +26,9 @@ maybe_back (Some n) = refl
 
 -- ---- sums over other rows. A tenant has the bytes of its versions and parts, and an upload those
 -- of its parts. Each block, in the order of the blocks, has its number of references. Each tenant,
--- in the order of the tenants, has its numbers of versions, markers and current versions. The
--- columns and the tables of these sums have CHECKs from 0 to 2^62
+-- in the order of the tenants, has its numbers of versions, markers and current versions. One row has
+-- the bytes of the blocks that no reference names. The columns and the tables of these sums have
+-- CHECKs from 0 to 2^62
 
 pub record UseRow : Type 0 where
   pub digest : Octets
@@ -64,11 +65,27 @@ tally_read r = record {
 abbrev pub tally_form : Form TallyRow
 tally_form = record { encode = tally_columns; decode = tally_read; back = λ _ x. refl }
 
+-- its id is the row's number and so is not a column of the record
+pub record GarbageRow : Type 0 where
+  pub bytes : ℤ
+
+abbrev pub garbage_columns : GarbageRow → Row
+garbage_columns g = Null ∷ Int g.bytes ∷ []
+
+abbrev pub garbage_of : Row → GarbageRow
+garbage_of r = record { bytes = int_of (column r 2) }
+
+abbrev pub garbage_form : Form GarbageRow
+garbage_form = record { encode = garbage_columns; decode = garbage_of; back = λ _ x. refl }
+
 pub record Totals : Type 0 where
   pub used : Octets → ℤ
   pub kept : Octets × ℕ → ℤ
   pub uses : List UseRow
   pub tallies : List TallyRow
+  pub garbage : List GarbageRow
+  -- whether each reference has the size of its block
+  pub measured : Bool
 
 -- ---- the host: one row, whose id is the row's number and so is not a column of the record
 

@@ -149,7 +149,7 @@ tallies_table = table (codes "tallies") (given (codes "tenant") Text ∷ given (
     ∷ given (codes "objects") Integer ∷ []) (1 ∷ []) [] (refers (1 ∷ []) (codes "tenants") ∷ [])
     (is_natural 2 ∷ is_small 2 ∷ is_natural 3 ∷ is_small 3 ∷ is_natural 4 ∷ is_small 4 ∷ [])
 
--- the tables that follow have no row yet. They are here, since the store can't add a column, and so
+-- the tables that follow, but the last, have no row yet. They are here, since the store can't add a column, and so
 -- that files change their version once for all of them
 
 -- the packs of bytes of blocks, by their numbers: how many bytes of each are committed, and how many
@@ -183,7 +183,7 @@ abbrev pub rights_table : Table
 rights_table = table (codes "rights") (given (codes "tenant") Text ∷ given (codes "name") Text ∷ given (codes "rights") Text ∷ [])
     (1 ∷ 2 ∷ []) [] (refers (1 ∷ 2 ∷ []) (codes "keys") ∷ []) []
 
--- how many bytes of blocks no reference names: at most one row, and none where they aren't counted
+-- how many bytes of blocks no reference names, in one row
 abbrev pub garbage_table : Table
 garbage_table = record (table (codes "garbage") (maybe (codes "id") Integer ∷ given (codes "bytes") Integer ∷ []) (0 ∷ []) [] []
     (op2 (Compare Eq Binary) (col 1 0) (lit (Int (pos 1))) ∷ is_natural 2 ∷ is_small 2 ∷ [])) {

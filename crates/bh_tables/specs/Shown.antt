@@ -1,5 +1,5 @@
 -- The rows that a query finds, and the columns that it returns.
-use Rattle.std.specs.Prelude.{ℕ, Bool, ◌&&◌, ◌||◌, not, pos, List, [], ◌∷◌, filter, take, is_some, int_lt, if◌then◌else◌}
+use Rattle.std.specs.Prelude.{ℕ, Bool, ◌&&◌, ◌||◌, pos, List, [], ◌∷◌, filter, take, is_some, int_lt, if◌then◌else◌}
 use Rattle.std.specs.List.{list_any}
 use Rattle.std.specs.Ordering.{int_eq, int_cmp, ordering_then}
 use Rattle.std.specs.declared.cmp.Ordering.{Ordering}
@@ -9,10 +9,10 @@ use Rattle.sqlite_keyed.specs.Lists.{sort_by}
 use Rattle.sqlite_typed.specs.Columns.{or_null}
 use Rattle.sqlite_typed.specs.Tests.{bytes_eq, bytes_cmp}
 use Rattle.bh_tables.specs.Schema.{Octets}
-pub use Rattle.bh_tables.specs.Bodies.{Name, same_name, block_name, ref_name, body_name, part_name, by_place}
+pub use Rattle.bh_tables.specs.Bodies.{Name, same_name, block_name, ref_name, body_name, part_name, by_place, is_use, is_unreferenced}
 pub use Rattle.bh_tables.specs.Entries.{has_marker, is_later, is_current, current_versions, marked}
 use Rattle.bh_tables.specs.Typed.{Totals, UseRow, HostRow, TenantRow, KeyRow, BucketRow, VersionRow, BlockRow, RefRow, UploadRow, PartRow}
-use Rattle.bh_tables.specs.Typed.{LockRow, RetainRow, TallyRow, number}
+use Rattle.bh_tables.specs.Typed.{LockRow, RetainRow, TallyRow, GarbageRow, number}
 
 -- ---- the row of a primary key, or of the unique key of versions
 
@@ -72,10 +72,6 @@ is_marked_right v = int_eq (pos v.marker) (pos 0) || (int_eq (pos v.size) (pos 0
 abbrev pub is_block : Name → BlockRow → Bool
 is_block q b = same_name (block_name b) q
 
--- a reference to the block of this name
-abbrev pub is_use : Name → RefRow → Bool
-is_use q r = same_name (ref_name r) q
-
 -- a reference of this body
 abbrev pub is_of_body : Name → RefRow → Bool
 is_of_body q r = same_name (body_name r) q
@@ -91,9 +87,6 @@ has_digest digest b = bytes_eq b.digest digest
 -- the block of this digest with these bytes
 abbrev pub is_copy : Octets → Octets → BlockRow → Bool
 is_copy digest bytes b = bytes_eq b.digest digest && bytes_eq b.bytes bytes
-
-abbrev pub is_unreferenced : List RefRow → BlockRow → Bool
-is_unreferenced refs b = not (list_any (is_use (block_name b)) refs)
 
 abbrev pub by_ord : BlockRow → BlockRow → Ordering
 by_ord a b = int_cmp (pos a.ord) (pos b.ord)
@@ -227,6 +220,10 @@ shown_used sums t = Int (sums.used t.tenant) ∷ []
 -- a tenant's counts
 abbrev pub shown_tally : TallyRow → Row
 shown_tally t = Int t.versions ∷ Int t.markers ∷ Int t.objects ∷ []
+
+-- the bytes that nobody needs
+abbrev pub shown_garbage : GarbageRow → Row
+shown_garbage g = Int g.bytes ∷ []
 
 abbrev pub shown_key : KeyRow → Row
 shown_key k = Text k.name ∷ []

@@ -1,6 +1,7 @@
 -- The tables of a state of the store, each as a list of typed rows.
-use Rattle.std.specs.Prelude.{◌≡◌, ℕ, Bool, ◌+◌, ◌+ℤ◌, ◌-ℤ◌, ◌&&◌, if◌then◌else◌, pos, List, [], ◌∷◌, map, filter, length, IsTrue, flat_map}
-use Rattle.std.specs.List.{sum_by}
+use Rattle.std.specs.Prelude.{◌≡◌, ℕ, Bool, ◌+◌, ◌+ℤ◌, ◌-ℤ◌, ◌&&◌, if◌then◌else◌, pos, List, [], ◌∷◌, map, filter, length}
+use Rattle.std.specs.Prelude.{true, IsTrue, flat_map}
+use Rattle.std.specs.List.{sum_by, list_all}
 use Rattle.std.specs.Ordering.{int_eq}
 use Rattle.sqlite_keyed.specs.Lists.{update_where}
 use Rattle.sqlite_typed.specs.Tests.{bytes_eq}
@@ -10,7 +11,8 @@ use Rattle.sqlite.specs.Effect.{Database}
 use Rattle.sqlite.specs.State.{State, HasCleanDisk}
 use Rattle.bh_rows.specs.Form.{AreRows, typed}
 use Rattle.bh_tables.specs.Schema.{Octets, first_schema, second_schema, third_schema, host_schema}
-use Rattle.bh_tables.specs.Bodies.{Name, same_name, block_name, ref_name, resolved, resolved_again, resolved_part, resolved_part_again}
+use Rattle.bh_tables.specs.Bodies.{Name, same_name, block_name, ref_name, has_size, unneeded}
+use Rattle.bh_tables.specs.Bodies.{resolved, resolved_again, resolved_part, resolved_part_again}
 use Rattle.bh_tables.specs.Entries.{has_marker, current_versions}
 pub use Rattle.bh_tables.specs.Rows.{Totals, column_number, maybe_number, number, maybe_back, HostRow, host_columns, host_of, host_form}
 pub use Rattle.bh_tables.specs.Rows.{TenantRow, tenant_columns, tenant_of, tenant_form, TenantColumns, stored_tenant_form, KeyRow}
@@ -19,7 +21,8 @@ pub use Rattle.bh_tables.specs.Rows.{version_columns, version_of, version_form, 
 pub use Rattle.bh_tables.specs.Rows.{UseRow, use_columns, use_of, use_form, RefRow, ref_columns, ref_of, ref_form, UploadRow}
 pub use Rattle.bh_tables.specs.Rows.{upload_columns, upload_of, upload_form, UploadColumns, stored_upload_form, PartColumns, part_columns}
 pub use Rattle.bh_tables.specs.Rows.{part_of, part_form, PartRow, LockRow, lock_columns, lock_of, lock_form, RetainRow, retain_columns}
-pub use Rattle.bh_tables.specs.Rows.{retain_of, retain_form, TallyRow, tally_columns, tally_read, tally_form}
+pub use Rattle.bh_tables.specs.Rows.{retain_of, retain_form, TallyRow, tally_columns, tally_read, tally_form, GarbageRow}
+pub use Rattle.bh_tables.specs.Rows.{garbage_columns, garbage_of, garbage_form}
 
 -- ---- all tables
 
@@ -66,12 +69,13 @@ pub record Raw : Type 0 where
   pub locks : List Row
   pub retains : List Row
   pub tallies : List Row
+  pub garbage : List Row
   -- of the tables that nothing fills yet
   pub unfilled : List Row
 
--- the trees of these tables: of packs, of places in them, of notes, of rights, and of the count of bytes that nothing names
+-- the trees of these tables: of packs, of places in them, of notes, and of rights
 abbrev pub unfilled_trees : List ℕ
-unfilled_trees = 32 ∷ 34 ∷ 37 ∷ 39 ∷ 41 ∷ 43 ∷ []
+unfilled_trees = 32 ∷ 34 ∷ 37 ∷ 39 ∷ 41 ∷ []
 
 abbrev pub raw : Trees → Raw
 raw db = record {
@@ -88,13 +92,14 @@ raw db = record {
   locks = db 26;
   retains = db 28;
   tallies = db 30;
+  garbage = db 43;
   unfilled = flat_map db unfilled_trees;
 }
 
--- under the third schema, which has none of the tables that nothing fills, under the second, which has no table of tallies
--- either, and under the first, which has none of locks and of dates either
+-- under the third schema, which has neither a table of what nobody needs nor those that nothing fills, under the second,
+-- which has no table of tallies either, and under the first, which has none of locks and of dates either
 abbrev pub third_raw : Trees → Raw
-third_raw db = record (raw db) { unfilled = [] }
+third_raw db = record (raw db) { garbage = []; unfilled = [] }
 
 abbrev pub second_raw : Trees → Raw
 second_raw db = record (third_raw db) { tallies = [] }
@@ -143,6 +148,9 @@ pub record AreHeld (sums : Totals) (r : Raw) : Type 0 where
   pub retains : AreRows retain_form r.retains
   pub tallies : AreRows tally_form r.tallies
   pub tallied : typed tally_form r.tallies ≡ sums.tallies
+  pub garbage : AreRows garbage_form r.garbage
+  pub weighed : typed garbage_form r.garbage ≡ sums.garbage
+  pub measured : sums.measured ≡ true
   pub unfilled : r.unfilled ≡ []
 
 -- a database's tables, and those of the database in a state of the store
@@ -153,7 +161,7 @@ abbrev pub tables : State → Tables
 tables s = tables_in s.now
 
 -- and those under the first schema; under the second and the third it has those that it has under a
--- host's, which have no tallies
+-- host's
 abbrev pub first_tables_in : Database → Tables
 first_tables_in db = tables_of (first_raw db.trees)
 
@@ -180,6 +188,10 @@ abbrev pub tally_of : List VersionRow → TenantRow → TallyRow
 tally_of versions t = tally t.tenant (length (filter (has_marker t.tenant 0) versions))
     (length (filter (has_marker t.tenant 1) versions)) (length (current_versions t.tenant versions))
 
+-- so many bytes that nobody needs
+abbrev pub weight : ℕ → GarbageRow
+weight n = record { bytes = pos n }
+
 -- the right sums over rows
 abbrev pub totals_of : Tables → Totals
 totals_of t = record {
@@ -187,11 +199,17 @@ totals_of t = record {
   kept = λ q. pos (bytes_kept t.parts q.0 q.1);
   uses = map (use_among t.refs) t.blocks;
   tallies = map (tally_of t.versions) t.tenants;
+  garbage = weight (unneeded t.refs t.blocks) ∷ [];
+  measured = list_all (has_size t.blocks) t.refs;
 }
 
--- if there is no table of tallies
+-- if the row of what nobody needs isn't there
+abbrev pub unweighed : Totals → Totals
+unweighed sums = record sums { garbage = [] }
+
+-- if there is no table of tallies either
 abbrev pub untallied : Totals → Totals
-untallied sums = record sums { tallies = [] }
+untallied sums = record (unweighed sums) { tallies = [] }
 
 -- the count of this block
 abbrev pub is_named : Name → UseRow → Bool
@@ -235,6 +253,10 @@ recounted versions markers objects t = record t {
 abbrev pub tally_changed : Octets → ℕ × ℕ → ℕ × ℕ → ℕ × ℕ → Totals → Totals
 tally_changed tenant versions markers objects = tallied (update_where (is_tally tenant) (recounted versions markers objects))
 
+-- with another row of what nobody needs
+abbrev pub weighed : (List GarbageRow → List GarbageRow) → Totals → Totals
+weighed change sums = record sums { garbage = change sums.garbage }
+
 -- adds to and subtracts from the bytes of a tenant, and of an upload
 abbrev pub used_changed : Octets → ℕ → ℕ → Totals → Totals
 used_changed tenant more less sums =
@@ -265,7 +287,7 @@ pub record IsSecondHost (db : Database) : Type 0 where
 
 pub record IsThirdHost (db : Database) : Type 0 where
   pub schema : db.schema ≡ third_schema
-  pub held : AreHeld (totals_of (tables_in db)) (third_raw db.trees)
+  pub held : AreHeld (unweighed (totals_of (tables_in db))) (third_raw db.trees)
 
 -- if the store returned what was written and the connection is open, the database is a host's
 abbrev pub IsReadyBy : Totals → State → Type 0

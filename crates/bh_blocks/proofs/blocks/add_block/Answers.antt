@@ -33,4 +33,4 @@ returns-clause-added g c clean =
     (ended a e counts (λ rows. with_ref (with_block rows)) (λ _. one.writes.within.follows.clean first) c.requires.inside
     (then_turned a d e (λ s. s) counts (λ rows. with_ref (with_block rows)) (λ rows. rows) three.writes.within.follows.clean
     (then_turned a b d (λ s. s) (λ s. s) with_block with_ref two.writes.within.follows.clean one.rewrites two.rewrites) three.rewrites)
-    (λ was. piece_law t r block refl (one.fresh first)) clean)
+    (λ was. piece_law t r block refl refl (one.fresh first) (c.requires.inside was).host.held.measured) clean)

@@ -7,13 +7,21 @@ use Rattle.bh_schema.specs.Working.{tables_at}
 use Rattle.bh_view.specs.Blocks.{free_ord}
 use Rattle.bh_blocks.specs.Lookups.{Tells}
 use Rattle.bh_blocks.specs.Named.{placed_at}
-use Rattle.bh_blocks.proofs.Candidates.{none_copied, first_free}
+use Rattle.bh_blocks.specs.Uses.{IsSize}
+use Rattle.bh_blocks.proofs.Candidates.{none_copied, first_free, copy_sized}
 use Rattle.bh_blocks.proofs.Storing.{known_stored, missing_stored}
 use Rattle.bh_blocks.proofs.Keeping.{own_at, still_inside}
 use Rattle.bh_blocks.proofs.blocks.store_named.Goals as goal
 
 pub refer-requires-clause-inside : goal.refer-requires-clause-inside
 refer-requires-clause-inside g c = still_inside _ _ c.in_ok-ord.ensures.reads.within c.in_ok-ord.ensures.reads.same c.requires.inside
+
+pub refer-requires-clause-size : goal.refer-requires-clause-size
+refer-requires-clause-size g c clean =
+    let same = c.in_ok-ord.ensures.reads.same clean.intact in
+    subst (λ (x : Standing). IsSize (c.args.digest.now, c.in-Held.ord) (length c.args.bytes.now) (tables_in x.now).blocks) (sym same)
+    (copy_sized c.args.digest.now c.args.bytes.now c.in-Held.ord (tables_at (state g.S.Store c.args.connection.now)).blocks
+    (subst (Tells c.args.digest.now c.args.bytes.now (tables_at (state g.S.Store c.args.connection.now)).blocks) c.in-Held.is (c.in_ok-ord.ensures.found clean)))
 
 pub store_clashing-requires-clause-inside : goal.store_clashing-requires-clause-inside
 store_clashing-requires-clause-inside g c = still_inside _ _ c.in_ok-ord.ensures.reads.within c.in_ok-ord.ensures.reads.same c.requires.inside

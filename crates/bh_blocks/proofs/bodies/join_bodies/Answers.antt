@@ -1,19 +1,32 @@
 use Rattle.std.proofs.Common.{◌≡◌, ℕ, sym, ap, ◌∙◌, subst, map, flat_map}
 use Rattle.std.proofs.lemmas.Result.{on_ok_weaker}
 use Rattle.sqlite.specs.Held.{state}
-use Rattle.bh_tables.specs.Typed.{tables_in}
-use Rattle.bh_tables.specs.Bodies.{Name, placed}
+use Rattle.bh_tables.specs.Typed.{RefRow, tables_in}
+use Rattle.std.specs.List.{All}
+use Rattle.bh_tables.specs.Bodies.{Name, placed, ref_name}
+use Rattle.bh_tables.specs.Shown.{shown_ref}
 use Rattle.bh_view.specs.Bodies.{body_again, AddsBody}
 use Rattle.bh_view.proofs.BodyChanges.{bodies_join}
 use Rattle.bh_schema.specs.Layer.{Standing}
 use Rattle.bh_schema.specs.Working.{tables_at}
 use Rattle.bh_blocks.specs.Added.{bytes_in}
 use Rattle.bh_blocks.proofs.BodySteps.{flat_named}
+use Rattle.bh_blocks.specs.Uses.{IsSize, IsShownRight}
+use Rattle.bh_blocks.proofs.Garbage.{joined_sizes}
+use Rattle.bh_blocks.proofs.Loops.{all_shown}
 use Rattle.bh_blocks.proofs.Keeping.{resolved_at, still_inside}
 use Rattle.bh_blocks.proofs.bodies.join_bodies.Goals as goal
 
 pub refer_to_all-requires-clause-inside : goal.refer_to_all-requires-clause-inside
 refer_to_all-requires-clause-inside g c = still_inside _ _ c.in_ok-rows.ensures.within c.in_ok-rows.ensures.same c.requires.inside
+
+pub refer_to_all-requires-clause-sizes : goal.refer_to_all-requires-clause-sizes
+refer_to_all-requires-clause-sizes g c clean =
+    let a = state g.S.Store c.args.connection.now in
+    let t = tables_at a in
+    let measured = (c.requires.inside (c.in_ok-rows.ensures.within.follows.clean clean)).host.held.measured in
+    subst (λ (x : Standing). All (λ row. IsShownRight row (tables_in x.now).blocks) c.deref.result.now) (sym (c.in_ok-rows.ensures.same clean.intact))
+    (subst (All (λ row. IsShownRight row t.blocks)) (sym (c.deref.ensures.value ∙ c.in_ok-rows.ensures.rows clean)) (all_shown shown_ref (λ (r : RefRow). IsSize (ref_name r) r.size t.blocks) (flat_map (λ source. placed t.refs (c.args.tenant.now, source)) c.args.sources.now) (joined_sizes t (λ source. (c.args.tenant.now, source)) c.args.sources.now measured)))
 
 pub returns-clause-joined : goal.returns-clause-joined
 returns-clause-joined g c = on_ok_weaker c.refer_to_all.result (λ again clean.

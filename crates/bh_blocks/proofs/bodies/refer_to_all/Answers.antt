@@ -1,7 +1,9 @@
-use Rattle.std.proofs.Common.{arith, ◌+◌, drop, sym, ap, ◌∙◌}
+use Rattle.std.proofs.Common.{arith, ◌+◌, drop, sym, ap, ◌∙◌, subst}
 use Rattle.sqlite.specs.Held.{state}
 use Rattle.bh_tables.specs.Shown.{shown_ref}
 use Rattle.bh_tables.specs.Bodies.{Name}
+use Rattle.bh_tables.specs.Typed.{Tables}
+use Rattle.bh_blocks.specs.Uses.{IsShownRight}
 use Rattle.bh_view.specs.Bodies.{body_again}
 use Rattle.bh_schema.specs.Working.{tables_at}
 use Rattle.bh_schema.proofs.Storing.{within_then}
@@ -9,6 +11,12 @@ use Rattle.bh_blocks.proofs.Loops.{at_row, drop_end}
 use Rattle.bh_blocks.proofs.BodySteps.{again_next}
 use Rattle.bh_blocks.proofs.Keeping.{own_at}
 use Rattle.bh_blocks.proofs.bodies.refer_to_all.Goals as goal
+
+pub refer_again-requires-clause-size : goal.refer_again-requires-clause-size
+refer_again-requires-clause-size g c clean =
+    let inv = c.loop-row.invariant in
+    let sized = c.requires.sizes (inv.within.follows.clean clean) c.loop-row.row-index c.row-item.result c.loop-row-test.true in
+    subst (λ bs. IsShownRight c.row-item.result bs) (sym (inv.blocks clean)) (subst (λ row. IsShownRight row (tables_at (state g.S.Store c.args.connection.now)).blocks) (sym c.row-item.is) sized)
 
 pub loop-row-preserved : goal.loop-row-preserved
 loop-row-preserved g c =
@@ -21,6 +29,11 @@ loop-row-preserved g c =
       opens = λ intact up. step.opens intact (inv.opens (step.within.follows.intact intact) up);
       inside = step.inside;
       place = ap (λ n. n + 1) inv.place;
+      blocks = λ clean.
+          let before = step.within.follows.clean clean in
+          let sized = c.requires.sizes (inv.within.follows.clean before) c.loop-row.row-index c.row-item.result c.loop-row-test.true in
+          let shown = subst (λ row. IsShownRight row (tables_at (state g.S.Store c.args.connection.now)).blocks) (sym c.row-item.is) sized in
+          ap (λ (t : Tables). t.blocks) (step.again shown.0 shown.1.0 clean).is ∙ inv.blocks before;
       again = λ clean rs is.
           let it = at_row shown_ref rs c.args.rows.now c.loop-row.row-index c.row-item.result c.loop-row-test.true c.row-item.is is in
           again_next at c.loop-row.place it.0 (drop (c.loop-row.row-index + 1) rs) loop (tables_at (state g.S.Store c.refer_again.new.connection)) (step.again it.0 it.1 clean).is

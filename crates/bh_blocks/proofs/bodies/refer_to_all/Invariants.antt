@@ -14,6 +14,7 @@ invariant-loop-row g l = record {
   opens : IsIntact (state g.S.Store l.connection) → IsOpen (state g.S.Store l.fn.connection) → IsOpen (state g.S.Store l.connection);
   inside : IsStateClean (state g.S.Store l.connection) → IsInside (standing (state g.S.Store l.connection));
   place : l.place ≡ l.row-index;
+  blocks : IsStateClean (state g.S.Store l.connection) → (tables_at (state g.S.Store l.connection)).blocks ≡ (tables_at (state g.S.Store l.fn.connection)).blocks;
   again : IsStateClean (state g.S.Store l.connection) → (rs : List RefRow) → l.fn.rows ≡ map shown_ref rs
       → body_again (l.tenant, l.body) l.place (drop l.row-index rs) (tables_at (state g.S.Store l.connection)) ≡ body_again (l.tenant, l.body) 0 rs (tables_at (state g.S.Store l.fn.connection));
 }

@@ -14,6 +14,7 @@ invariant-loop-row g l = record {
   within : StateWithin (state g.S.Store l.fn.connection) (state g.S.Store l.connection);
   opens : IsIntact (state g.S.Store l.connection) → IsOpen (state g.S.Store l.fn.connection) → IsOpen (state g.S.Store l.connection);
   inside : IsStateClean (state g.S.Store l.connection) → IsInside (standing (state g.S.Store l.connection));
+  refs : IsStateClean (state g.S.Store l.connection) → (tables_at (state g.S.Store l.connection)).refs ≡ (tables_at (state g.S.Store l.fn.connection)).refs;
   left : IsStateClean (state g.S.Store l.connection) → (gone : List BlockRow) → l.fn.rows ≡ map shown_name gone
       → left (drop l.row-index gone) (tables_at (state g.S.Store l.connection)) ≡ left gone (tables_at (state g.S.Store l.fn.connection));
   kept : (gone : List BlockRow) → l.fn.rows ≡ map shown_name gone → IsStateClean (state g.S.Store l.connection)

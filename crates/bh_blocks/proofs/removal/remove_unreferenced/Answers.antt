@@ -1,15 +1,17 @@
 use Rattle.std.proofs.Common.{◌≡◌, true, sym, ap, ◌∙◌, subst}
-use Rattle.std.specs.List.{AllByRecursion}
+use Rattle.std.specs.List.{All, AllByRecursion}
 use Rattle.sqlite.specs.Held.{state}
 use Rattle.bh_rows.specs.Means.{is_trouble}
 use Rattle.bh_tables.specs.Typed.{BlockRow, tables_in}
-use Rattle.bh_tables.specs.Shown.{is_unreferenced, unreferenced}
+use Rattle.bh_tables.specs.Shown.{is_unreferenced, unreferenced, shown_name}
 use Rattle.bh_view.specs.Becomes.{KeepsBodies}
 use Rattle.bh_view.proofs.BlockChanges.{blocks_removed}
 use Rattle.bh_cache.specs.Kept.{Agrees}
 use Rattle.bh_schema.specs.Layer.{Standing, IsStateClean}
 use Rattle.bh_schema.specs.Working.{tables_at}
 use Rattle.bh_schema.proofs.Finds.{handed_on}
+use Rattle.bh_blocks.specs.Uses.{IsShownUnused}
+use Rattle.bh_blocks.proofs.Loops.{all_shown}
 use Rattle.bh_blocks.proofs.Keeping.{resolved_at, still_inside}
 use Rattle.bh_blocks.proofs.Removing.{left, unreferenced_are}
 use Rattle.bh_blocks.proofs.removal.remove_unreferenced.Goals as goal
@@ -17,7 +19,14 @@ use Rattle.bh_blocks.proofs.removal.remove_unreferenced.Goals as goal
 pub remove_all-requires : goal.remove_all-requires
 remove_all-requires g c =
     let first = rw c.from.ensures at c.in_ok-rows.ensures in
-    record { inside = still_inside _ _ first.reads.within first.reads.same c.requires.inside }
+    record {
+      inside = still_inside _ _ first.reads.within first.reads.same c.requires.inside;
+      unused = λ clean.
+          let old = tables_at (state g.S.Store c.args.connection.now) in
+          subst (λ (x : Standing). All (λ row. IsShownUnused row (tables_in x.now).refs) c.deref.result.now) (sym (first.reads.same clean.intact))
+          (subst (All (λ row. IsShownUnused row old.refs)) (sym (c.deref.ensures.value ∙ first.rows clean))
+          (all_shown shown_name (λ (b : BlockRow). is_unreferenced old.refs b ≡ true) (unreferenced c.args.limit old.refs old.blocks) (unreferenced_are c.args.limit old.refs old.blocks)));
+    }
 
 pub returns-in_err-remove_all-clause-trouble : goal.returns-in_err-remove_all-clause-trouble
 returns-in_err-remove_all-clause-trouble g c = handed_on _ _ _ c.from_residual-in_err-remove_all.ensures (λ e same intact unlimited.

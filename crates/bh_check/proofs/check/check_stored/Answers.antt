@@ -16,4 +16,5 @@ returns g c d stored fits =
       bytes = subst (AreBytesHeld g.D.Digester.digest_of) (c.deref.ensures.value ∙ stored.blocks_is) c.in_ok-check_bytes.ensures;
       counts = c.in_ok-check_counts.ensures.uses d stored all;
       tallies = c.in_ok-check_counts.ensures.tallies d stored;
+      garbage = c.in_ok-check_counts.ensures.garbage d stored;
     }

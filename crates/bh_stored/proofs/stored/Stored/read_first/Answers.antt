@@ -39,5 +39,6 @@ returns-clause-fit g c clean10 =
       locks = record { fit = refl; rises = tt };
       retains = record { fit = refl; rises = tt };
       tallies = record { fit = refl; rises = tt };
-      unfilled = (refl, (refl, (refl, (refl, (refl, (refl, tt))))));
+      garbage = record { fit = refl; rises = tt };
+      unfilled = (refl, (refl, (refl, (refl, (refl, tt)))));
     }

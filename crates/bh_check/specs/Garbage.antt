@@ -1,0 +1,29 @@
+-- The bytes of the blocks that no reference names, by the counts of uses.
+use Rattle.std.specs.Prelude.{◌≡◌, ℕ, ◌+◌, ◌==◌, if◌then◌else◌, List, [], ◌∷◌, map, length}
+use Rattle.sqlite.specs.Order.{Row}
+use Rattle.sqlite.specs.Tree.{Trees}
+use Rattle.bh_stored.specs.declared.stored.Edition.{Edition}
+use Rattle.bh_stored.specs.declared.stored.Edition.TheVariants.{First, Second, Third, Fourth}
+use Rattle.bh_check.specs.Blocks.{block_octets}
+use Rattle.bh_check.specs.Holds.{number_at}
+
+-- the bytes of a block whose count is 0
+abbrev pub unused_in : Row → Row → ℕ
+unused_in used block = if number_at 3 used == 0 then length (block_octets block) else 0
+
+-- of all, the counts being in the order of the blocks
+abbrev pub unused_size : List Row → List Row → ℕ
+unused_size [] blocks = 0
+unused_size (u ∷ uses) [] = 0
+unused_size (u ∷ uses) (b ∷ blocks) = unused_in u b + unused_size uses blocks
+
+-- one row has their number
+abbrev pub IsGarbage : List Row → List Row → List Row → Type 0
+IsGarbage rows uses blocks = map (number_at 2) rows ≡ unused_size uses blocks ∷ []
+
+-- if a host's edition has that row
+abbrev pub AreWeighed : Edition → Trees → Type 0
+AreWeighed First d = Unit {0}
+AreWeighed Second d = Unit {0}
+AreWeighed Third d = Unit {0}
+AreWeighed Fourth d = IsGarbage (d 43) (d 23) (d 10)

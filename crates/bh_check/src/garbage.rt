@@ -1,0 +1,46 @@
+//! The bytes of the blocks that no reference names.
+
+ghost use Rattle.std.specs.Prelude.{◌≡◌, ◌+◌, ◌∷◌, [], length, map, IsTrue, IfOk};
+ghost use Rattle.bh_check.specs.Garbage.{unused_in, unused_size};
+ghost use Rattle.bh_check.specs.Holds.{number_at};
+
+use bh_stored::cells::{bytes_in, number_in};
+use bh_stored::failure::Failure;
+use sqlite_value::row::Row;
+
+/// A number of bytes, with those of a block if its count of uses is 0.
+fn with_unused(bytes: u64, used: &Row, block: &Row) -> Result<u64, Failure>
+    ensures { IfOk result (λ n. n ≡ bytes + unused_in used.now block.now) }
+{
+    if number_in(used, 3) != 0 {
+        return Ok(bytes);
+    }
+    match bytes.checked_add(bytes_in(block, 3).len() as u64) {
+        Some(more) => Ok(more),
+        None => Err(Failure::TooMuch),
+    }
+}
+
+/// The bytes of the blocks whose counts of uses, in the rows at their places, are 0, given as many
+/// counts as blocks.
+pub fn unused_bytes(uses: &[Row], blocks: &[Row]) -> Result<u64, Failure>
+    requires { length uses.now ≡ length blocks.now }
+    ensures { IfOk result (λ n. n ≡ unused_size uses.now blocks.now) }
+{
+    let mut bytes: u64 = 0;
+    for at in 0..blocks.len() {
+        let more = with_unused(bytes, &uses[at], &blocks[at])?;
+        bytes = more;
+    }
+    Ok(bytes)
+}
+
+/// Whether one row has this number of bytes, and there is no other.
+pub fn has_bytes(rows: &[Row], bytes: u64) -> bool
+    ensures { IsTrue result → map (number_at 2) rows.now ≡ bytes ∷ [] }
+{
+    match rows {
+        [row] => number_in(row, 2) == bytes,
+        _ => false,
+    }
+}

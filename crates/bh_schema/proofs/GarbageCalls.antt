@@ -1,0 +1,81 @@
+-- Calls over the number of bytes that nobody needs.
+use Rattle.std.proofs.Common.{◌≡◌, ℕ, ◌+◌, List, [], ◌∷◌, ◌++◌, Bool, true, map, filter, codes, None, Ok, Err, Result, IfOk, IfErr, arith, ap, ◌∙◌, subst}
+use Rattle.sqlite.specs.Order.{Row}
+use Rattle.sqlite.specs.State.{State, HasCleanDisk, IsLive, Survives, Executes, CommitsBy, CommitsShowing, Shown, FailsToQuery}
+use Rattle.sqlite.specs.declared.error.Error.{Error}
+use Rattle.sqlite_keyed.specs.Lists.{update_where}
+use Rattle.sqlite_rules.proofs.ListLemmas.{has_filtered}
+use Rattle.bh_rows.specs.Form.{Entry, entries, typed}
+use Rattle.bh_rows.specs.Means.{is_trouble}
+use Rattle.bh_rows.specs.Texts.{IsReadyAt, InsertText, UpdateText, Leaves, MayAdd, MayChange}
+use Rattle.bh_rows.specs.Scan.{no_limit}
+use Rattle.bh_rows.proofs.CallLemmas.{clean_before, shown_open}
+use Rattle.bh_rows.proofs.TextLemmas as text
+use Rattle.bh_tables.specs.Schema.{host_schema, garbage_table, at}
+use Rattle.bh_tables.specs.Typed.{Totals, GarbageRow, garbage_form, weight, weighed, IsHostBy, Tables, tables, number}
+use Rattle.bh_tables.specs.Shown.{shown_garbage}
+use Rattle.bh_tables.proofs.GarbageTexts.{garbage_shown}
+use Rattle.bh_tables.proofs.Places.{garbage_is}
+use Rattle.bh_tables.proofs.StoredLemmas.{garbage_turned}
+use Rattle.bh_schema.specs.Garbage.{garbage_in, weight_set}
+use Rattle.bh_schema.specs.Layer.{Standing, standing, IsIntact, IsInside, IsInsideBy, HoldsBy, IsStateClean, IsMidst}
+use Rattle.bh_schema.proofs.Calls.{Turn, Question, question, ready}
+use Rattle.bh_schema.proofs.Calls as call
+
+-- the rows of it become these of those that were
+garbage_turn : (old new : State) (change : List GarbageRow → List GarbageRow) (sums : Totals) → IsHostBy sums old.now → Leaves garbage_form host_schema 43 old new (change (typed garbage_form (old.now.trees 43))) → IsHostBy (weighed change sums) new.now × (tables new ≡ tables old)
+garbage_turn old new change sums host l = garbage_turned sums (change sums.garbage) old new host (subst (λ gs. Leaves garbage_form host_schema 43 old new (change gs)) host.held.weighed l)
+
+module _ (old new : State) (midst : IsStateClean old → IsMidst (standing old)) (result : Result ℕ Error) (live : IsLive old) {sql : List ℕ} {params : Row} where
+  pub adds : {x : GarbageRow} → InsertText garbage_form host_schema 18 (at 43 garbage_table) sql params x → (HasCleanDisk new → Executes sql params old new result) → Survives old new (CommitsBy sql params old)
+      → Turn old new (weighed (λ gs. gs ++ x ∷ [])) (λ t. t) result
+  adds {x} it = call.adds garbage_form 18 (at 43 garbage_table) garbage_is (λ sums db h. h.held.garbage) old new midst result live (weighed (λ gs. gs ++ x ∷ [])) (λ t. t) it (garbage_turn old new (λ gs. gs ++ x ∷ []))
+
+  pub sets : {m : GarbageRow → Bool} {f : GarbageRow → GarbageRow} → UpdateText garbage_form host_schema 18 (at 43 garbage_table) sql params m f → (HasCleanDisk new → Executes sql params old new result) → Survives old new (CommitsBy sql params old)
+      → Turn old new (weighed (update_where m f)) (λ t. t) result
+  sets {m} {f} it = call.sets garbage_form 18 (at 43 garbage_table) garbage_is (λ sums db h. h.held.garbage) old new midst result live (weighed (update_where m f)) (λ t. t) it (garbage_turn old new (update_where m f))
+
+  pub adds_trouble : {x : GarbageRow} {A : Type 0} → InsertText garbage_form host_schema 18 (at 43 garbage_table) sql params x → (IsStateClean old → A → MayAdd garbage_form host_schema (at 43 garbage_table) (standing old).now.trees x)
+      → (HasCleanDisk new → Executes sql params old new result) → Survives old new (CommitsBy sql params old) → IfErr result (λ e. IsIntact new → (standing old).limit ≡ None → A → is_trouble e ≡ true)
+  adds_trouble it may runs survives = call.adds_trouble garbage_form 18 (at 43 garbage_table) garbage_is (λ sums db h. h.held.garbage) old new midst result live (λ s. s) (λ t. t) it may runs survives
+
+  pub sets_trouble : {m : GarbageRow → Bool} {f : GarbageRow → GarbageRow} → UpdateText garbage_form host_schema 18 (at 43 garbage_table) sql params m f → MayChange garbage_form host_schema (at 43 garbage_table) m f
+      → (HasCleanDisk new → Executes sql params old new result) → Survives old new (CommitsBy sql params old) → IfErr result (λ e. IsIntact new → (standing old).limit ≡ None → Unit {0} → is_trouble e ≡ true)
+  sets_trouble {m} {f} it may runs survives = call.sets_trouble garbage_form 18 (at 43 garbage_table) garbage_is (λ sums db h. h.held.garbage) old new midst result live (λ s. s) (λ t. t) it may.unwatched
+      (λ clean _ e there was. may.suits e.0 e.1 (has_filtered (λ (d : Entry GarbageRow). m d.1) (entries garbage_form ((standing old).now.trees 43)) e there).1 was) runs survives
+
+-- ---- it is told
+
+module _ (old new : State) (inside : IsStateClean old → IsInside (standing old)) where
+  abbrev sql : List ℕ
+  sql = codes "SELECT bytes FROM garbage ORDER BY rowid"
+
+  ready_at : IsReadyAt garbage_form host_schema 43 old
+  ready_at clean up = let h = ready old inside clean up in (h.schema, h.held.garbage)
+
+  abbrev told : List GarbageRow → List Row
+  told gs = map shown_garbage (filter (λ _. true) gs)
+
+  pub garbage_told : {X : Type 0} (rows_in : X → List Row) (result : Result X Error) → (HasCleanDisk new → IfOk result (λ x. Shown sql [] old new (rows_in x)))
+      → (HasCleanDisk new → IfErr result (FailsToQuery sql [] old new)) → Survives old new (CommitsShowing sql [] old)
+      → Question old new rows_in (λ t. (number (garbage_in t) ∷ []) ∷ []) result
+  garbage_told {X} rows_in result ok err survives = question old new rows_in _ result inside (record {
+    asks = text.select_asks garbage_form host_schema 43 old new ready_at sql [] (λ _. true) shown_garbage no_limit garbage_shown rows_in result ok err survives;
+    rows = λ clean. go clean result ok (text.select_rows garbage_form host_schema 43 old new ready_at sql [] (λ _. true) shown_garbage no_limit garbage_shown rows_in result ok survives clean);
+  })
+    where
+      go : HasCleanDisk new → (r : Result X Error) → (HasCleanDisk new → IfOk r (λ x. Shown sql [] old new (rows_in x))) → IfOk r (λ x. rows_in x ≡ told (typed garbage_form (old.now.trees 43)))
+          → IfOk r (λ x. rows_in x ≡ (number (garbage_in (tables old)) ∷ []) ∷ [])
+      go clean (Err e) ok is = tt
+      go clean (Ok x) ok is =
+          let host = ready old inside (clean_before old new _ survives clean) (shown_open sql [] old new _ (ok clean)) in
+          is ∙ ap told host.held.weighed
+
+-- ---- it is set
+
+-- to the number that it had, with more and with less
+pub reweighed_to : (before more less m after : ℕ) (sums : Totals) (t : Tables) (x : Standing) → m + less ≡ before + more → sums.garbage ≡ weight before ∷ [] → after + less ≡ before + more → HoldsBy (weight_set m sums) t x
+    → HoldsBy (record sums { garbage = weight after ∷ [] }) t x
+reweighed_to before more less m after sums t x is was so h =
+    let same : m ≡ after = omega (arith, is, so) in
+    subst (λ gs. HoldsBy (record sums { garbage = gs }) t x) (ap (update_where (λ _. true) (λ _. weight m)) was ∙ ap (λ n. weight n ∷ []) same) h
