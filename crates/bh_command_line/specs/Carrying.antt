@@ -7,30 +7,31 @@ use Rattle.sqlite_disk.specs.declared.Disk as disk
 use Rattle.sqlite_disk.specs.declared.Files.{Files}
 use Rattle.sqlite_disk.specs.declared.start.Wary.{Wary}
 use Rattle.sqlite_wal.specs.Recovery.{Image}
-use Rattle.bh_event.specs.declared.event.Command.TheVariants as command
+use Rattle.bh_event.specs.Events.{AddKey, Message, Ordered}
+use Rattle.bh_event.specs.Lines.{ordered_by}
+use Rattle.bh_event.specs.Orders.{Instruction, ToDo, instruction_of, message_of}
+use Rattle.bh_event.specs.declared.order.HostOrder.{HostOrder}
 use Rattle.bh_types.specs.Limits.{HostLimits, HostTuning}
 use Rattle.bh_types.specs.declared.block_digest.BlockDigest.{BlockDigest}
 use Rattle.bh_words.specs.declared.lines.ClockGiven.{ClockGiven}
 use Rattle.bh_words.specs.declared.lines.Leap.{Leap}
-use Rattle.bh_operator.specs.Orders.{ToDo, order_told, backup_told}
 use Rattle.bh_maintenance.specs.Backups.{IsBackedUp}
 use Rattle.bh_maintenance.specs.Checks.{IsChecked}
 use Rattle.bh_maintenance.specs.Moves.{IsExported, IsImported}
 use Rattle.bh_maintenance.specs.declared.clocks.ClockRead.{ClockRead}
 use Rattle.bh_maintenance.specs.declared.printed.Printed.{Printed}
 use Rattle.bh_commands.specs.Files.{IsAnswered}
-use Rattle.bh_command_line.specs.Input.{IsSecretGiven}
+use Rattle.bh_command_line.specs.Input.{IsTyped}
 use Rattle.bh_commands.specs.declared.asked.FileTask.TheVariants as file
 use Rattle.bh_commands.specs.declared.asked.OperatorServing.{OperatorServing}
 use Rattle.bh_commands.specs.declared.asked.Serving.{Serving}
 use Rattle.bh_commands.specs.declared.asked.Work.{Work}
 use Rattle.bh_commands.specs.declared.asked.Work.TheVariants as the_work
+use Rattle.bh_words.specs.Lines.{command_line}
+use Rattle.bh_words.specs.Readings.{told_by}
 use Rattle.bh_words.specs.declared.lines.Line.{Line}
-use Rattle.bh_task.specs.Messages.{message_of, ordered_at}
 use Rattle.bh_task.specs.Tasks.{task_of}
 use Rattle.bh_task.specs.declared.places.Environment.{Environment}
-use Rattle.bh_task.specs.declared.line_task.Asked.{Asked}
-use Rattle.bh_task.specs.declared.line_task.Asked.TheVariants as the_order
 use Rattle.bh_task.specs.declared.line_task.HostTask.{HostTask}
 use Rattle.bh_task.specs.declared.line_task.HostTask.TheVariants as asked
 use Rattle.bh_task.specs.declared.line_task.LineTask.{LineTask}
@@ -43,9 +44,6 @@ use Rattle.bh_task.specs.declared.line_task.ServeTask.{ServeTask}
 use Rattle.bh_task.specs.declared.line_task.Told.{Told}
 use Rattle.bh_task.specs.declared.line_task.Told.TheVariants as told
 use Rattle.bh_task.specs.declared.misfit.Misfit.{Misfit}
-use Rattle.bh_task.specs.declared.task.Task.{Task}
-use Rattle.bh_task.specs.declared.task.Task.TheVariants as order
-use Rattle.bh_telling.specs.Servers.{IsServerText}
 
 -- ---- work, once its secrets were read
 
@@ -73,24 +71,26 @@ pub record IsServing (path : List ℕ) (asked : ServeTask) (serving : Serving) :
   pub spool : string_bytes serving.spool ≡ spool_name path asked.spool
   pub clock_step : serving.clock_step ≡ asked.clock_step
 
--- the task of an order, once its secret was read
-abbrev pub IsTaskFor : Asked → Task → Type 0
-IsTaskFor (the_order.Task given) task = task ≡ given
-IsTaskFor (the_order.KeyAdd tenant name given) task =
-    (secret : String Global) × IsSecretGiven given secret × (task ≡ order.Command (command.KeyAdd tenant name secret))
+-- what is ordered is what was typed; a key's secret may have been read
+abbrev pub IsReadAs : Message → Message → Type 0
+IsReadAs (Ordered (AddKey tenant name typed)) read =
+    (secret : List ℕ) × IsTyped typed secret × (read ≡ Ordered (AddKey tenant name secret))
+IsReadAs typed read = read ≡ typed
 
--- what a server reads in a text, by its own clock, is the order, or what it is asked itself; of a
--- line that was given nothing is said
+abbrev pub IsOrderRead : Instruction → Instruction → Type 0
+IsOrderRead (ToDo typed) read = (message : Message) × IsReadAs typed message × (read ≡ ToDo message)
+IsOrderRead typed read = read ≡ typed
+
+-- what a server reads in a text is the order; of a line that was given nothing is said
 abbrev pub IsTextFor : Told → List ℕ → Type 0
 IsTextFor (told.Line line) text = Unit {0}
-IsTextFor (told.Order given) text =
-    (task : Task) × IsTaskFor given task × ((reading : ℕ) → order_told reading text ≡ Some (ToDo (ordered_at reading (message_of task))))
-IsTextFor (told.Backup to) text = backup_told text ≡ Some (string_bytes to)
-IsTextFor (told.Server it) text = IsServerText it text
+IsTextFor (told.Order order) text =
+    (read : Instruction) × IsOrderRead (instruction_of order) read × (ordered_by text ≡ Some read)
 
 -- the work that is asked of the host of the file of a path
 abbrev pub IsWorkFor : List ℕ → HostTask → Work → Type 0
-IsWorkFor path (asked.Order given) work = (task : Task) × IsTaskFor given task × (work ≡ the_work.Command task)
+IsWorkFor path (asked.Order typed) work =
+    (order : HostOrder) × IsReadAs (message_of typed) (message_of order) × (work ≡ the_work.Order order)
 IsWorkFor path (asked.Serve it) work = (serving : Serving) × IsServing path it serving × (work ≡ the_work.Serve serving)
 
 -- ---- on files with these first contents
@@ -152,3 +152,7 @@ module _ {D E M : Type 0} (g : disk.Ghosts D) (e : disk.Ghosts E) (m : disk.Ghos
   -- a line is carried out in some environment; the program names `Wary` for each file
   abbrev pub IsDoneSomewhere : Line → Printed → Type 0
   IsDoneSomewhere line printed = (environment : Environment) × IsLineDone (task_of wary environment line) printed
+
+  -- what was done is what was typed: words tell a line, with the order that the table of fields says
+  abbrev pub IsDoneAsTyped : List (List ℕ) → Printed → Type 0
+  IsDoneAsTyped words printed = (line : Line) × (told_by words ≡ Some (command_line line)) × IsDoneSomewhere line printed

@@ -15,7 +15,6 @@ use bh_script::input::{BadLine, read_all};
 use bh_script::script::answer_script;
 use bh_types::block_digest::BlockDigest;
 use bh_types::limits::{Limits, Tuning};
-use bh_words::SecretGiven;
 use std::alloc::{AllocError, Global};
 use std::io;
 use std::io::{BufWriter, Write};
@@ -118,15 +117,13 @@ pub(crate) fn secret_in(alloc: Global, bytes: &[u8]) -> Result<String, AllocErro
     }
 }
 
-/// A command line's secret: the word itself, or the first line of standard input.
-pub fn secret_of(rt: &(impl Input + AllocGlobal), given: SecretGiven) -> Result<String, Fault>
-    ensures { IfOk result (spec.IsSecretGiven given) }
+/// A text that was typed, or for `-` the first line of standard input.
+pub fn typed_text(rt: &(impl Input + AllocGlobal), typed: String) -> Result<String, Fault>
+    ensures { IfOk result (λ text. spec.IsTyped (string_bytes typed) (string_bytes text)) }
 {
-    match given {
-        SecretGiven::Word(word) => Ok(word),
-        SecretGiven::StandardInput => {
-            let bytes = read_input(rt)?;
-            Ok(secret_in(rt.alloc(), bytes.as_slice())?)
-        }
+    if typed.as_str() == "-" {
+        let bytes = read_input(rt)?;
+        return Ok(secret_in(rt.alloc(), bytes.as_slice())?);
     }
+    Ok(typed)
 }

@@ -2,16 +2,17 @@
 
 ghost use Rattle.std.specs.Prelude.{IfOk};
 ghost use Rattle.std.specs.String.{string_bytes};
-ghost use Rattle.bh_command_line.specs.Carrying.{IsTextFor};
+ghost use Rattle.bh_event.specs.Orders.{instruction_of};
+ghost use Rattle.bh_command_line.specs.Carrying.{IsOrderRead, IsTextFor};
 
-use crate::input::secret_of;
+use crate::input::typed_text;
 use crate::secrets::operator_secret;
-use crate::works::task_in;
+use crate::works::order_in;
+use bh_event::order::Order;
 use bh_maintenance::fault::Fault;
 use bh_maintenance::printed::Printed;
 use bh_task::{Door, Told};
-use bh_telling::{backup_text, order_text, server_text};
-use bh_words::SecretGiven;
+use bh_telling::order_text;
 use std::alloc::{AllocError, Global};
 use std::io;
 use std::io::{Read, Write};
@@ -46,22 +47,22 @@ fn text_of(rt: &HostRuntime, told: Told) -> Result<String, Fault>
     ensures { IfOk result (λ text. IsTextFor told (string_bytes text)) }
 {
     match told {
-        Told::Line(line) => given_line(rt, line),
-        Told::Order(asked) => {
-            let task = task_in(rt, asked)?;
-            Ok(order_text(rt.alloc(), &task)?)
+        Told::Line(line) => typed_text(rt, line),
+        Told::Order(order) => {
+            let order = order_read(rt, order)?;
+            Ok(order_text(rt.alloc(), &order)?)
         }
-        Told::Backup(to) => Ok(backup_text(rt.alloc(), to.as_str())?),
-        Told::Server(asked) => Ok(server_text(rt.alloc(), asked)?),
     }
 }
 
-/// A line as it was given, or `-` for the first line of standard input: it may contain a secret.
-fn given_line(rt: &HostRuntime, order: String) -> Result<String, Fault> {
-    if order.as_str() == "-" {
-        return secret_of(rt, SecretGiven::StandardInput);
+/// An order, once its secret was read.
+fn order_read(rt: &HostRuntime, order: Order) -> Result<Order, Fault>
+    ensures { IfOk result (λ read. IsOrderRead (instruction_of order) (instruction_of read)) }
+{
+    match order {
+        Order::Host(order) => Ok(Order::Host(order_in(rt, order)?)),
+        Order::Backup { .. } | Order::Stop | Order::Server(_) => Ok(order),
     }
-    Ok(order)
 }
 
 /// The line of an order. A line feed within it separates words of JSON, and is sent as a space.

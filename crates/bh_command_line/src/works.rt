@@ -3,15 +3,18 @@
 
 ghost use Rattle.std.specs.Prelude.{◌≡◌, IfOk, is_some};
 ghost use Rattle.std.specs.String.{string_bytes};
-ghost use Rattle.bh_command_line.specs.Carrying.{AreServed, IsServing, IsTaskFor, IsWorkFor, spool_name};
+ghost use Rattle.bh_event.specs.Events.{order_of, Ordered};
+ghost use Rattle.bh_event.specs.Orders.{message_of};
+ghost use Rattle.bh_command_line.specs.Carrying.{AreServed, IsServing, IsReadAs, IsWorkFor, spool_name};
 
-use crate::input::secret_of;
+use crate::input::typed_text;
 use crate::secrets::operator_secret;
 use bh_commands::{OperatorServing, Serving, Work};
 use bh_connection::Manner;
 use bh_event::event::Command;
+use bh_event::order::HostOrder;
 use bh_maintenance::fault::Fault;
-use bh_task::{Asked, HostTask, OperatorGiven, ServeTask, Task};
+use bh_task::{HostTask, OperatorGiven, ServeTask};
 use bh_types::names::Secret;
 use std::alloc::{AllocError, Global};
 
@@ -89,24 +92,34 @@ fn serving_of(rt: &HostRuntime, path: &str, asked: ServeTask) -> Result<Serving,
     })
 }
 
-/// The task of an order, once its secret was read.
-pub(crate) fn task_in(rt: &HostRuntime, asked: Asked) -> Result<Task, Fault>
-    ensures { IfOk result (IsTaskFor asked) }
+/// A command, once its secret was read.
+fn command_in(rt: &HostRuntime, command: Command) -> Result<Command, Fault>
+    ensures { IfOk result (λ read. IsReadAs (Ordered (order_of command)) (Ordered (order_of read))) }
 {
-    match asked {
-        Asked::Task(task) => Ok(task),
-        Asked::KeyAdd {
+    match command {
+        Command::KeyAdd {
             tenant,
             name,
             secret,
         } => {
-            let secret = secret_of(rt, secret)?;
-            Ok(Task::Command(Command::KeyAdd {
+            let secret = typed_text(rt, secret)?;
+            Ok(Command::KeyAdd {
                 tenant,
                 name,
                 secret,
-            }))
+            })
         }
+        _ => Ok(command),
+    }
+}
+
+/// An order on a host, once its secret was read.
+pub(crate) fn order_in(rt: &HostRuntime, order: HostOrder) -> Result<HostOrder, Fault>
+    ensures { IfOk result (λ read. IsReadAs (message_of order) (message_of read)) }
+{
+    match order {
+        HostOrder::Command(command) => Ok(HostOrder::Command(command_in(rt, command)?)),
+        HostOrder::Sweep { .. } | HostOrder::Report | HostOrder::Tenants => Ok(order),
     }
 }
 
@@ -115,7 +128,7 @@ pub(crate) fn work_of(rt: &HostRuntime, path: &str, asked: HostTask) -> Result<W
     ensures { IfOk result (IsWorkFor path.now asked) }
 {
     match asked {
-        HostTask::Order(asked) => Ok(Work::Command(task_in(rt, asked)?)),
+        HostTask::Order(order) => Ok(Work::Order(order_in(rt, order)?)),
         HostTask::Serve(asked) => Ok(Work::Serve(serving_of(rt, path, asked)?)),
     }
 }

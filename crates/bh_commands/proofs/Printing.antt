@@ -5,10 +5,10 @@ use Rattle.bh_model.specs.Runs.{last_reading}
 use Rattle.bh_host.specs.Replies.{clock_text, wanting_text}
 use Rattle.bh_host.specs.declared.reply.Caller.TheVariants.{Operator}
 use Rattle.bh_host.specs.Turns.{IsToldApart, fixed}
-use Rattle.bh_task.specs.Messages.{message_of, ordered_at}
 use Rattle.bh_maintenance.specs.Printing.{status_of}
-use Rattle.bh_task.specs.declared.task.Task.{Task}
-use Rattle.bh_task.specs.declared.task.Task.TheVariants.{Command, Sweep, Report, Tenants}
+use Rattle.bh_event.specs.Orders.{arrival_at, message_of}
+use Rattle.bh_event.specs.declared.order.HostOrder.{HostOrder}
+use Rattle.bh_event.specs.declared.order.HostOrder.TheVariants.{Command, Sweep, Report, Tenants}
 
 fixed_refuses : (reading : ℕ) → status_of (if nat_lt last_reading reading then clock_text Operator else wanting_text Operator) ≡ 1
 unfolding digits
@@ -16,7 +16,7 @@ fixed_refuses reading =
     elim (nat_lt last_reading reading) as (λ b. status_of (if b then clock_text Operator else wanting_text Operator) ≡ 1) [ true ↦ refl | false ↦ refl ]
 
 -- what an operator asks and is left out is answered with a refusal
-fixed_is_refusal : (reading : ℕ) (task : Task) → status_of (fixed (ordered_at reading (message_of task))) ≡ 1
+fixed_is_refusal : (reading : ℕ) (order : HostOrder) → status_of (fixed (arrival_at reading (message_of order))) ≡ 1
 fixed_is_refusal reading (Command command) = fixed_refuses reading
 fixed_is_refusal reading (Sweep limit) = fixed_refuses reading
 fixed_is_refusal reading Report = fixed_refuses reading
@@ -26,8 +26,8 @@ not_one : (status : ℕ) → status ≡ 0 → status ≡ 1 → ⊥
 not_one status zero one = omega arith
 
 -- a reply that is no refusal has a stamp
-pub kept_when_done : {Kept : Type 0} (reading : ℕ) (task : Task) (stamp : Option ℕ) (reply : List ℕ) → IsToldApart (ordered_at reading (message_of task)) stamp reply
+pub kept_when_done : {Kept : Type 0} (reading : ℕ) (order : HostOrder) (stamp : Option ℕ) (reply : List ℕ) → IsToldApart (arrival_at reading (message_of order)) stamp reply
     → IfSome stamp (λ _. Kept) → status_of reply ≡ 0 → Kept
-kept_when_done reading task None reply apart kept done =
-    absurd (not_one (status_of reply) done (ap status_of apart ∙ fixed_is_refusal reading task))
-kept_when_done reading task (Some m) reply apart kept done = kept
+kept_when_done reading order None reply apart kept done =
+    absurd (not_one (status_of reply) done (ap status_of apart ∙ fixed_is_refusal reading order))
+kept_when_done reading order (Some m) reply apart kept done = kept

@@ -1,6 +1,7 @@
 -- Work on a host, and its printed text.
 use Rattle.std.specs.Prelude.{◌≡◌, ℕ, List, Option, is_some, option_and_then}
 use Rattle.bh_event.specs.Events.{Arrival}
+use Rattle.bh_event.specs.Orders.{arrival_at, message_of}
 use Rattle.bh_tables.specs.Typed.{Tables}
 use Rattle.bh_storage.specs.Calls.{Seen, Clean, IsAtRest}
 use Rattle.bh_host.specs.Runs.{Told}
@@ -10,7 +11,6 @@ use Rattle.bh_connection.specs.Visits.{RanFor}
 use Rattle.bh_maintenance.specs.Printing.{IsLine, IsNothing}
 use Rattle.bh_maintenance.specs.declared.printed.Printed.{Printed}
 use Rattle.bh_task.specs.Doors.{socket_in}
-use Rattle.bh_task.specs.Messages.{message_of, ordered_at}
 use Rattle.bh_commands.specs.declared.asked.Serving.{Serving}
 use Rattle.bh_commands.specs.declared.asked.Work.{Work}
 use Rattle.bh_commands.specs.declared.asked.Work.TheVariants as work
@@ -50,5 +50,5 @@ module _ {H : Type 0} (IsIntact IsOpen : H → Type 0) (seen : H → Seen) (left
 
   -- the work was done at a reading; connections use the machine's clock
   abbrev pub HasDone : Work → ℕ → H → H → Printed → Type 0
-  HasDone (work.Command task) reading old new printed = IsTold (ordered_at reading (message_of task)) old new printed
+  HasDone (work.Order order) reading old new printed = IsTold (arrival_at reading (message_of order)) old new printed
   HasDone (work.Serve serving) reading old new printed = HasServed serving old new printed

@@ -5,7 +5,8 @@ ghost use Rattle.bh_connection.specs.Listening.{secret_of};
 ghost use Rattle.bh_commands.specs.Commands.{operator_socket_in, secret_in};
 
 use bh_connection::{Manner, OperatorPort, Ports};
-use bh_task::{Door, Task};
+use bh_event::order::HostOrder;
+use bh_task::Door;
 use bh_types::block_digest::BlockDigest;
 use bh_types::limits::{Limits, Tuning};
 use bh_types::names::Secret;
@@ -116,15 +117,15 @@ impl Serving {
 /// Work on the host of a file.
 #[derive(Drop)]
 pub enum Work {
-    /// An operator's command.
-    Command(Task),
+    /// An operator's order.
+    Order(HostOrder),
     /// Serves connections, by the machine's clock.
     Serve(Serving),
 }
 
 impl Work {
     pub(crate) fn is_report(&self) -> bool {
-        matches!(self, Work::Command(Task::Report))
+        matches!(self, Work::Order(HostOrder::Report))
     }
 }
 

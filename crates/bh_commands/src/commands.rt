@@ -1,20 +1,20 @@
 //! Work on a host's storage.
 
 ghost use Rattle.std.specs.Prelude.{IfOk};
+ghost use Rattle.bh_event.specs.Orders.{arrival_at, message_of};
 ghost use Rattle.bh_storage.specs.Calls.{Clean, IsAtRest};
 ghost use Rattle.bh_host.specs.Replies.{reply_bytes};
 ghost use Rattle.bh_maintenance.specs.Printing.{IsLine};
-ghost use Rattle.bh_task.specs.Messages.{message_of, ordered_at};
 ghost use Rattle.bh_commands.specs.Commands.{IsTold, HasDone, HasServed, StaysReady};
 
 use crate::asked::{Serving, Work};
 use bh_connection::{BackUp, MachineClock};
+use bh_event::order::HostOrder;
 use bh_host::{Reply, apply};
 use bh_maintenance::fault::Fault;
 use bh_maintenance::printed::Printed;
 use bh_operation::routes::Routes;
 use bh_storage::storage::Storage;
-use bh_task::Task;
 use bh_wires::serve_many;
 use std::alloc::{AllocError, Global};
 
@@ -25,20 +25,20 @@ fn printed_of(alloc: Global, reply: &Reply) -> Result<Printed, AllocError>
     Printed::line(alloc, reply.bytes())
 }
 
-/// Carries out an operator's task at a reading of the clock, in seconds since 1970, and prints the
+/// Carries out an operator's order at a reading of the clock, in seconds since 1970, and prints the
 /// reply.
-pub fn apply_command<H: Storage>(
+pub fn apply_order<H: Storage>(
     alloc: Global,
     routes: &Routes,
     host: &mut H,
     reading: u64,
-    task: Task,
+    order: HostOrder,
 ) -> Result<Printed, AllocError>
     requires { Clean H.IsIntact H.IsOpen host.old → IsAtRest H.IsSoundStore (H.seen host.old) }
     ensures stays { StaysReady H.IsIntact H.IsOpen H.IsSoundStore H.seen host.old host.new }
-    ensures applied { IfOk result (IsTold H.IsIntact H.IsOpen H.seen H.left (ordered_at reading (message_of task)) host.old host.new) }
+    ensures applied { IfOk result (IsTold H.IsIntact H.IsOpen H.seen H.left (arrival_at reading (message_of order)) host.old host.new) }
 {
-    let event = task.at(reading);
+    let event = order.at(reading);
     let told = apply(alloc, routes, host, &event);
     let printed = printed_of(alloc, &told.reply)?;
     Ok(printed)
@@ -82,7 +82,7 @@ fn do_routed<H: BackUp>(
     ensures done { IfOk result (HasDone H.IsIntact H.IsOpen H.seen H.left asked reading host.old host.new) }
 {
     match asked {
-        Work::Command(task) => Ok(apply_command(rt.alloc(), routes, host, reading, task)?),
+        Work::Order(order) => Ok(apply_order(rt.alloc(), routes, host, reading, order)?),
         Work::Serve(serving) => Ok(serve(rt, routes, host, serving)?),
     }
 }

@@ -9,5 +9,5 @@ mod hosts;
 
 pub use asked::{FileTask, OperatorServing, Serving, Work};
 pub use clocks::reading_of;
-pub use commands::{apply_command, do_work};
+pub use commands::{apply_order, do_work};
 pub use files::{init_file, work_in_file};

@@ -14,11 +14,11 @@ use Rattle.bh_host.specs.Replies.{wanting_text}
 use Rattle.bh_host.specs.declared.reply.Caller.TheVariants.{Operator}
 use Rattle.bh_http.specs.Transfers.{Transfer, Moved, Failed, Logs, MovesThen, Gives, Takes}
 use Rattle.bh_http.proofs.TransferLemmas.{logs_nothing, logs_then}
-use Rattle.bh_operator.specs.Lines.{TookPart}
-use Rattle.bh_operator.specs.Orders.{ToDo, ToCopy, ToStop, TookOrder}
+use Rattle.bh_event.specs.Orders.{Instruction, ToDo, ToCopy, ToStop}
+use Rattle.bh_link.specs.Lines.{TookPart}
 use Rattle.bh_connection.specs.Backups.{IsBackedUp}
 use Rattle.bh_connection.specs.Connections.{Ends, EndsAs, IsApplied}
-use Rattle.bh_connection.specs.Operators.{bad_line, line_text, stop_text, CutOff, NotHeard, NoOrder, Obeyed, Copied, Stopping, IsReplied, WasOrdered}
+use Rattle.bh_connection.specs.Operators.{bad_line, line_text, stop_text, CutOff, NotHeard, NoOrder, Obeyed, Copied, Stopping, IsReplied, TookOrder, WasOrdered, is_done_here}
 use Rattle.bh_connection.specs.declared.served.End.TheVariants.{ReadFailed}
 use Rattle.bh_connection.specs.declared.served.Served.{Served}
 
@@ -69,19 +69,22 @@ gives_as a b taken was failed is given = let P : Bool → Type 0 = λ f. Gives a
 module _ {H C : Type 0} (IsIntact IsOpen : H → Type 0) (seen : H → Seen) (left : H → Tables → Type 0) (shows : C → Tables → Type 0) (secret : Option (List ℕ)) where
   -- an order was applied
   pub obeyed : (before after : Ends) (served : Served) (stops : Bool) (taken reply : List ℕ) (event : Event) (stamp : Option ℕ) (old new : H)
-      → TookOrder secret before.reading before.left after.left taken (Some (ToDo event)) → Gives before.gave after.gave taken false → after.reader_failed ≡ false
+      → event.reading ≡ before.reading → TookOrder secret before.left after.left taken (Some (ToDo event.message)) → Gives before.gave after.gave taken false → after.reader_failed ≡ false
       → IsApplied IsIntact IsOpen seen left event (stamp, reply) old new
       → served.stamp ≡ stamp → Appends before.held after.held (take served.sent (line_text reply))
       → Takes before.took after.took (take served.sent (line_text reply)) after.writer_failed
       → EndsAs served.ended served.sent (line_text reply) after.writer_failed → is_some served.trouble ≡ is_wanting event.reading stamp
       → stops ≡ false → WasOrdered IsIntact IsOpen seen left shows secret before after served stops old new
-  obeyed before after served stops taken reply event stamp old new took gave going did is out took_out ended noted flag = record {
+  obeyed before after served stops taken reply event stamp old new at took gave going did is out took_out ended noted flag = record {
     heard = Obeyed event (stamp, reply);
-    hears = record {
-      taken = taken;
-      replied = record { consumed = took.consumed; short = took.short; stamp = is; out = out; ended = ended; gave = gave; took = took_out; reader = going };
-      is = took.is;
-    };
+    hears = (
+      at,
+      record {
+        taken = taken;
+        replied = record { consumed = took.consumed; short = took.short; stamp = is; out = out; ended = ended; gave = gave; took = took_out; reader = going };
+        is = took.is;
+      },
+    );
     notes = noted;
     told = flag;
     obeys = did;
@@ -89,7 +92,7 @@ module _ {H C : Type 0} (IsIntact IsOpen : H → Type 0) (seen : H → Seen) (le
 
   -- a copy was ordered
   pub copied : (before after : Ends) (served : Served) (stops : Bool) (taken reply to : List ℕ) (old new : H)
-      → TookOrder secret before.reading before.left after.left taken (Some (ToCopy to)) → Gives before.gave after.gave taken false → after.reader_failed ≡ false
+      → TookOrder secret before.left after.left taken (Some (ToCopy to)) → Gives before.gave after.gave taken false → after.reader_failed ≡ false
       → IsBackedUp IsIntact IsOpen seen left shows reply old new
       → served.stamp ≡ None → Appends before.held after.held (take served.sent (line_text reply))
       → Takes before.took after.took (take served.sent (line_text reply)) after.writer_failed
@@ -109,7 +112,7 @@ module _ {H C : Type 0} (IsIntact IsOpen : H → Type 0) (seen : H → Seen) (le
 
   -- a stop was ordered
   pub stopping : (before after : Ends) (served : Served) (stops : Bool) (taken : List ℕ) (old new : H)
-      → TookOrder secret before.reading before.left after.left taken (Some ToStop) → Gives before.gave after.gave taken false → after.reader_failed ≡ false → new ≡ old
+      → TookOrder secret before.left after.left taken (Some ToStop) → Gives before.gave after.gave taken false → after.reader_failed ≡ false → new ≡ old
       → served.stamp ≡ None → Appends before.held after.held (take served.sent (line_text stop_text))
       → Takes before.took after.took (take served.sent (line_text stop_text)) after.writer_failed
       → EndsAs served.ended served.sent (line_text stop_text) after.writer_failed → served.trouble ≡ None
@@ -126,17 +129,17 @@ module _ {H C : Type 0} (IsIntact IsOpen : H → Type 0) (seen : H → Seen) (le
     obeys = same;
   }
 
-  -- nothing was ordered
-  pub not_ordered : (before after : Ends) (served : Served) (stops : Bool) (taken reply : List ℕ) (old new : H)
-      → TookOrder secret before.reading before.left after.left taken None → Gives before.gave after.gave taken false → after.reader_failed ≡ false → new ≡ old → reply ≡ bad_line
+  -- nothing was ordered that is done here
+  pub not_ordered : (before after : Ends) (served : Served) (stops : Bool) (taken reply : List ℕ) (order : Option Instruction) (old new : H)
+      → is_done_here order ≡ false → TookOrder secret before.left after.left taken order → Gives before.gave after.gave taken false → after.reader_failed ≡ false → new ≡ old → reply ≡ bad_line
       → served.stamp ≡ None → Appends before.held after.held (take served.sent (line_text reply))
       → Takes before.took after.took (take served.sent (line_text reply)) after.writer_failed
       → EndsAs served.ended served.sent (line_text reply) after.writer_failed → served.trouble ≡ None
       → stops ≡ false → WasOrdered IsIntact IsOpen seen left shows secret before after served stops old new
-  not_ordered before after served stops taken reply old new took gave going same text is out took_out ended noted flag =
+  not_ordered before after served stops taken reply order old new elsewhere took gave going same text is out took_out ended noted flag =
       let P : List ℕ → Type 0 = λ r. IsReplied before after served taken (None, r) in
       let replied : P reply = record { consumed = took.consumed; short = took.short; stamp = is; out = out; ended = ended; gave = gave; took = took_out; reader = going } in
-      record { heard = NoOrder; hears = record { taken = taken; replied = subst P text replied; is = took.is }; notes = noted; told = flag; obeys = same }
+      record { heard = NoOrder; hears = (order, elsewhere, record { taken = taken; replied = subst P text replied; is = took.is }); notes = noted; told = flag; obeys = same }
 
   -- memory was wanting before it was known what is ordered
   pub not_heard : (before after : Ends) (served : Served) (stops : Bool) (taken reply : List ℕ) (old new : H)

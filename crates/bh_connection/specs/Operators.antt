@@ -1,5 +1,6 @@
 -- The results of an operator's connection, and its effect on the host.
 use Rattle.std.specs.Prelude.{◌≡◌, ◌≤◌, ℕ, Bool, true, false, List, [], ◌∷◌, ◌++◌, codes, is_some, length, take, Option, Some, None}
+use Rattle.std.specs.Prelude.{option_and_then}
 use Rattle.std.specs.Io.KnownBytes.{Appends, Consumes, Keeps}
 use Rattle.bh_event.specs.Events.{Arrival as Event}
 use Rattle.bh_tables.specs.Typed.{Tables}
@@ -10,9 +11,11 @@ use Rattle.bh_host.specs.Answers.{is_wanting}
 use Rattle.bh_host.specs.Replies.{wanting_text}
 use Rattle.bh_host.specs.Runs.{Told}
 use Rattle.bh_host.specs.declared.reply.Caller.TheVariants.{Operator}
+use Rattle.bh_event.specs.Operators.{order_of_line}
+use Rattle.bh_event.specs.Orders.{Instruction, ToDo, ToCopy, ToStop, ToAnswer}
+use Rattle.bh_link.specs.Lines.{line_in}
 use Rattle.bh_link.specs.Taking.{all_of}
 use Rattle.bh_http.specs.Transfers.{Logs, Gives, Takes}
-use Rattle.bh_operator.specs.Orders.{Order, ToDo, ToCopy, ToStop, ordered_by}
 use Rattle.bh_connection.specs.Backups.{IsBackedUp}
 use Rattle.bh_connection.specs.Connections.{Ends, EndsAs, IsApplied}
 use Rattle.bh_connection.specs.declared.served.End.TheVariants.{ReadFailed}
@@ -30,8 +33,28 @@ stop_text = codes "stop"
 abbrev pub line_text : List ℕ → List ℕ
 line_text reply = reply ++ 10 ∷ []
 
+-- ---- its order
+
+-- the order in a connection's bytes, under a secret if there is one
+abbrev pub ordered_by : Option (List ℕ) → List ℕ → Option Instruction
+ordered_by secret bytes = option_and_then (order_of_line secret) (line_in bytes)
+
+-- it is carried out here; what a server is asked about itself is answered before
+abbrev pub is_done_here : Option Instruction → Bool
+is_done_here None = false
+is_done_here (Some (ToDo message)) = true
+is_done_here (Some (ToCopy to)) = true
+is_done_here (Some ToStop) = true
+is_done_here (Some (ToAnswer asked)) = false
+
+-- the read bytes have the same order as all the bytes that the reader would return
+pub record TookOrder (secret : Option (List ℕ)) (old new : Option (List ℕ)) (taken : List ℕ) (order : Option Instruction) : Type 0 where
+  pub consumed : Consumes old new taken
+  pub short : length taken ≤ 16384
+  pub is : order ≡ ordered_by secret (all_of old taken)
+
 -- the result of an operator's line: its reader failed, or memory ran out before its order was
--- known. Otherwise it has no order, its order was applied, it orders a copy under this name, with
+-- known. Otherwise it has no order that is carried out here, its order was applied, it orders a copy under this name, with
 -- this reply, or it orders a stop
 pub data Heard : Type 0 where
   CutOff : Heard
@@ -80,16 +103,19 @@ pub record IsReplied (before after : Ends) (served : Served) (taken : List ℕ) 
 
 -- all the bytes that its reader would return have this order, or none, under the secret if there is
 -- one
-pub record IsHeard (secret : Option (List ℕ)) (before after : Ends) (served : Served) (order : Option Order) (told : Told) : Type 0 where
+pub record IsHeard (secret : Option (List ℕ)) (before after : Ends) (served : Served) (order : Option Instruction) (told : Told) :
+    Type 0 where
   pub taken : List ℕ
   pub replied : IsReplied before after served taken told
-  pub is : order ≡ ordered_by secret before.reading (all_of before.left taken)
+  pub is : order ≡ ordered_by secret (all_of before.left taken)
 
 abbrev pub Hears : Option (List ℕ) → Ends → Ends → Served → Heard → Type 0
 Hears secret before after served CutOff = IsCutOff before after served
 Hears secret before after served NotHeard = (taken : List ℕ) × IsReplied before after served taken (None, wanting_text Operator)
-Hears secret before after served NoOrder = IsHeard secret before after served None (None, bad_line)
-Hears secret before after served (Obeyed event told) = IsHeard secret before after served (Some (ToDo event)) told
+Hears secret before after served NoOrder =
+    (order : Option Instruction) × (is_done_here order ≡ false) × IsHeard secret before after served order (None, bad_line)
+Hears secret before after served (Obeyed event told) =
+    (event.reading ≡ before.reading) × IsHeard secret before after served (Some (ToDo event.message)) told
 Hears secret before after served (Copied to reply) = IsHeard secret before after served (Some (ToCopy to)) (None, reply)
 Hears secret before after served Stopping = IsHeard secret before after served (Some ToStop) (None, stop_text)
 

@@ -1,20 +1,25 @@
-ghost use Rattle.std.specs.Prelude.{◌≡◌, ◌≤◌, ◌<◌, ◌+◌, ◌↔◌, length, take, false, option_map, IfSome, IsTrue};
+ghost use Rattle.std.specs.Prelude.{◌≡◌, ◌≤◌, ◌<◌, ◌+◌, ◌↔◌, ℕ, List, length, take, false, option_map, IfOk, IfErr, IfSome, IsTrue, OnOk};
 ghost use Rattle.std.specs.Io.KnownBytes.{Appends};
 ghost use Rattle.bh_storage.specs.Calls.{Clean, IsAtRest};
 ghost use Rattle.bh_tables.specs.Typed.{Tables};
-ghost use Rattle.bh_http.specs.Transfers.{Takes};
+ghost use Rattle.bh_event.specs.Orders.{instruction_of};
+ghost use Rattle.bh_http.specs.Transfers.{Gives, Takes};
 ghost use Rattle.bh_host.specs.Resting.{StaysAtRest};
 ghost use Rattle.bh_connection.specs.Connections.{ends_of, EndsAs};
-ghost use Rattle.bh_connection.specs.Operators.{line_text, WasOrdered};
+ghost use Rattle.bh_link.specs.Lines.{TookPart};
+ghost use Rattle.bh_link.specs.Taking.{is_fault};
+ghost use Rattle.bh_connection.specs.Operators.{line_text, TookOrder, WasOrdered};
 
 use crate::backup::{BackUp, backup_reply};
 use crate::served::{End, Served, Visited};
+use bh_event::operator::order_of_line;
+use bh_event::order::Order;
 use bh_host::{Caller, Reply, apply};
 use bh_link::ends::{Sink, Source};
+use bh_link::line::take_line;
 use bh_link::link::Link;
 use bh_link::request::TakeError;
 use bh_operation::routes::Routes;
-use bh_operator::order::{Order, take_order};
 use bh_storage::error::Trouble;
 use bh_types::moment::Moment;
 use std::alloc::Global;
@@ -25,14 +30,39 @@ const BAD_LINE: &[u8] = b"bad line";
 /// The reply to a stop.
 const STOP: &[u8] = b"stop";
 
+/// Reads a line, as [`take_line`] does, and returns its order, as [`order_of_line`] does; `None` if
+/// no line comes.
+fn take_order<R: Source>(
+    alloc: Global,
+    secret: Option<&[u8]>,
+    reader: &mut Link<R>,
+) -> Result<Option<Order>, TakeError>
+    requires { reader.old.failed ≡ false }
+    ensures took { IfOk result (λ order. (taken : List ℕ)
+        × TookOrder (option_map (λ s. s.now) secret.entry) (R.remaining reader.old.inner) (R.remaining reader.new.inner)
+        taken (option_map instruction_of order)
+        × Gives (R.transfers reader.old.inner) (R.transfers reader.new.inner) taken false) }
+    ensures going { OnOk result (reader.new.failed ≡ false) }
+    ensures within { IfErr result (λ _. (taken : List ℕ)
+        × TookPart (R.remaining reader.old.inner) (R.remaining reader.new.inner) taken
+        × Gives (R.transfers reader.old.inner) (R.transfers reader.new.inner) taken reader.new.failed) }
+    ensures failed { IfErr result (λ e. reader.new.failed ≡ is_fault e) }
+{
+    match take_line(alloc, reader)? {
+        Some(line) => Ok(order_of_line(alloc, secret, line.as_slice())?),
+        None => Ok(None),
+    }
+}
+
 /// Serves one connection of an operator: reads its line, carries out its order, and writes the
 /// reply and a line feed.
 ///
 /// The line is read a byte at a time, and no byte after its line feed. Its order is parsed by
-/// [`bh_operator::order::order_of_line`], at the reading, and must begin with the secret if there
-/// is one. A line without an order changes nothing and is answered `bad line`. An event is applied
-/// and answered as by [`apply`]. A backup is answered `backup` once the copy is complete and
-/// synced, or `fault`. A stop is answered `stop` and changes nothing: the caller ends serving.
+/// [`order_of_line`], and must begin with the secret if there is one. A line without an order
+/// changes nothing and is answered `bad line`. So is what a server is asked about itself: whoever
+/// accepts connections answers that before. An order on the host is applied at the reading and
+/// answered as by [`apply`]. A backup is answered `backup` once the copy is complete and synced, or
+/// `fault`. A stop is answered `stop` and changes nothing: the caller ends serving.
 pub fn serve_line<H: BackUp, R: Source, W: Sink>(
     alloc: Global,
     routes: &Routes,
@@ -54,8 +84,9 @@ pub fn serve_line<H: BackUp, R: Source, W: Sink>(
     ensures acknowledged { IfSome result.served.stamp (λ _. H.IsIntact host.new
         → (x : Tables) → H.left host.new x → x ≡ (H.seen host.new).now) }
 {
-    match take_order(alloc, secret, reading, reader) {
-        Ok(Some(Order::Event(event))) => {
+    match take_order(alloc, secret, reader) {
+        Ok(Some(Order::Host(order))) => {
+            let event = order.at(reading);
             let told = apply(alloc, routes, host, &event);
             Visited::going_on(answer_line(
                 writer,
@@ -72,6 +103,9 @@ pub fn serve_line<H: BackUp, R: Source, W: Sink>(
             served: answer_line(writer, None, STOP, None),
             stops: true,
         },
+        Ok(Some(Order::Server(_))) => {
+            Visited::going_on(answer_line(writer, None, BAD_LINE, None))
+        }
         Ok(None) => Visited::going_on(answer_line(writer, None, BAD_LINE, None)),
         Err(TakeError::OutOfMemory) => {
             let reply = Reply::Wanting(Caller::Operator, Trouble::Memory);

@@ -1,10 +1,11 @@
 -- Why a script's line is not an event: its first flaw, in the order of these definitions.
-use Rattle.std.specs.Prelude.{ℕ, Bool, List, codes, not, ◌&&◌, ◌||◌, Option, Some, None, is_some, if◌then◌else◌}
-use Rattle.std.specs.Str.{bytes_eq, is_utf8}
+use Rattle.std.specs.Prelude.{ℕ, Bool, List, codes, not, ◌&&◌, Option, Some, None, is_some, if◌then◌else◌}
+use Rattle.std.specs.Str.{is_utf8}
 use Rattle.serde_json.specs.Data.{Data}
 use Rattle.serde_json.specs.Find.{as_object}
 use Rattle.serde_json.specs.Read.{read}
 use Rattle.bh_event.specs.Lines.{text_at, number_at, has_members}
+use Rattle.bh_event.specs.Names.{is_event_word}
 use Rattle.bh_event.specs.declared.flaw.Flaw.{Flaw}
 use Rattle.bh_event.specs.declared.flaw.Flaw.TheVariants.{NotUtf8, NotJson, NotAnObject, NoReading, NoContent, OtherMembers, OddDigits}
 use Rattle.bh_event.specs.declared.flaw.Flaw.TheVariants.{UnknownCommand, WrongMembers}
@@ -16,16 +17,9 @@ flaw_of_request d =
     else if has_members 2 d then OddDigits
     else OtherMembers
 
--- whether it is the name of a command
-abbrev pub is_command : List ℕ → Bool
-is_command op =
-    bytes_eq op (codes "tenant-add") || bytes_eq op (codes "quota") || bytes_eq op (codes "tenant-remove")
-    || bytes_eq op (codes "key-add") || bytes_eq op (codes "key-remove") || bytes_eq op (codes "usage") || bytes_eq op (codes "keys")
-    || bytes_eq op (codes "sweep") || bytes_eq op (codes "report") || bytes_eq op (codes "tenants")
-
 -- the command is known, so its other members are wrong
-abbrev pub flaw_of_command : List ℕ → Flaw
-flaw_of_command op = if is_command op then WrongMembers else UnknownCommand
+unfoldable pub flaw_of_command : List ℕ → Flaw
+flaw_of_command op = if is_event_word op then WrongMembers else UnknownCommand
 
 abbrev pub flaw_of_content : Data → Option (List ℕ) → Flaw
 flaw_of_content d None = flaw_of_request d

@@ -3,6 +3,7 @@ ghost use Rattle.serde_json.specs.View.{view};
 ghost use Rattle.bh_event.specs.Flaws as spec;
 
 use crate::line::{has_members, number_at, text_at};
+use crate::name::is_event_word;
 use serde_json::Value;
 use std::alloc::{AllocError, Global};
 
@@ -66,28 +67,20 @@ fn flaw_in(document: &Value) -> Flaw
         return Flaw::NoReading;
     }
     match text_at(document, "op") {
-        Some(op) if is_command(op) => Flaw::WrongMembers,
-        Some(_) => Flaw::UnknownCommand,
+        Some(op) => flaw_of_command(op),
         None => flaw_of_request(document),
     }
 }
 
-fn is_command(op: &str) -> bool
-    ensures { result ≡ spec.is_command op.now }
+#[tactic(auto, unfolding(crate::specs::Flaws::flaw_of_command))]
+fn flaw_of_command(op: &str) -> Flaw
+    ensures { result ≡ spec.flaw_of_command op.now }
 {
-    matches!(
-        op,
-        "tenant-add"
-            | "quota"
-            | "tenant-remove"
-            | "key-add"
-            | "key-remove"
-            | "usage"
-            | "keys"
-            | "sweep"
-            | "report"
-            | "tenants"
-    )
+    if is_event_word(op) {
+        Flaw::WrongMembers
+    } else {
+        Flaw::UnknownCommand
+    }
 }
 
 fn flaw_of_request(document: &Value) -> Flaw

@@ -1,26 +1,52 @@
-ghost use Rattle.std.specs.Prelude.{◌≡◌, ℕ, List, IfOk, Some, None, option_map, option_and_then};
+//! The lines of a script and of an operator, as JSON.
+ghost use Rattle.std.specs.Prelude.{◌≡◌, ◌≤◌, IfOk, IfSome, option_map};
 ghost use Rattle.std.specs.Option.{option_copied};
-ghost use Rattle.std.specs.String.{string_bytes};
 ghost use Rattle.serde_json.specs.View.{view};
-ghost use Rattle.bh_event.specs.Events.{order_of, arrival, Requested, Ordered};
+ghost use Rattle.bh_event.specs.Events.{arrival};
 ghost use Rattle.bh_event.specs.Lines as spec;
+ghost use Rattle.bh_event.specs.Orders.{instruction_of};
 
-use crate::event::{Command, Event};
+use crate::event::Event;
+use crate::given::{Fields, GivenError};
+use crate::name::{Field, OrderName};
+use crate::order::{Order, order_by};
 use hex::FromHexError;
 use serde_json::Value;
 use std::alloc::{AllocError, Global};
 
 /// Parses a script's line: a JSON object (RFC 8259) with `at`, the reading, and `http`, `hex` or an
-/// operator's `op` with its members. `None` if the line is not such an object. Fails if memory runs
+/// order's `op` with its members. `None` if the line is not such an object. Fails if memory runs
 /// out.
 pub fn read_line(alloc: Global, line: &[u8]) -> Result<Option<Event>, AllocError>
     ensures { IfOk result (λ found. option_map arrival found ≡ spec.told_by line.now) }
+{
+    match value_in(alloc, line)? {
+        Some(document) => event_in(alloc, &document),
+        None => Ok(None),
+    }
+}
+
+/// Parses an operator's line: a JSON object (RFC 8259) with the `op` of an order and its members. It
+/// may have `at`, a number that doesn't count. `None` if the line is not such an object. Fails if
+/// memory runs out.
+pub fn read_order(alloc: Global, line: &[u8]) -> Result<Option<Order>, AllocError>
+    ensures { IfOk result (λ found. option_map instruction_of found ≡ spec.ordered_by line.now) }
+{
+    match value_in(alloc, line)? {
+        Some(document) => order_in(alloc, &document),
+        None => Ok(None),
+    }
+}
+
+/// The JSON value of a line; `None` if the line is not the text of one.
+fn value_in(alloc: Global, line: &[u8]) -> Result<Option<Value>, AllocError>
+    ensures { IfOk result (λ found. option_map view found ≡ spec.value_in line.now) }
 {
     let Ok(text) = str::from_utf8(line) else {
         return Ok(None);
     };
     match Value::from_str(alloc, text) {
-        Ok(document) => event_in(alloc, &document),
+        Ok(document) => Ok(Some(document)),
         Err(error) if error.is_memory() => Err(AllocError),
         Err(_) => Ok(None),
     }
@@ -35,9 +61,9 @@ fn event_in(alloc: Global, document: &Value) -> Result<Option<Event>, AllocError
     if let Some(bytes) = request_in(alloc, document)? {
         return Ok(Some(Event::Http { reading, bytes }));
     }
-    match command_in(alloc, document)? {
-        Some(command) => Ok(Some(Event::Operator { reading, command })),
-        None => Ok(host_order_in(document, reading)),
+    match order_among(alloc, document, 2)? {
+        Some(Order::Host(order)) => Ok(Some(order.at(reading))),
+        Some(_) | None => Ok(None),
     }
 }
 
@@ -66,171 +92,97 @@ fn bytes_of_digits(alloc: Global, digits: &str) -> Result<Option<Vec<u8>>, Alloc
     }
 }
 
-fn command_in(alloc: Global, document: &Value) -> Result<Option<Command>, AllocError>
-    ensures { IfOk result (λ found. option_map order_of found ≡ spec.order_in (view document.now)) }
+fn order_in(alloc: Global, document: &Value) -> Result<Option<Order>, AllocError>
+    ensures { IfOk result (λ found. option_map instruction_of found ≡ spec.order_in (view document.now)) }
 {
-    match text_at(document, "op") {
-        Some("tenant-add") => tenant_add_in(alloc, document),
-        Some("quota") => quota_in(alloc, document),
-        Some("tenant-remove") => tenant_remove_in(alloc, document),
-        Some("key-add") => key_add_in(alloc, document),
-        Some("key-remove") => key_remove_in(alloc, document),
-        Some("usage") => usage_in(alloc, document),
-        Some("keys") => keys_in(alloc, document),
-        _ => Ok(None),
+    match others_in(document) {
+        Some(others) => order_among(alloc, document, others),
+        None => Ok(None),
     }
 }
 
-fn tenant_add_in(alloc: Global, document: &Value) -> Result<Option<Command>, AllocError>
-    ensures { IfOk result (λ found. option_map order_of found ≡ spec.tenant_add_in (view document.now)) }
+/// How many members are none of an order's fields: `op`, and `at` if it is there.
+fn others_in(document: &Value) -> Option<usize>
+    ensures is { result ≡ spec.others_in (view document.now) }
+    ensures few { IfSome result (λ others. others ≤ 2) }
 {
-    if !has_members(document, 4) {
-        return Ok(None);
+    if document.get("at").is_none() {
+        return Some(1);
     }
-    let (Some(tenant), Some(quota)) = (text_at(document, "tenant"), number_at(document, "quota"))
-    else {
+    match number_at(document, "at") {
+        Some(_) => Some(2),
+        None => None,
+    }
+}
+
+/// The order in an object that has so many members beside those of its fields.
+fn order_among(alloc: Global, document: &Value, others: usize) -> Result<Option<Order>, AllocError>
+    requires { others ≤ 2 }
+    ensures { IfOk result (λ found. option_map instruction_of found ≡ spec.instruction_in others (view document.now)) }
+{
+    let Some(op) = text_at(document, "op") else {
         return Ok(None);
     };
-    let tenant = String::from_str(alloc, tenant)?;
-    Ok(Some(Command::TenantAdd { tenant, quota }))
-}
-
-fn quota_in(alloc: Global, document: &Value) -> Result<Option<Command>, AllocError>
-    ensures { IfOk result (λ found. option_map order_of found ≡ spec.quota_in (view document.now)) }
-{
-    if !has_members(document, 4) {
-        return Ok(None);
-    }
-    let (Some(tenant), Some(quota)) = (text_at(document, "tenant"), number_at(document, "quota"))
-    else {
-        return Ok(None);
-    };
-    let tenant = String::from_str(alloc, tenant)?;
-    Ok(Some(Command::Quota { tenant, quota }))
-}
-
-fn tenant_remove_in(alloc: Global, document: &Value) -> Result<Option<Command>, AllocError>
-    ensures { IfOk result (λ found. option_map order_of found ≡ spec.tenant_remove_in (view document.now)) }
-{
-    if !has_members(document, 4) {
-        return Ok(None);
-    }
-    let (Some(tenant), Some(with_objects)) = (
-        text_at(document, "tenant"),
-        choice_at(document, "with_objects"),
-    ) else {
-        return Ok(None);
-    };
-    let tenant = String::from_str(alloc, tenant)?;
-    Ok(Some(Command::TenantRemove {
-        tenant,
-        with_objects,
-    }))
-}
-
-fn key_add_in(alloc: Global, document: &Value) -> Result<Option<Command>, AllocError>
-    ensures { IfOk result (λ found. option_map order_of found ≡ spec.key_add_in (view document.now)) }
-{
-    if !has_members(document, 5) {
-        return Ok(None);
-    }
-    let (Some(tenant), Some(name), Some(secret)) = (
-        text_at(document, "tenant"),
-        text_at(document, "name"),
-        text_at(document, "secret"),
-    ) else {
-        return Ok(None);
-    };
-    let tenant = String::from_str(alloc, tenant)?;
-    let name = String::from_str(alloc, name)?;
-    let secret = String::from_str(alloc, secret)?;
-    Ok(Some(Command::KeyAdd {
-        tenant,
-        name,
-        secret,
-    }))
-}
-
-fn key_remove_in(alloc: Global, document: &Value) -> Result<Option<Command>, AllocError>
-    ensures { IfOk result (λ found. option_map order_of found ≡ spec.key_remove_in (view document.now)) }
-{
-    if !has_members(document, 4) {
-        return Ok(None);
-    }
-    let (Some(tenant), Some(name)) = (text_at(document, "tenant"), text_at(document, "name")) else {
-        return Ok(None);
-    };
-    let tenant = String::from_str(alloc, tenant)?;
-    let name = String::from_str(alloc, name)?;
-    Ok(Some(Command::KeyRemove { tenant, name }))
-}
-
-fn usage_in(alloc: Global, document: &Value) -> Result<Option<Command>, AllocError>
-    ensures { IfOk result (λ found. option_map order_of found ≡ spec.usage_in (view document.now)) }
-{
-    if !has_members(document, 3) {
-        return Ok(None);
-    }
-    let Some(tenant) = text_at(document, "tenant") else {
-        return Ok(None);
-    };
-    let tenant = String::from_str(alloc, tenant)?;
-    Ok(Some(Command::Usage { tenant }))
-}
-
-fn keys_in(alloc: Global, document: &Value) -> Result<Option<Command>, AllocError>
-    ensures { IfOk result (λ found. option_map order_of found ≡ spec.keys_in (view document.now)) }
-{
-    if !has_members(document, 3) {
-        return Ok(None);
-    }
-    let Some(tenant) = text_at(document, "tenant") else {
-        return Ok(None);
-    };
-    let tenant = String::from_str(alloc, tenant)?;
-    Ok(Some(Command::Keys { tenant }))
-}
-
-/// An operator's order about all tenants.
-fn host_order_in(document: &Value, reading: u64) -> Option<Event>
-    ensures { option_map arrival result ≡ option_map (spec.arrival_at reading) (spec.host_order_in (view document.now)) }
-{
-    match text_at(document, "op") {
-        Some("sweep") => sweep_in(document, reading),
-        Some("report") => report_in(document, reading),
-        Some("tenants") => tenants_in(document, reading),
-        _ => None,
+    match OrderName::named(op) {
+        Some(name) => order_named(alloc, document, others, name),
+        None => Ok(None),
     }
 }
 
-fn sweep_in(document: &Value, reading: u64) -> Option<Event>
-    ensures { option_map arrival result ≡ option_map (spec.arrival_at reading) (spec.sweep_in (view document.now)) }
+fn order_named(
+    alloc: Global,
+    document: &Value,
+    others: usize,
+    name: OrderName,
+) -> Result<Option<Order>, AllocError>
+    requires { others ≤ 2 }
+    ensures { IfOk result (λ found. option_map instruction_of found ≡ spec.instruction_named others (view document.now) name) }
 {
-    if !has_members(document, 3) {
-        return None;
+    if !has_members(document, others + name.fields().len()) {
+        return Ok(None);
     }
-    match u32::try_from(number_at(document, "limit")?) {
-        Ok(limit) => Some(Event::Sweep { reading, limit }),
-        Err(_) => None,
+    match order_by(alloc, name, &Members(document)) {
+        Ok(order) => Ok(Some(order)),
+        Err(GivenError::NotGiven) => Ok(None),
+        Err(GivenError::OutOfMemory) => Err(AllocError),
     }
 }
 
-fn report_in(document: &Value, reading: u64) -> Option<Event>
-    ensures { option_map arrival result ≡ option_map (spec.arrival_at reading) (spec.report_in (view document.now)) }
-{
-    if !has_members(document, 2) {
-        return None;
+/// The members of a JSON object, each under the key of its field.
+#[derive(Drop)]
+struct Members<'a>(&'a Value);
+
+impl<'a> Fields for Members<'a> {
+    ghost use Rattle.serde_json.specs.View.{view};
+    ghost use Rattle.bh_event.specs.Lines.{given_in};
+
+    ghost given = { λ members. given_in (view members.0.now) };
+
+    fn text(&self, field: Field) -> Option<&str> {
+        text_at(self.0, key(field))
     }
-    Some(Event::Report { reading })
+
+    fn number(&self, field: Field) -> Option<u64> {
+        number_at(self.0, key(field))
+    }
+
+    fn choice(&self, field: Field) -> Option<bool> {
+        choice_at(self.0, key(field))
+    }
 }
 
-fn tenants_in(document: &Value, reading: u64) -> Option<Event>
-    ensures { option_map arrival result ≡ option_map (spec.arrival_at reading) (spec.tenants_in (view document.now)) }
+fn key<'a>(field: Field) -> &'a str
+    ensures { result.now ≡ spec.key field }
 {
-    if !has_members(document, 2) {
-        return None;
+    match field {
+        Field::Tenant => "tenant",
+        Field::Quota => "quota",
+        Field::WithObjects => "with_objects",
+        Field::Name => "name",
+        Field::Secret => "secret",
+        Field::Limit => "limit",
+        Field::To => "to",
     }
-    Some(Event::Tenants { reading })
 }
 
 pub(crate) fn has_members(document: &Value, count: usize) -> bool

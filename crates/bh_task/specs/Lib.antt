@@ -1,4 +1,3 @@
 pub mod Doors
-pub mod Messages
 pub mod Places
 pub mod Tasks

@@ -2,8 +2,9 @@
 use Rattle.std.specs.Prelude.{ℕ, Bool, true, false, not, ◌&&◌, is_some, if◌then◌else◌, Option, Some, None, Result, Ok, Err}
 use Rattle.std.specs.declared.alloc.Global.{Global}
 use Rattle.std.specs.declared.string.String.{String}
-use Rattle.bh_event.specs.declared.event.Command.{Command}
-use Rattle.bh_event.specs.declared.event.Command.TheVariants as command
+use Rattle.bh_event.specs.declared.order.HostOrder.{HostOrder}
+use Rattle.bh_event.specs.declared.order.Order.{Order}
+use Rattle.bh_event.specs.declared.order.Order.TheVariants as ordered
 use Rattle.bh_types.specs.Limits.{default_tuning}
 use Rattle.bh_words.specs.Readings.{leap_of}
 use Rattle.bh_words.specs.declared.lines.ClockGiven.{ClockGiven}
@@ -11,13 +12,9 @@ use Rattle.bh_words.specs.declared.lines.ClockTyped.{ClockTyped}
 use Rattle.bh_words.specs.declared.lines.DoorGiven.{DoorGiven}
 use Rattle.bh_words.specs.declared.lines.Line.{Line}
 use Rattle.bh_words.specs.declared.lines.Line.TheVariants as line
-use Rattle.bh_words.specs.declared.lines.OrderGiven.{OrderGiven}
-use Rattle.bh_words.specs.declared.lines.OrderGiven.TheVariants as ordered
+use Rattle.bh_words.specs.declared.lines.PlaceGiven.{PlaceGiven}
 use Rattle.bh_words.specs.declared.lines.ServeGiven.{ServeGiven}
-use Rattle.bh_words.specs.declared.lines.ServerAsked.{ServerAsked}
 use Rattle.bh_task.specs.Places.{operators_at, place_of}
-use Rattle.bh_task.specs.declared.line_task.Asked.{Asked}
-use Rattle.bh_task.specs.declared.line_task.Asked.TheVariants.{Task, KeyAdd}
 use Rattle.bh_task.specs.declared.line_task.Door.{Door}
 use Rattle.bh_task.specs.declared.line_task.Door.TheVariants.{Port, Socket}
 use Rattle.bh_task.specs.declared.line_task.FileAt.{FileAt}
@@ -36,7 +33,6 @@ use Rattle.bh_task.specs.declared.places.Place.{Place}
 use Rattle.bh_task.specs.declared.places.Place.TheVariants.{File, Server}
 use Rattle.bh_task.specs.declared.misfit.Misfit.{Misfit}
 use Rattle.bh_task.specs.declared.misfit.Misfit.TheVariants.{NoDoor, TwoDoors, NoSocket, NoOperatorDoor, TwoOperatorDoors, NoClock}
-use Rattle.bh_task.specs.declared.task.Task.TheVariants as order
 
 -- ---- doors
 
@@ -91,22 +87,6 @@ serving_of given = do
 
 -- ---- orders
 
-abbrev pub commanded : Command → Asked
-commanded it = Task (order.Command it)
-
--- before any secret is read
-abbrev pub asked_of : OrderGiven → Asked
-asked_of (ordered.TenantAdd tenant quota) = commanded (command.TenantAdd tenant quota)
-asked_of (ordered.Quota tenant quota) = commanded (command.Quota tenant quota)
-asked_of (ordered.TenantRemove tenant with_objects) = commanded (command.TenantRemove tenant with_objects)
-asked_of (ordered.KeyAdd tenant name secret) = KeyAdd tenant name secret
-asked_of (ordered.KeyRemove tenant name) = commanded (command.KeyRemove tenant name)
-asked_of (ordered.Keys tenant) = commanded (command.Keys tenant)
-asked_of (ordered.Usage tenant) = commanded (command.Usage tenant)
-asked_of ordered.Tenants = Task order.Tenants
-asked_of ordered.Report = Task order.Report
-asked_of (ordered.Sweep limit) = Task (order.Sweep limit)
-
 abbrev pub clock_of : ClockTyped → ClockGiven
 clock_of clock = record { at = clock.at; leap = leap_of clock.force clock.days }
 
@@ -116,9 +96,9 @@ is_free clock = not (is_some clock.at) && (not (is_some clock.days) && not clock
 
 -- ---- tasks
 
--- what a server does itself, after its secret
-abbrev pub asked_at : {S T U : Type 0} → OperatorGiven → ServerAsked → LineTask S T U
-asked_at server it = task.Tell server.door server.secret_file (told.Server it)
+-- an order that a server alone carries out, after its secret
+abbrev pub served_at : {S T U : Type 0} → OperatorGiven → Order → LineTask S T U
+served_at server order = task.Tell server.door server.secret_file (told.Order order)
 
 module _ {S T U : Type 0} (starts : Starts S T U) where
   -- the host's file, and the other one that a command names
@@ -133,28 +113,40 @@ module _ {S T U : Type 0} (starts : Starts S T U) where
   on_host path clock it = task.OnHost (own path) default_tuning clock it
 
   -- an order on the host of a file, by its clock, or to a server
-  abbrev pub ordered_at : ClockTyped → Asked → Place → Result (LineTask S T U) Misfit
-  ordered_at clock it (File path) = Ok (on_host path (clock_of clock) (asked.Order it))
-  ordered_at clock it (Server door secret_file) = if is_free clock then Ok (task.Tell door secret_file (told.Order it)) else Err NoClock
+  abbrev pub ordered_at : ClockTyped → HostOrder → Place → Result (LineTask S T U) Misfit
+  ordered_at clock order (File path) = Ok (on_host path (clock_of clock) (asked.Order order))
+  ordered_at clock order (Server door secret_file) =
+      if is_free clock then Ok (task.Tell door secret_file (told.Order (ordered.Host order))) else Err NoClock
 
   abbrev pub maintained : Maintenance S T U → LineTask S T U
   maintained asked = task.Maintain asked
 
   abbrev pub backed_up_at : String Global → Place → LineTask S T U
   backed_up_at to (File path) = maintained (maintenance.Backup (own path) (other to))
-  backed_up_at to (Server door secret_file) = task.Tell door secret_file (told.Backup to)
+  backed_up_at to (Server door secret_file) = task.Tell door secret_file (told.Order (ordered.Backup to))
+
+  abbrev pub asked_of : PlaceGiven → Environment → Order → Result (LineTask S T U) Misfit
+  asked_of given environment order = do
+    server ← operators_at given.door given.secret_file environment
+    Ok (served_at server order)
+
+  -- an order on a host or its files, at its place, or at a server that alone carries it out
+  abbrev pub order_task_of : PlaceGiven → ClockTyped → Environment → Order → Result (LineTask S T U) Misfit
+  order_task_of given clock environment (ordered.Host order) = do
+    place ← place_of given environment
+    ordered_at clock order place
+  order_task_of given clock environment (ordered.Backup to) = do
+    place ← place_of given environment
+    Ok (backed_up_at to place)
+  order_task_of given clock environment ordered.Stop = asked_of given environment ordered.Stop
+  order_task_of given clock environment (ordered.Server asked) = asked_of given environment (ordered.Server asked)
 
   -- the task of a command line
   abbrev pub task_of : Environment → Line → Result (LineTask S T U) Misfit
   task_of environment (line.Script limits tuning digest) = Ok (task.Script limits tuning digest)
   task_of environment (line.Init file limits digest) = Ok (task.Init (own file) limits digest)
-  task_of environment (line.Order given clock order) = do
-    place ← place_of given environment
-    ordered_at clock (asked_of order) place
+  task_of environment (line.Ask given clock order) = order_task_of given clock environment order
   task_of environment (line.Check file) = Ok (maintained (maintenance.Check (own file)))
-  task_of environment (line.Backup given to) = do
-    place ← place_of given environment
-    Ok (backed_up_at to place)
   task_of environment (line.Export file tenant to) = Ok (maintained (maintenance.Export (own file) tenant (other to) starts.made))
   task_of environment (line.Import file given leap) = Ok (maintained (maintenance.Import (own file) (other given) leap))
   task_of environment (line.Serve file leap tuning given) = do
@@ -163,9 +155,6 @@ module _ {S T U : Type 0} (starts : Starts S T U) where
   task_of environment (line.Tell door secret_file order) = do
     met ← door_of door
     Ok (task.Tell met secret_file (told.Line order))
-  task_of environment (line.AtServer given secret_file it) = do
-    server ← operators_at given secret_file environment
-    Ok (asked_at server it)
 
 -- the lines on files whose host isn't being served
 abbrev pub is_maintenance : Line → Bool
@@ -179,10 +168,3 @@ abbrev pub is_of_server : Line → Bool
 is_of_server (line.Serve file leap tuning given) = true
 is_of_server (line.Tell door secret_file order) = true
 is_of_server other = false
-
--- the lines with an order, or a backup, and those of what a server alone does
-abbrev pub is_order : Line → Bool
-is_order (line.Order place clock order) = true
-is_order (line.Backup place to) = true
-is_order (line.AtServer door secret_file it) = true
-is_order other = false

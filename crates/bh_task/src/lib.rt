@@ -5,12 +5,10 @@ mod line_task;
 mod lines;
 mod misfit;
 mod places;
-mod task;
 
 pub use line_task::{
-    Asked, Door, FileAt, HostTask, LineTask, Maintenance, OperatorGiven, ServeTask, Starts, Told,
+    Door, FileAt, HostTask, LineTask, Maintenance, OperatorGiven, ServeTask, Starts, Told,
 };
 pub use lines::task_of;
 pub use misfit::Misfit;
 pub use places::{Environment, Place};
-pub use task::Task;

@@ -3,10 +3,10 @@
 ghost use Rattle.std.specs.Prelude.{◌≡◌, option_map};
 ghost use Rattle.bh_task.specs.Doors.{port_in, socket_in};
 
-use crate::task::Task;
+use bh_event::order::{HostOrder, Order};
 use bh_types::block_digest::BlockDigest;
 use bh_types::limits::{Limits, Tuning};
-use bh_words::{ClockGiven, Leap, SecretGiven, ServerAsked};
+use bh_words::{ClockGiven, Leap};
 use sqlite_disk::Start;
 
 /// A file's path, and what is supposed of its contents when it is opened.
@@ -84,37 +84,20 @@ pub struct ServeTask {
     pub operator: Option<OperatorGiven>,
 }
 
-/// An operator's order, before any secret is read.
-#[derive(Drop)]
-pub enum Asked {
-    /// An operator's task.
-    Task(Task),
-    /// Adds an access key to a tenant.
-    KeyAdd {
-        tenant: String,
-        name: String,
-        secret: SecretGiven,
-    },
-}
-
 /// What a server is told.
 #[derive(Drop)]
 pub enum Told {
     /// A line as it was given; `-` means the first line of standard input.
     Line(String),
-    /// An operator's order.
-    Order(Asked),
-    /// To copy its host to a new file.
-    Backup(String),
-    /// What it does itself, and not its host.
-    Server(ServerAsked),
+    /// An operator's order. A key's secret `-` means the first line of standard input.
+    Order(Order),
 }
 
 /// Work on a host, before any secret is read.
 #[derive(Drop)]
 pub enum HostTask {
-    /// An operator's order.
-    Order(Asked),
+    /// An operator's order. A key's secret `-` means the first line of standard input.
+    Order(HostOrder),
     /// Serves connections.
     Serve(ServeTask),
 }

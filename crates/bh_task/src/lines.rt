@@ -5,16 +5,13 @@ ghost use Rattle.bh_task.specs.Tasks as spec;
 ghost use Rattle.bh_task.specs.declared.places.Environment.{Environment};
 
 use crate::line_task::{
-    Asked, Door, FileAt, HostTask, LineTask, Maintenance, OperatorGiven, ServeTask, Starts, Told,
+    Door, FileAt, HostTask, LineTask, Maintenance, OperatorGiven, ServeTask, Starts, Told,
 };
 use crate::misfit::Misfit;
 use crate::places::{Environment, Place, operators_at, place_of};
-use crate::task::Task;
-use bh_event::event::Command;
+use bh_event::order::{HostOrder, Order};
 use bh_types::limits::Tuning;
-use bh_words::{
-    ClockGiven, ClockTyped, DoorGiven, DoorsGiven, Line, OrderGiven, ServeGiven, ServerAsked,
-};
+use bh_words::{ClockGiven, ClockTyped, DoorGiven, DoorsGiven, Line, PlaceGiven, ServeGiven};
 use sqlite_disk::Start;
 
 /// Work on a file's host.
@@ -37,44 +34,6 @@ fn on_host<S: Start, T: Start, U: Start>(
     }
 }
 
-/// What is asked by an order, before any secret is read.
-fn asked_of(order: OrderGiven) -> Asked
-    ensures { result ≡ spec.asked_of order }
-{
-    match order {
-        OrderGiven::TenantAdd { tenant, quota } => commanded(Command::TenantAdd { tenant, quota }),
-        OrderGiven::Quota { tenant, quota } => commanded(Command::Quota { tenant, quota }),
-        OrderGiven::TenantRemove {
-            tenant,
-            with_objects,
-        } => commanded(Command::TenantRemove {
-            tenant,
-            with_objects,
-        }),
-        OrderGiven::KeyAdd {
-            tenant,
-            name,
-            secret,
-        } => Asked::KeyAdd {
-            tenant,
-            name,
-            secret,
-        },
-        OrderGiven::KeyRemove { tenant, name } => commanded(Command::KeyRemove { tenant, name }),
-        OrderGiven::Keys { tenant } => commanded(Command::Keys { tenant }),
-        OrderGiven::Usage { tenant } => commanded(Command::Usage { tenant }),
-        OrderGiven::Tenants => Asked::Task(Task::Tenants),
-        OrderGiven::Report => Asked::Task(Task::Report),
-        OrderGiven::Sweep { limit } => Asked::Task(Task::Sweep { limit }),
-    }
-}
-
-fn commanded(command: Command) -> Asked
-    ensures { result ≡ spec.commanded command }
-{
-    Asked::Task(Task::Command(command))
-}
-
 /// Whether nothing is given of a clock.
 fn is_free(clock: ClockTyped) -> bool
     ensures { result ≡ spec.is_free clock }
@@ -87,9 +46,9 @@ fn ordered_at<S: Start, T: Start, U: Start>(
     place: Place,
     starts: Starts<S, T, U>,
     clock: ClockTyped,
-    asked: Asked,
+    order: HostOrder,
 ) -> Result<LineTask<S, T, U>, Misfit>
-    ensures { result ≡ spec.ordered_at starts clock asked place }
+    ensures { result ≡ spec.ordered_at starts clock order place }
 {
     match place {
         Place::File(path) => {
@@ -97,13 +56,13 @@ fn ordered_at<S: Start, T: Start, U: Start>(
                 at: clock.at,
                 leap: clock.leap(),
             };
-            Ok(on_host(path, starts, given, HostTask::Order(asked)))
+            Ok(on_host(path, starts, given, HostTask::Order(order)))
         }
         Place::Server { .. } if !is_free(clock) => Err(Misfit::NoClock),
         Place::Server { door, secret_file } => Ok(LineTask::Tell {
             door,
             secret_file,
-            told: Told::Order(asked),
+            told: Told::Order(Order::Host(order)),
         }),
     }
 }
@@ -124,52 +83,39 @@ fn backed_up_at<S: Start, T: Start, U: Start>(
         Place::Server { door, secret_file } => LineTask::Tell {
             door,
             secret_file,
-            told: Told::Backup(to),
+            told: Told::Order(Order::Backup { to }),
         },
     }
 }
 
-/// The task of what a server does itself.
-fn asked_at<S: Start, T: Start, U: Start>(
-    server: OperatorGiven,
-    asked: ServerAsked,
-) -> LineTask<S, T, U>
-    ensures { result ≡ spec.asked_at server asked }
+/// The task of an order that a server alone carries out.
+fn served_at<S: Start, T: Start, U: Start>(server: OperatorGiven, order: Order) -> LineTask<S, T, U>
+    ensures { result ≡ spec.served_at server order }
 {
     LineTask::Tell {
         door: server.door,
         secret_file: server.secret_file,
-        told: Told::Server(asked),
+        told: Told::Order(order),
     }
 }
 
-/// The task of a line with an operator's order, or a backup, or of what a server does itself.
+/// The task of an operator's order.
 fn order_task_of<S: Start, T: Start, U: Start>(
-    line: Line,
+    place: PlaceGiven,
+    clock: ClockTyped,
+    order: Order,
     environment: Environment,
     starts: Starts<S, T, U>,
 ) -> Result<LineTask<S, T, U>, Misfit>
-    requires { spec.is_order line ≡ true }
-    ensures { result ≡ spec.task_of starts environment line }
+    ensures { result ≡ spec.order_task_of starts place clock environment order }
 {
-    match line {
-        Line::Order {
-            place,
-            clock,
-            order,
-        } => ordered_at(
-            place_of(place, environment)?,
-            starts,
-            clock,
-            asked_of(order),
-        ),
-        Line::Backup { place, to } => Ok(backed_up_at(place_of(place, environment)?, starts, to)),
-        Line::AtServer {
-            door,
-            secret_file,
-            asked,
-        } => Ok(asked_at(operators_at(door, secret_file, environment)?, asked)),
-        _ => unreachable!(),
+    match order {
+        Order::Host(order) => ordered_at(place_of(place, environment)?, starts, clock, order),
+        Order::Backup { to } => Ok(backed_up_at(place_of(place, environment)?, starts, to)),
+        Order::Stop | Order::Server(_) => {
+            let server = operators_at(place.door, place.secret_file, environment)?;
+            Ok(served_at(server, order))
+        }
     }
 }
 
@@ -338,8 +284,10 @@ pub fn task_of<S: Start, T: Start, U: Start>(
             Ok(maintenance_of(line, starts))
         }
         Line::Serve { .. } | Line::Tell { .. } => server_task_of(line, starts),
-        Line::Order { .. } | Line::Backup { .. } | Line::AtServer { .. } => {
-            order_task_of(line, environment, starts)
-        }
+        Line::Ask {
+            place,
+            clock,
+            order,
+        } => order_task_of(place, clock, order, environment, starts),
     }
 }

@@ -1,2 +1,1 @@
 mod ReadBack
-mod ServersRead

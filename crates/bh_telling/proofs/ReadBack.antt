@@ -1,96 +1,97 @@
 -- What a server reads in the object of an order.
-use Rattle.std.proofs.Common.{◌≡◌, ◌≤◌, ℕ, List, Some, None, refl, arith, le-leb}
+use Rattle.std.proofs.Common.{◌≡◌, ◌≤◌, ℕ, List, Some, refl, arith, le-leb}
 use Rattle.std.proofs.lemmas.Str.{is_utf8-from_IsUtf8}
 use Rattle.std.specs.Str.{IsUtf8}
+use Rattle.std.specs.String.{string_bytes}
 use Rattle.serde_json.specs.Data.{Data, depth}
 use Rattle.serde_json.specs.Read.{read, max_depth}
 use Rattle.serde_json.proofs.OnLiterals.{serde_json_on_literals}
-use Rattle.bh_event.specs.Events.{Order, AddTenant, SetQuota, RemoveTenant, AddKey, RemoveKey, ShowUsage, ShowKeys, Message, Ordered}
-use Rattle.bh_event.specs.Events.{SweepOrdered, ReportOrdered, TenantsOrdered, order_of}
-use Rattle.bh_event.specs.Lines.{arrival_in, arrival_at, told_by, value_in}
-use Rattle.bh_operator.specs.Orders.{ToDo, order_told, backup_told}
-use Rattle.bh_task.specs.Messages.{message_of, ordered_at}
-use Rattle.bh_task.specs.declared.task.Task.{Task}
-use Rattle.bh_task.specs.declared.task.Task.TheVariants.{Command, Sweep, Report, Tenants}
-use Rattle.bh_telling.specs.Objects.{object_of, object_in, IsLimited, backup}
+use Rattle.bh_event.specs.Events.{Order, AddTenant, SetQuota, RemoveTenant, AddKey, RemoveKey, ShowUsage, ShowKeys, Ordered, order_of}
+use Rattle.bh_event.specs.Events.{SweepOrdered, ReportOrdered, TenantsOrdered}
+use Rattle.bh_event.specs.Lines.{order_in, ordered_by, value_in}
+use Rattle.bh_event.specs.Orders.{Instruction, ToDo, ToCopy, ToStop, ToAnswer, instruction_of}
+use Rattle.bh_event.specs.declared.order.Asked.{Asked}
+use Rattle.bh_event.specs.declared.order.Asked.TheVariants.{Health, Metrics, ClockAccept}
+use Rattle.bh_event.specs.declared.order.HostOrder.TheVariants.{Command, Sweep, Report, Tenants}
+use Rattle.bh_event.specs.declared.order.Order.{Order as OrderTold}
+use Rattle.bh_event.specs.declared.order.Order.TheVariants.{Host, Backup, Stop, Server}
+use Rattle.bh_telling.specs.Objects.{IsInRange, object_of_order}
+
+-- ---- what is read
+
+command_read : (order : Order) → order_in (object_of_order (ToDo (Ordered order))) ≡ Some (ToDo (Ordered order))
+unfolding serde_json_on_literals
+command_read (AddTenant tenant quota) = refl
+command_read (SetQuota tenant quota) = refl
+command_read (RemoveTenant tenant with_objects) = refl
+command_read (AddKey tenant name secret) = refl
+command_read (RemoveKey tenant name) = refl
+command_read (ShowUsage tenant) = refl
+command_read (ShowKeys tenant) = refl
+
+sweep_read : (limit : ℕ) → limit ≤ 4_294_967_295 → order_in (object_of_order (ToDo (SweepOrdered limit))) ≡ Some (ToDo (SweepOrdered limit))
+unfolding serde_json_on_literals
+sweep_read limit most = rw (le-leb limit 4_294_967_295 most) refl
+
+report_read : order_in (object_of_order (ToDo ReportOrdered)) ≡ Some (ToDo ReportOrdered)
+unfolding serde_json_on_literals
+report_read = refl
+
+tenants_read : order_in (object_of_order (ToDo TenantsOrdered)) ≡ Some (ToDo TenantsOrdered)
+unfolding serde_json_on_literals
+tenants_read = refl
+
+backup_read : (to : List ℕ) → order_in (object_of_order (ToCopy to)) ≡ Some (ToCopy to)
+unfolding serde_json_on_literals
+backup_read to = refl
+
+stop_read : order_in (object_of_order ToStop) ≡ Some ToStop
+unfolding serde_json_on_literals
+stop_read = refl
+
+asked_read : (asked : Asked) → order_in (object_of_order (ToAnswer asked)) ≡ Some (ToAnswer asked)
+unfolding serde_json_on_literals
+asked_read Health = refl
+asked_read Metrics = refl
+asked_read ClockAccept = refl
+
+order_read : (order : OrderTold) → IsInRange (instruction_of order) → order_in (object_of_order (instruction_of order)) ≡ Some (instruction_of order)
+order_read (Host (Command command)) limited = command_read (order_of command)
+order_read (Host (Sweep limit)) limited = sweep_read limit limited
+order_read (Host Report) limited = report_read
+order_read (Host Tenants) limited = tenants_read
+order_read (Backup to) limited = backup_read (string_bytes to)
+order_read Stop limited = stop_read
+order_read (Server asked) limited = asked_read asked
 
 value_is : (text : List ℕ) (d : Data) → IsUtf8 text → read text ≡ Some d → value_in text ≡ Some d
 value_is text d valid e = rw (is_utf8-from_IsUtf8 text valid) e
 
-order_read : (order : Order) → arrival_in (object_of order) ≡ Some (arrival_at 0 (Ordered order))
-unfolding serde_json_on_literals
-order_read (AddTenant tenant quota) = refl
-order_read (SetQuota tenant quota) = refl
-order_read (RemoveTenant tenant with_objects) = refl
-order_read (AddKey tenant name secret) = refl
-order_read (RemoveKey tenant name) = refl
-order_read (ShowUsage tenant) = refl
-order_read (ShowKeys tenant) = refl
+read_is : (text : List ℕ) (d : Data) (order : Instruction) → IsUtf8 text → read text ≡ Some d → order_in d ≡ Some order → ordered_by text ≡ Some order
+read_is text d order valid e f = rw (value_is text d valid e) f
 
-sweep_read : (limit : ℕ) → limit ≤ 4_294_967_295 → arrival_in (object_in (SweepOrdered limit)) ≡ Some (arrival_at 0 (SweepOrdered limit))
-unfolding serde_json_on_literals
-sweep_read limit most = rw (le-leb limit 4_294_967_295 most) refl
+pub told_back : (order : OrderTold) (text : List ℕ) → IsInRange (instruction_of order) → IsUtf8 text
+    → read text ≡ Some (object_of_order (instruction_of order)) → ordered_by text ≡ Some (instruction_of order)
+told_back order text limited valid e = read_is text _ _ valid e (order_read order limited)
 
-report_read : arrival_in (object_in ReportOrdered) ≡ Some (arrival_at 0 ReportOrdered)
-unfolding serde_json_on_literals
-report_read = refl
+-- ---- no object nests deeper than a reader goes
 
-tenants_read : arrival_in (object_in TenantsOrdered) ≡ Some (arrival_at 0 TenantsOrdered)
-unfolding serde_json_on_literals
-tenants_read = refl
+flat_command : (order : Order) → depth (object_of_order (ToDo (Ordered order))) ≤ max_depth
+flat_command (AddTenant tenant quota) = omega arith
+flat_command (SetQuota tenant quota) = omega arith
+flat_command (RemoveTenant tenant with_objects) = omega arith
+flat_command (AddKey tenant name secret) = omega arith
+flat_command (RemoveKey tenant name) = omega arith
+flat_command (ShowUsage tenant) = omega arith
+flat_command (ShowKeys tenant) = omega arith
 
-told_is : (text : List ℕ) (d : Data) (message : Message) → IsUtf8 text → read text ≡ Some d → arrival_in d ≡ Some (arrival_at 0 message)
-    → told_by text ≡ Some (arrival_at 0 message)
-told_is text d message valid e f = rw (value_is text d valid e) f
-
--- an order that is told is read at the reading of the server's clock
-order_is : (text : List ℕ) (order : Order) (reading : ℕ) → told_by text ≡ Some (arrival_at 0 (Ordered order))
-    → order_told reading text ≡ Some (ToDo (arrival_at reading (Ordered order)))
-order_is text order reading e = rw e refl
-
-sweep_is : (text : List ℕ) (limit reading : ℕ) → told_by text ≡ Some (arrival_at 0 (SweepOrdered limit))
-    → order_told reading text ≡ Some (ToDo (arrival_at reading (SweepOrdered limit)))
-sweep_is text limit reading e = rw e refl
-
-report_is : (text : List ℕ) (reading : ℕ) → told_by text ≡ Some (arrival_at 0 ReportOrdered)
-    → order_told reading text ≡ Some (ToDo (arrival_at reading ReportOrdered))
-report_is text reading e = rw e refl
-
-tenants_is : (text : List ℕ) (reading : ℕ) → told_by text ≡ Some (arrival_at 0 TenantsOrdered)
-    → order_told reading text ≡ Some (ToDo (arrival_at reading TenantsOrdered))
-tenants_is text reading e = rw e refl
-
-pub task_told : (task : Task) (text : List ℕ) (reading : ℕ) → IsLimited (message_of task) → IsUtf8 text
-    → read text ≡ Some (object_in (message_of task)) → order_told reading text ≡ Some (ToDo (ordered_at reading (message_of task)))
-task_told (Command command) text reading limited valid e =
-    order_is text (order_of command) reading (told_is text _ _ valid e (order_read (order_of command)))
-task_told (Sweep limit) text reading limited valid e = sweep_is text limit reading (told_is text _ _ valid e (sweep_read limit limited))
-task_told Report text reading limited valid e = report_is text reading (told_is text _ _ valid e report_read)
-task_told Tenants text reading limited valid e = tenants_is text reading (told_is text _ _ valid e tenants_read)
-
--- no object nests deeper than a reader goes
-flat_order : (order : Order) → depth (object_of order) ≤ max_depth
-flat_order (AddTenant tenant quota) = omega arith
-flat_order (SetQuota tenant quota) = omega arith
-flat_order (RemoveTenant tenant with_objects) = omega arith
-flat_order (AddKey tenant name secret) = omega arith
-flat_order (RemoveKey tenant name) = omega arith
-flat_order (ShowUsage tenant) = omega arith
-flat_order (ShowKeys tenant) = omega arith
-
-pub flat_task : (task : Task) → depth (object_in (message_of task)) ≤ max_depth
-flat_task (Command command) = flat_order (order_of command)
-flat_task (Sweep limit) = omega arith
-flat_task Report = omega arith
-flat_task Tenants = omega arith
-
-pub flat_backup : (to : List ℕ) → depth (backup to) ≤ max_depth
-flat_backup to = omega arith
-
-pub backup_copies : (text to : List ℕ) → IsUtf8 text → read text ≡ Some (backup to) → backup_told text ≡ Some to
-unfolding serde_json_on_literals
-backup_copies text to valid e = rw (value_is text _ valid e) refl
-
-pub backup_is_no_event : (text to : List ℕ) → IsUtf8 text → read text ≡ Some (backup to) → told_by text ≡ None
-unfolding serde_json_on_literals
-backup_is_no_event text to valid e = rw (value_is text _ valid e) refl
+pub flat_order : (order : OrderTold) → depth (object_of_order (instruction_of order)) ≤ max_depth
+flat_order (Host (Command command)) = flat_command (order_of command)
+flat_order (Host (Sweep limit)) = omega arith
+flat_order (Host Report) = omega arith
+flat_order (Host Tenants) = omega arith
+flat_order (Backup to) = omega arith
+flat_order Stop = omega arith
+flat_order (Server Health) = omega arith
+flat_order (Server Metrics) = omega arith
+flat_order (Server ClockAccept) = omega arith

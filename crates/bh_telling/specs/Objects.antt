@@ -4,6 +4,9 @@ use Rattle.serde_json.specs.Data.{Data, Members, null, number, unsigned, boolean
 use Rattle.bh_event.specs.Events.{Order, AddTenant, SetQuota, RemoveTenant, AddKey, RemoveKey, ShowUsage, ShowKeys}
 use Rattle.bh_event.specs.Events.{Message, Requested, Ordered}
 use Rattle.bh_event.specs.Events.{SweepOrdered, ReportOrdered, TenantsOrdered}
+use Rattle.bh_event.specs.Orders.{Instruction, ToDo, ToCopy, ToStop, ToAnswer}
+use Rattle.bh_event.specs.declared.order.Asked.{Asked}
+use Rattle.bh_event.specs.declared.order.Asked.TheVariants.{Health, Metrics, ClockAccept}
 
 -- an object with `at`, which a server doesn't look at
 abbrev told : Members → Data
@@ -52,6 +55,15 @@ tenants = told (member (codes "op") (string (codes "tenants")) no_members)
 abbrev pub backup : List ℕ → Data
 backup to = told (member (codes "op") (string (codes "backup")) (member (codes "to") (string to) no_members))
 
+-- an order that a server alone carries out has no `at`
+abbrev pub server_object : List ℕ → Data
+server_object op = object (member (codes "op") (string op) no_members)
+
+abbrev pub asked_word : Asked → List ℕ
+asked_word Health = codes "health"
+asked_word Metrics = codes "metrics"
+asked_word ClockAccept = codes "clock-accept"
+
 abbrev pub object_of : Order → Data
 object_of (AddTenant tenant bytes) = tenant_add tenant bytes
 object_of (SetQuota tenant bytes) = quota_set tenant bytes
@@ -76,3 +88,13 @@ object_in (Ordered order) = object_of order
 object_in (SweepOrdered limit) = sweep limit
 object_in ReportOrdered = report
 object_in TenantsOrdered = tenants
+
+abbrev pub object_of_order : Instruction → Data
+object_of_order (ToDo message) = object_in message
+object_of_order (ToCopy to) = backup to
+object_of_order ToStop = server_object (codes "stop")
+object_of_order (ToAnswer asked) = server_object (asked_word asked)
+
+abbrev pub IsInRange : Instruction → Type 0
+IsInRange (ToDo message) = IsLimited message
+IsInRange other = Unit {0}

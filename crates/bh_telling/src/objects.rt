@@ -1,13 +1,13 @@
-//! The JSON object (RFC 8259) of each order. Its `at` is 0: a server doesn't look at it.
+//! The JSON object (RFC 8259) of each order. If it has an `at`, that is 0: a server doesn't look at it.
 
 ghost use Rattle.std.specs.Prelude.{◌≡◌, ◌≤◌, IfOk};
 ghost use Rattle.serde_json.specs.View.{view};
 ghost use Rattle.bh_event.specs.Events.{order_of};
-ghost use Rattle.bh_task.specs.Messages.{message_of};
+ghost use Rattle.bh_event.specs.Orders.{instruction_of, message_of};
 ghost use Rattle.bh_telling.specs.Objects as spec;
 
 use bh_event::event::Command;
-use bh_task::Task;
+use bh_event::order::{Asked, HostOrder, Order};
 use serde_json::{Value, json};
 use std::alloc::{AllocError, Global};
 
@@ -100,22 +100,52 @@ fn command_object(alloc: Global, command: &Command) -> Result<Value, AllocError>
     }
 }
 
-/// The object of a task.
-pub(crate) fn task_object(alloc: Global, task: &Task) -> Result<Value, AllocError>
-    ensures object { IfOk result (λ value. view value ≡ spec.object_in (message_of task.now)) }
-    ensures limited { spec.IsLimited (message_of task.now) }
+/// The object of an order on a host.
+fn host_object(alloc: Global, order: &HostOrder) -> Result<Value, AllocError>
+    ensures object { IfOk result (λ value. view value ≡ spec.object_in (message_of order.now)) }
+    ensures limited { spec.IsLimited (message_of order.now) }
 {
-    match task {
-        Task::Command(command) => command_object(alloc, command),
-        Task::Sweep { limit } => sweep(alloc, *limit),
-        Task::Report => report(alloc),
-        Task::Tenants => tenants(alloc),
+    match order {
+        HostOrder::Command(command) => command_object(alloc, command),
+        HostOrder::Sweep { limit } => sweep(alloc, *limit),
+        HostOrder::Report => report(alloc),
+        HostOrder::Tenants => tenants(alloc),
     }
 }
 
 /// The object of a backup to a new file.
-pub(crate) fn backup_object(alloc: Global, to: &str) -> Result<Value, AllocError>
+fn backup(alloc: Global, to: &str) -> Result<Value, AllocError>
     ensures { IfOk result (λ value. view value ≡ spec.backup to.now) }
 {
     json!(in alloc; {"at": 0_u64, "op": "backup", "to": to})
+}
+
+/// The object of an order that a server alone carries out.
+fn server_object(alloc: Global, op: &str) -> Result<Value, AllocError>
+    ensures { IfOk result (λ value. view value ≡ spec.server_object op.now) }
+{
+    json!(in alloc; {"op": op})
+}
+
+fn asked_word<'a>(asked: Asked) -> &'a str
+    ensures { result.now ≡ spec.asked_word asked }
+{
+    match asked {
+        Asked::Health => "health",
+        Asked::Metrics => "metrics",
+        Asked::ClockAccept => "clock-accept",
+    }
+}
+
+/// The object of an order.
+pub(crate) fn order_object(alloc: Global, order: &Order) -> Result<Value, AllocError>
+    ensures object { IfOk result (λ value. view value ≡ spec.object_of_order (instruction_of order.now)) }
+    ensures limited { spec.IsInRange (instruction_of order.now) }
+{
+    match order {
+        Order::Host(order) => host_object(alloc, order),
+        Order::Backup { to } => backup(alloc, to.as_str()),
+        Order::Stop => server_object(alloc, "stop"),
+        Order::Server(asked) => server_object(alloc, asked_word(*asked)),
+    }
 }

@@ -1,10 +1,12 @@
 -- What a server is asked about itself, and answers.
-use Rattle.std.specs.Prelude.{◌≡◌, ℕ, ◌++◌, Bool, true, false, List, codes, decimal, Option, Some, None}
+use Rattle.std.specs.Prelude.{◌≡◌, ℕ, ◌++◌, Bool, true, false, List, codes, decimal, Option, Some, None, option_and_then}
+use Rattle.bh_event.specs.Operators.{order_of_line}
+use Rattle.bh_event.specs.Orders.{Instruction, ToAnswer}
+use Rattle.bh_event.specs.declared.order.Asked.{Asked}
+use Rattle.bh_event.specs.declared.order.Asked.TheVariants.{Health, Metrics, ClockAccept}
 use Rattle.bh_host.specs.declared.reply.Caller.{Caller}
 use Rattle.bh_host.specs.declared.reply.Caller.TheVariants.{Request, Operator}
-use Rattle.bh_operator.specs.Asked.{asked_of}
-use Rattle.bh_operator.specs.declared.asked.Asked.{Asked}
-use Rattle.bh_operator.specs.declared.asked.Asked.TheVariants.{Health, Metrics, ClockAccept}
+use Rattle.bh_link.specs.Lines.{first_line}
 use Rattle.bh_stage.specs.declared.whole.Door.{Door}
 use Rattle.bh_stage.specs.declared.whole.Door.TheVariants.{Clients, Operators}
 use Rattle.bh_wires.specs.Pace.{accepted}
@@ -17,6 +19,14 @@ abbrev pub caller_at : Door → Bool → Caller
 caller_at Operators true = Operator
 caller_at Operators false = Request
 caller_at Clients has_operators = Request
+
+abbrev asked_in : Instruction → Option Asked
+asked_in (ToAnswer asked) = Some asked
+asked_in other = None
+
+-- what the first line of an operator's bytes asks, under a secret if there is one
+abbrev pub asked_of : Option (List ℕ) → List ℕ → Option Asked
+asked_of secret bytes = option_and_then asked_in (order_of_line secret (first_line bytes))
 
 -- only an operator's bytes ask the server about itself
 abbrev pub asked_by : Caller → Option (List ℕ) → List ℕ → Option Asked

@@ -6,6 +6,7 @@ use Rattle.std.proofs.lemmas.Bool.{le-leb}
 use Rattle.clap.specs.Simple.{Shape, filled_from, help_rule}
 use Rattle.clap.specs.Walk.{Row, Text, first_of, rows_after}
 use Rattle.bh_words.proofs.Valued.{IsLeaf, IsTaken, default-value, number_in, required-value}
+use Rattle.bh_event.specs.declared.name.OrderName.TheVariants as order
 use Rattle.bh_words.specs.Commands.{options, shape, word}
 use Rattle.bh_words.specs.Options.{rule}
 use Rattle.bh_words.specs.Readings.{cache_of, doors_at, is_given, limits_at, line_at, number_at, number_of, serving_at, text_at}
@@ -28,26 +29,26 @@ rows_of_words s words = rows_after (leaf s).rules [] words
 pub leaf-fine : (s : Subcommand) → IsLeaf (leaf s)
 leaf-fine subcommand.Script = record { fine = ((refl, inl (refl, refl), tt), ((refl, inl (refl, refl), tt), ((refl, inl (refl, refl), tt), ((refl, inl (refl, refl), tt), ((refl, inl (refl, refl), tt), ((refl, inl (refl, refl), tt), ((refl, inr (inr refl), tt), tt))))))); once = refl; negates = refl }
 leaf-fine subcommand.Init = record { fine = ((refl, inl (refl, refl), tt), ((refl, inl (refl, refl), tt), ((refl, inl (refl, refl), tt), ((refl, inl (refl, refl), tt), ((refl, inr (inr refl), tt), tt))))); once = refl; negates = refl }
-leaf-fine subcommand.TenantAdd = record { fine = ((refl, inl (refl, refl), tt), ((refl, inl (refl, refl), tt), ((refl, inl (refl, refl), tt), ((refl, inl (refl, refl), tt), ((refl, inl (refl, refl), tt), ((refl, inl (refl, refl), tt), ((refl, inl (refl, refl), tt), ((refl, inl (refl, refl), tt), ((refl, inr (inl (refl, refl, refl)), tt), ((refl, inr (inr refl), tt), tt)))))))))); once = refl; negates = refl }
-leaf-fine subcommand.Quota = record { fine = ((refl, inl (refl, refl), tt), ((refl, inl (refl, refl), tt), ((refl, inl (refl, refl), tt), ((refl, inl (refl, refl), tt), ((refl, inl (refl, refl), tt), ((refl, inl (refl, refl), tt), ((refl, inl (refl, refl), tt), ((refl, inl (refl, refl), tt), ((refl, inr (inl (refl, refl, refl)), tt), ((refl, inr (inr refl), tt), tt)))))))))); once = refl; negates = refl }
-leaf-fine subcommand.TenantRemove = record { fine = ((refl, inl (refl, refl), tt), ((refl, inr (inl (refl, refl, refl)), tt), ((refl, inl (refl, refl), tt), ((refl, inl (refl, refl), tt), ((refl, inl (refl, refl), tt), ((refl, inl (refl, refl), tt), ((refl, inl (refl, refl), tt), ((refl, inl (refl, refl), tt), ((refl, inr (inl (refl, refl, refl)), tt), ((refl, inr (inr refl), tt), tt)))))))))); once = refl; negates = refl }
-leaf-fine subcommand.KeyAdd = record { fine = ((refl, inl (refl, refl), tt), ((refl, inl (refl, refl), tt), ((refl, inl (refl, refl), tt), ((refl, inl (refl, refl), tt), ((refl, inl (refl, refl), tt), ((refl, inl (refl, refl), tt), ((refl, inl (refl, refl), tt), ((refl, inl (refl, refl), tt), ((refl, inl (refl, refl), tt), ((refl, inr (inl (refl, refl, refl)), tt), ((refl, inr (inr refl), tt), tt))))))))))); once = refl; negates = refl }
-leaf-fine subcommand.KeyRemove = record { fine = ((refl, inl (refl, refl), tt), ((refl, inl (refl, refl), tt), ((refl, inl (refl, refl), tt), ((refl, inl (refl, refl), tt), ((refl, inl (refl, refl), tt), ((refl, inl (refl, refl), tt), ((refl, inl (refl, refl), tt), ((refl, inl (refl, refl), tt), ((refl, inr (inl (refl, refl, refl)), tt), ((refl, inr (inr refl), tt), tt)))))))))); once = refl; negates = refl }
-leaf-fine subcommand.Keys = record { fine = ((refl, inl (refl, refl), tt), ((refl, inl (refl, refl), tt), ((refl, inl (refl, refl), tt), ((refl, inl (refl, refl), tt), ((refl, inl (refl, refl), tt), ((refl, inl (refl, refl), tt), ((refl, inl (refl, refl), tt), ((refl, inr (inl (refl, refl, refl)), tt), ((refl, inr (inr refl), tt), tt))))))))); once = refl; negates = refl }
-leaf-fine subcommand.Usage = record { fine = ((refl, inl (refl, refl), tt), ((refl, inl (refl, refl), tt), ((refl, inl (refl, refl), tt), ((refl, inl (refl, refl), tt), ((refl, inl (refl, refl), tt), ((refl, inl (refl, refl), tt), ((refl, inl (refl, refl), tt), ((refl, inr (inl (refl, refl, refl)), tt), ((refl, inr (inr refl), tt), tt))))))))); once = refl; negates = refl }
-leaf-fine subcommand.Tenants = record { fine = ((refl, inl (refl, refl), tt), ((refl, inl (refl, refl), tt), ((refl, inl (refl, refl), tt), ((refl, inl (refl, refl), tt), ((refl, inl (refl, refl), tt), ((refl, inl (refl, refl), tt), ((refl, inr (inl (refl, refl, refl)), tt), ((refl, inr (inr refl), tt), tt)))))))); once = refl; negates = refl }
-leaf-fine subcommand.Report = record { fine = ((refl, inl (refl, refl), tt), ((refl, inl (refl, refl), tt), ((refl, inl (refl, refl), tt), ((refl, inl (refl, refl), tt), ((refl, inl (refl, refl), tt), ((refl, inl (refl, refl), tt), ((refl, inr (inl (refl, refl, refl)), tt), ((refl, inr (inr refl), tt), tt)))))))); once = refl; negates = refl }
+leaf-fine (subcommand.Order order.TenantAdd) = record { fine = ((refl, inl (refl, refl), tt), ((refl, inl (refl, refl), tt), ((refl, inl (refl, refl), tt), ((refl, inl (refl, refl), tt), ((refl, inl (refl, refl), tt), ((refl, inl (refl, refl), tt), ((refl, inl (refl, refl), tt), ((refl, inl (refl, refl), tt), ((refl, inr (inl (refl, refl, refl)), tt), ((refl, inr (inr refl), tt), tt)))))))))); once = refl; negates = refl }
+leaf-fine (subcommand.Order order.Quota) = record { fine = ((refl, inl (refl, refl), tt), ((refl, inl (refl, refl), tt), ((refl, inl (refl, refl), tt), ((refl, inl (refl, refl), tt), ((refl, inl (refl, refl), tt), ((refl, inl (refl, refl), tt), ((refl, inl (refl, refl), tt), ((refl, inl (refl, refl), tt), ((refl, inr (inl (refl, refl, refl)), tt), ((refl, inr (inr refl), tt), tt)))))))))); once = refl; negates = refl }
+leaf-fine (subcommand.Order order.TenantRemove) = record { fine = ((refl, inl (refl, refl), tt), ((refl, inr (inl (refl, refl, refl)), tt), ((refl, inl (refl, refl), tt), ((refl, inl (refl, refl), tt), ((refl, inl (refl, refl), tt), ((refl, inl (refl, refl), tt), ((refl, inl (refl, refl), tt), ((refl, inl (refl, refl), tt), ((refl, inr (inl (refl, refl, refl)), tt), ((refl, inr (inr refl), tt), tt)))))))))); once = refl; negates = refl }
+leaf-fine (subcommand.Order order.KeyAdd) = record { fine = ((refl, inl (refl, refl), tt), ((refl, inl (refl, refl), tt), ((refl, inl (refl, refl), tt), ((refl, inl (refl, refl), tt), ((refl, inl (refl, refl), tt), ((refl, inl (refl, refl), tt), ((refl, inl (refl, refl), tt), ((refl, inl (refl, refl), tt), ((refl, inl (refl, refl), tt), ((refl, inr (inl (refl, refl, refl)), tt), ((refl, inr (inr refl), tt), tt))))))))))); once = refl; negates = refl }
+leaf-fine (subcommand.Order order.KeyRemove) = record { fine = ((refl, inl (refl, refl), tt), ((refl, inl (refl, refl), tt), ((refl, inl (refl, refl), tt), ((refl, inl (refl, refl), tt), ((refl, inl (refl, refl), tt), ((refl, inl (refl, refl), tt), ((refl, inl (refl, refl), tt), ((refl, inl (refl, refl), tt), ((refl, inr (inl (refl, refl, refl)), tt), ((refl, inr (inr refl), tt), tt)))))))))); once = refl; negates = refl }
+leaf-fine (subcommand.Order order.Keys) = record { fine = ((refl, inl (refl, refl), tt), ((refl, inl (refl, refl), tt), ((refl, inl (refl, refl), tt), ((refl, inl (refl, refl), tt), ((refl, inl (refl, refl), tt), ((refl, inl (refl, refl), tt), ((refl, inl (refl, refl), tt), ((refl, inr (inl (refl, refl, refl)), tt), ((refl, inr (inr refl), tt), tt))))))))); once = refl; negates = refl }
+leaf-fine (subcommand.Order order.Usage) = record { fine = ((refl, inl (refl, refl), tt), ((refl, inl (refl, refl), tt), ((refl, inl (refl, refl), tt), ((refl, inl (refl, refl), tt), ((refl, inl (refl, refl), tt), ((refl, inl (refl, refl), tt), ((refl, inl (refl, refl), tt), ((refl, inr (inl (refl, refl, refl)), tt), ((refl, inr (inr refl), tt), tt))))))))); once = refl; negates = refl }
+leaf-fine (subcommand.Order order.Tenants) = record { fine = ((refl, inl (refl, refl), tt), ((refl, inl (refl, refl), tt), ((refl, inl (refl, refl), tt), ((refl, inl (refl, refl), tt), ((refl, inl (refl, refl), tt), ((refl, inl (refl, refl), tt), ((refl, inr (inl (refl, refl, refl)), tt), ((refl, inr (inr refl), tt), tt)))))))); once = refl; negates = refl }
+leaf-fine (subcommand.Order order.Report) = record { fine = ((refl, inl (refl, refl), tt), ((refl, inl (refl, refl), tt), ((refl, inl (refl, refl), tt), ((refl, inl (refl, refl), tt), ((refl, inl (refl, refl), tt), ((refl, inl (refl, refl), tt), ((refl, inr (inl (refl, refl, refl)), tt), ((refl, inr (inr refl), tt), tt)))))))); once = refl; negates = refl }
 leaf-fine subcommand.Check = record { fine = ((refl, inl (refl, refl), tt), ((refl, inr (inr refl), tt), tt)); once = refl; negates = refl }
-leaf-fine subcommand.Sweep = record { fine = ((refl, inl (refl, refl), tt), ((refl, inl (refl, refl), tt), ((refl, inl (refl, refl), tt), ((refl, inl (refl, refl), tt), ((refl, inl (refl, refl), tt), ((refl, inl (refl, refl), tt), ((refl, inl (refl, refl), tt), ((refl, inr (inl (refl, refl, refl)), tt), ((refl, inr (inr refl), tt), tt))))))))); once = refl; negates = refl }
-leaf-fine subcommand.Backup = record { fine = ((refl, inl (refl, refl), tt), ((refl, inl (refl, refl), tt), ((refl, inl (refl, refl), tt), ((refl, inl (refl, refl), tt), ((refl, inl (refl, refl), tt), ((refl, inr (inr refl), tt), tt)))))); once = refl; negates = refl }
+leaf-fine (subcommand.Order order.Sweep) = record { fine = ((refl, inl (refl, refl), tt), ((refl, inl (refl, refl), tt), ((refl, inl (refl, refl), tt), ((refl, inl (refl, refl), tt), ((refl, inl (refl, refl), tt), ((refl, inl (refl, refl), tt), ((refl, inl (refl, refl), tt), ((refl, inr (inl (refl, refl, refl)), tt), ((refl, inr (inr refl), tt), tt))))))))); once = refl; negates = refl }
+leaf-fine (subcommand.Order order.Backup) = record { fine = ((refl, inl (refl, refl), tt), ((refl, inl (refl, refl), tt), ((refl, inl (refl, refl), tt), ((refl, inl (refl, refl), tt), ((refl, inl (refl, refl), tt), ((refl, inr (inr refl), tt), tt)))))); once = refl; negates = refl }
 leaf-fine subcommand.Export = record { fine = ((refl, inl (refl, refl), tt), ((refl, inl (refl, refl), tt), ((refl, inl (refl, refl), tt), ((refl, inr (inr refl), tt), tt)))); once = refl; negates = refl }
 leaf-fine subcommand.Import = record { fine = ((refl, inl (refl, refl), tt), ((refl, inl (refl, refl), tt), ((refl, inl (refl, refl), tt), ((refl, inr (inl (refl, refl, refl)), tt), ((refl, inr (inr refl), tt), tt))))); once = refl; negates = refl }
 leaf-fine subcommand.Serve = record { fine = ((refl, inl (refl, refl), tt), ((refl, inl (refl, refl), tt), ((refl, inl (refl, refl), tt), ((refl, inl (refl, refl), tt), ((refl, inl (refl, refl), tt), ((refl, inr (inl (refl, refl, refl)), tt), ((refl, inl (refl, refl), tt), ((refl, inl (refl, refl), tt), ((refl, inl (refl, refl), tt), ((refl, inl (refl, refl), tt), ((refl, inl (refl, refl), tt), ((refl, inr (inl (refl, refl, refl)), tt), ((refl, inl (refl, refl), tt), ((refl, inl (refl, refl), tt), ((refl, inl (refl, refl), tt), ((refl, inl (refl, refl), tt), ((refl, inl (refl, refl), tt), ((refl, inl (refl, refl), tt), ((refl, inr (inr refl), tt), tt))))))))))))))))))); once = refl; negates = refl }
 leaf-fine subcommand.Tell = record { fine = ((refl, inl (refl, refl), tt), ((refl, inl (refl, refl), tt), ((refl, inl (refl, refl), tt), ((refl, inl (refl, refl), tt), ((refl, inr (inr refl), tt), tt))))); once = refl; negates = refl }
-leaf-fine subcommand.Stop = record { fine = ((refl, inl (refl, refl), tt), ((refl, inl (refl, refl), tt), ((refl, inl (refl, refl), tt), ((refl, inr (inr refl), tt), tt)))); once = refl; negates = refl }
-leaf-fine subcommand.Health = record { fine = ((refl, inl (refl, refl), tt), ((refl, inl (refl, refl), tt), ((refl, inl (refl, refl), tt), ((refl, inr (inr refl), tt), tt)))); once = refl; negates = refl }
-leaf-fine subcommand.Metrics = record { fine = ((refl, inl (refl, refl), tt), ((refl, inl (refl, refl), tt), ((refl, inl (refl, refl), tt), ((refl, inr (inr refl), tt), tt)))); once = refl; negates = refl }
-leaf-fine subcommand.ClockAccept = record { fine = ((refl, inl (refl, refl), tt), ((refl, inl (refl, refl), tt), ((refl, inl (refl, refl), tt), ((refl, inr (inr refl), tt), tt)))); once = refl; negates = refl }
+leaf-fine (subcommand.Order order.Stop) = record { fine = ((refl, inl (refl, refl), tt), ((refl, inl (refl, refl), tt), ((refl, inl (refl, refl), tt), ((refl, inr (inr refl), tt), tt)))); once = refl; negates = refl }
+leaf-fine (subcommand.Order order.Health) = record { fine = ((refl, inl (refl, refl), tt), ((refl, inl (refl, refl), tt), ((refl, inl (refl, refl), tt), ((refl, inr (inr refl), tt), tt)))); once = refl; negates = refl }
+leaf-fine (subcommand.Order order.Metrics) = record { fine = ((refl, inl (refl, refl), tt), ((refl, inl (refl, refl), tt), ((refl, inl (refl, refl), tt), ((refl, inr (inr refl), tt), tt)))); once = refl; negates = refl }
+leaf-fine (subcommand.Order order.ClockAccept) = record { fine = ((refl, inl (refl, refl), tt), ((refl, inl (refl, refl), tt), ((refl, inl (refl, refl), tt), ((refl, inr (inr refl), tt), tt)))); once = refl; negates = refl }
 
 limits-given : (rows : List Row) (v w : Text) (n m : ℕ) → first_of (codes "min-part") rows ≡ Some v → number_of 64 v ≡ Some n
     → first_of (codes "max-body") rows ≡ Some w → number_of 64 w ≡ Some m → n ≤ 2 ^ 30 → 1 ≤ m → m ≤ 2 ^ 30
@@ -109,64 +110,64 @@ leaf-told subcommand.Init words e =
     let limits = limits-given (rows_of_words subcommand.Init words) _ _ _ _ min_part.1 min_part_n.1 max_body.1 max_body_n.1 min_part_n.3 max_body_n.2 max_body_n.3 in
     let digest = default-value s words (codes "digest") _ fine e refl refl in
     rw (file.1, limits, digest.1) refl
-leaf-told subcommand.TenantAdd words e =
-    let fine = leaf-fine subcommand.TenantAdd in
-    let s = leaf subcommand.TenantAdd in
+leaf-told (subcommand.Order order.TenantAdd) words e =
+    let fine = leaf-fine (subcommand.Order order.TenantAdd) in
+    let s = leaf (subcommand.Order order.TenantAdd) in
     let tenant = required-value s words (codes "tenant") _ fine e refl refl in
     let quota = required-value s words (codes "quota") _ fine e refl refl in
     let quota_n = number_in 64 0 (2 ^ 64 - 1) quota.0 (omega arith) quota.2 in
     rw (tenant.1, quota.1, quota_n.1) refl
-leaf-told subcommand.Quota words e =
-    let fine = leaf-fine subcommand.Quota in
-    let s = leaf subcommand.Quota in
+leaf-told (subcommand.Order order.Quota) words e =
+    let fine = leaf-fine (subcommand.Order order.Quota) in
+    let s = leaf (subcommand.Order order.Quota) in
     let tenant = required-value s words (codes "tenant") _ fine e refl refl in
     let quota = required-value s words (codes "quota") _ fine e refl refl in
     let quota_n = number_in 64 0 (2 ^ 64 - 1) quota.0 (omega arith) quota.2 in
     rw (tenant.1, quota.1, quota_n.1) refl
-leaf-told subcommand.TenantRemove words e =
-    let fine = leaf-fine subcommand.TenantRemove in
-    let s = leaf subcommand.TenantRemove in
+leaf-told (subcommand.Order order.TenantRemove) words e =
+    let fine = leaf-fine (subcommand.Order order.TenantRemove) in
+    let s = leaf (subcommand.Order order.TenantRemove) in
     let tenant = required-value s words (codes "tenant") _ fine e refl refl in
     rw tenant.1 refl
-leaf-told subcommand.KeyAdd words e =
-    let fine = leaf-fine subcommand.KeyAdd in
-    let s = leaf subcommand.KeyAdd in
+leaf-told (subcommand.Order order.KeyAdd) words e =
+    let fine = leaf-fine (subcommand.Order order.KeyAdd) in
+    let s = leaf (subcommand.Order order.KeyAdd) in
     let tenant = required-value s words (codes "tenant") _ fine e refl refl in
     let name = required-value s words (codes "name") _ fine e refl refl in
     let secret = required-value s words (codes "secret") _ fine e refl refl in
     rw (tenant.1, name.1, secret.1) refl
-leaf-told subcommand.KeyRemove words e =
-    let fine = leaf-fine subcommand.KeyRemove in
-    let s = leaf subcommand.KeyRemove in
+leaf-told (subcommand.Order order.KeyRemove) words e =
+    let fine = leaf-fine (subcommand.Order order.KeyRemove) in
+    let s = leaf (subcommand.Order order.KeyRemove) in
     let tenant = required-value s words (codes "tenant") _ fine e refl refl in
     let name = required-value s words (codes "name") _ fine e refl refl in
     rw (tenant.1, name.1) refl
-leaf-told subcommand.Keys words e =
-    let fine = leaf-fine subcommand.Keys in
-    let s = leaf subcommand.Keys in
+leaf-told (subcommand.Order order.Keys) words e =
+    let fine = leaf-fine (subcommand.Order order.Keys) in
+    let s = leaf (subcommand.Order order.Keys) in
     let tenant = required-value s words (codes "tenant") _ fine e refl refl in
     rw tenant.1 refl
-leaf-told subcommand.Usage words e =
-    let fine = leaf-fine subcommand.Usage in
-    let s = leaf subcommand.Usage in
+leaf-told (subcommand.Order order.Usage) words e =
+    let fine = leaf-fine (subcommand.Order order.Usage) in
+    let s = leaf (subcommand.Order order.Usage) in
     let tenant = required-value s words (codes "tenant") _ fine e refl refl in
     rw tenant.1 refl
-leaf-told subcommand.Tenants words e = refl
-leaf-told subcommand.Report words e = refl
+leaf-told (subcommand.Order order.Tenants) words e = refl
+leaf-told (subcommand.Order order.Report) words e = refl
 leaf-told subcommand.Check words e =
     let fine = leaf-fine subcommand.Check in
     let s = leaf subcommand.Check in
     let file = required-value s words (codes "file") _ fine e refl refl in
     rw file.1 refl
-leaf-told subcommand.Sweep words e =
-    let fine = leaf-fine subcommand.Sweep in
-    let s = leaf subcommand.Sweep in
+leaf-told (subcommand.Order order.Sweep) words e =
+    let fine = leaf-fine (subcommand.Order order.Sweep) in
+    let s = leaf (subcommand.Order order.Sweep) in
     let limit = required-value s words (codes "limit") _ fine e refl refl in
-    let limit_n = number_in 32 0 4_294_967_295 limit.0 (omega arith) limit.2 in
-    rw (limit.1, limit_n.1) refl
-leaf-told subcommand.Backup words e =
-    let fine = leaf-fine subcommand.Backup in
-    let s = leaf subcommand.Backup in
+    let limit_n = number_in 64 0 4_294_967_295 limit.0 (omega arith) limit.2 in
+    rw (limit.1, limit_n.1, le-leb _ 4_294_967_295 limit_n.3) refl
+leaf-told (subcommand.Order order.Backup) words e =
+    let fine = leaf-fine (subcommand.Order order.Backup) in
+    let s = leaf (subcommand.Order order.Backup) in
     let to = required-value s words (codes "to") _ fine e refl refl in
     rw to.1 refl
 leaf-told subcommand.Export words e =
@@ -204,7 +205,7 @@ leaf-told subcommand.Tell words e =
     let s = leaf subcommand.Tell in
     let order = required-value s words (codes "LINE") _ fine e refl refl in
     rw order.1 refl
-leaf-told subcommand.Stop words e = refl
-leaf-told subcommand.Health words e = refl
-leaf-told subcommand.Metrics words e = refl
-leaf-told subcommand.ClockAccept words e = refl
+leaf-told (subcommand.Order order.Stop) words e = refl
+leaf-told (subcommand.Order order.Health) words e = refl
+leaf-told (subcommand.Order order.Metrics) words e = refl
+leaf-told (subcommand.Order order.ClockAccept) words e = refl

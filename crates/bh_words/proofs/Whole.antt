@@ -11,6 +11,7 @@ use Rattle.clap.specs.Lexer.{long_of, short_of}
 use Rattle.clap.specs.Simple.{Shape, argument_words, built, entered, label_of, names_of, subcommand_of}
 use Rattle.clap.specs.Takes.{is_given}
 use Rattle.clap.specs.Walk.{Held, Names, Outcome, Row, Rule, Step, Text, Waiting, Walk, after_flag, after_step, answers_to, arg_by_index, done, finished, idle, long_or_other, next, nothing_held, option, plain, plain_word, positional, refused, rows_after, settled, short_or_plain, subcommand, subcommand_met, subcommand_or_other, to_positional, trailing, value, waits, walk, walk_from, walked, walked_from, word_met}
+use Rattle.bh_event.specs.declared.name.OrderName.TheVariants as order
 use Rattle.bh_words.proofs.Leaves.{leaf-told}
 use Rattle.bh_words.proofs.Taken.{or_none, same_some}
 use Rattle.bh_words.proofs.Valued.{IsTaken}
@@ -124,7 +125,7 @@ AllTold (s ∷ rest) = IsTold s × AllTold rest
 
 subs_told : AllTold (built the_command).subs
 unfolding AllTold IsTold
-subs_told = (inl (leaf-told chosen.Script), (inl (leaf-told chosen.Init), (inl (leaf-told chosen.TenantAdd), (inl (leaf-told chosen.Quota), (inl (leaf-told chosen.TenantRemove), (inl (leaf-told chosen.KeyAdd), (inl (leaf-told chosen.KeyRemove), (inl (leaf-told chosen.Keys), (inl (leaf-told chosen.Usage), (inl (leaf-told chosen.Tenants), (inl (leaf-told chosen.Report), (inl (leaf-told chosen.Check), (inl (leaf-told chosen.Sweep), (inl (leaf-told chosen.Backup), (inl (leaf-told chosen.Export), (inl (leaf-told chosen.Import), (inl (leaf-told chosen.Serve), (inl (leaf-told chosen.Tell), (inl (leaf-told chosen.Stop), (inl (leaf-told chosen.Health), (inl (leaf-told chosen.Metrics), (inl (leaf-told chosen.ClockAccept), (inr (refl, refl), tt)))))))))))))))))))))))
+subs_told = (inl (leaf-told chosen.Script), (inl (leaf-told chosen.Init), (inl (leaf-told (chosen.Order order.TenantAdd)), (inl (leaf-told (chosen.Order order.Quota)), (inl (leaf-told (chosen.Order order.TenantRemove)), (inl (leaf-told (chosen.Order order.KeyAdd)), (inl (leaf-told (chosen.Order order.KeyRemove)), (inl (leaf-told (chosen.Order order.Keys)), (inl (leaf-told (chosen.Order order.Usage)), (inl (leaf-told (chosen.Order order.Tenants)), (inl (leaf-told (chosen.Order order.Report)), (inl (leaf-told chosen.Check), (inl (leaf-told (chosen.Order order.Sweep)), (inl (leaf-told (chosen.Order order.Backup)), (inl (leaf-told chosen.Export), (inl (leaf-told chosen.Import), (inl (leaf-told chosen.Serve), (inl (leaf-told chosen.Tell), (inl (leaf-told (chosen.Order order.Stop)), (inl (leaf-told (chosen.Order order.Health)), (inl (leaf-told (chosen.Order order.Metrics)), (inl (leaf-told (chosen.Order order.ClockAccept)), (inr (refl, refl), tt)))))))))))))))))))))))
 
 found-told : (shapes : List Shape) (test : Shape → Bool) (s : Shape) → AllTold shapes → find test shapes ≡ Some s → IsTold s × (test s ≡ true)
 unfolding AllTold

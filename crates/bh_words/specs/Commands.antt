@@ -1,83 +1,85 @@
 -- The program's subcommands, as `clap` describes them.
-use Rattle.std.specs.Prelude.{List, [], ◌∷◌, ◌++◌, codes, map, fold, true, false}
+use Rattle.std.specs.Prelude.{List, [], ◌∷◌, ◌++◌, codes, find, map, fold, true, false, Option, option_map}
+use Rattle.std.specs.Option.{option_or}
+use Rattle.std.specs.Str.{bytes_eq}
 use Rattle.clap.specs.Words.{App, Shape, Text, with_rule, with_subcommand}
 use Rattle.clap.specs.Simple.{new_shape}
-use Rattle.bh_words.specs.Options.{rule}
+use Rattle.bh_event.specs.Names.{fields, named, reach}
+use Rattle.bh_event.specs.Names as names
+use Rattle.bh_event.specs.declared.name.OrderName.{OrderName}
+use Rattle.bh_event.specs.declared.name.OrderName.TheVariants as order
+use Rattle.bh_event.specs.declared.name.Reach.{Reach}
+use Rattle.bh_event.specs.declared.name.Reach.TheVariants as on
+use Rattle.bh_words.specs.Options.{option_of, rule}
 use Rattle.bh_words.specs.declared.options.OptionName.{OptionName}
-use Rattle.bh_words.specs.declared.options.OptionName.TheVariants.{File, HostFile, To, From, Tenant, Name, Secret, Quota, WithObjects, At}
-use Rattle.bh_words.specs.declared.options.OptionName.TheVariants.{ClockLeap, Force, Limit, Port, Socket, SocketGroup, Count, Log}
-use Rattle.bh_words.specs.declared.options.OptionName.TheVariants.{Timeout, Connections, Spool, ClockStep, MinPart, MaxBody}
-use Rattle.bh_words.specs.declared.options.OptionName.TheVariants.{BlockSize, CacheBlocks, CacheBytes, Digest, OperatorPort}
-use Rattle.bh_words.specs.declared.options.OptionName.TheVariants.{OperatorSocket, OperatorSecretFile, SecretFile, Order}
+use Rattle.bh_words.specs.declared.options.OptionName.TheVariants.{File, HostFile, To, From, Tenant, At, ClockLeap, Force, Port, Socket}
+use Rattle.bh_words.specs.declared.options.OptionName.TheVariants.{SocketGroup, Count, Log, Timeout, Connections, Spool, ClockStep}
+use Rattle.bh_words.specs.declared.options.OptionName.TheVariants.{MinPart, MaxBody, BlockSize, CacheBlocks, CacheBytes, Digest}
+use Rattle.bh_words.specs.declared.options.OptionName.TheVariants.{OperatorPort, OperatorSocket, OperatorSecretFile, SecretFile}
+use Rattle.bh_words.specs.declared.options.OptionName.TheVariants.{Order}
 use Rattle.bh_words.specs.declared.subcommands.Subcommand.{Subcommand}
 use Rattle.bh_words.specs.declared.subcommands.Subcommand.TheVariants as subcommand
 
 abbrev pub word : Subcommand → Text
 word subcommand.Script = codes "script"
 word subcommand.Init = codes "init"
-word subcommand.TenantAdd = codes "tenant-add"
-word subcommand.Quota = codes "quota"
-word subcommand.TenantRemove = codes "tenant-remove"
-word subcommand.KeyAdd = codes "key-add"
-word subcommand.KeyRemove = codes "key-remove"
-word subcommand.Keys = codes "keys"
-word subcommand.Usage = codes "usage"
-word subcommand.Tenants = codes "tenants"
-word subcommand.Report = codes "report"
+word (subcommand.Order name) = names.word name
 word subcommand.Check = codes "check"
-word subcommand.Sweep = codes "sweep"
-word subcommand.Backup = codes "backup"
 word subcommand.Export = codes "export"
 word subcommand.Import = codes "import"
 word subcommand.Serve = codes "serve"
 word subcommand.Tell = codes "tell"
-word subcommand.Stop = codes "stop"
-word subcommand.Health = codes "health"
-word subcommand.Metrics = codes "metrics"
-word subcommand.ClockAccept = codes "clock-accept"
 
--- where an operator's order is carried out: on a file, or by a server
-abbrev whereabouts : List OptionName
-whereabouts = HostFile ∷ OperatorPort ∷ OperatorSocket ∷ OperatorSecretFile ∷ []
+-- ---- options
 
--- what a server alone does
+-- an order is carried out on a file or by a server, or by a server alone
 abbrev server : List OptionName
 server = OperatorPort ∷ OperatorSocket ∷ OperatorSecretFile ∷ []
 
 abbrev clock : List OptionName
 clock = At ∷ ClockLeap ∷ Force ∷ []
 
--- each subcommand's options
+abbrev pub place_options : Reach → List OptionName
+place_options on.Host = HostFile ∷ server ++ clock
+place_options on.Files = HostFile ∷ server
+place_options on.Server = server
+
+-- each field's option, and then those of where an order is carried out
+abbrev pub order_options : OrderName → List OptionName
+order_options name = map option_of (fields name) ++ place_options (reach name)
+
 abbrev pub options : Subcommand → List OptionName
 options subcommand.Script = BlockSize ∷ MinPart ∷ MaxBody ∷ CacheBlocks ∷ CacheBytes ∷ Digest ∷ []
 options subcommand.Init = File ∷ MinPart ∷ MaxBody ∷ Digest ∷ []
-options subcommand.TenantAdd = Tenant ∷ Quota ∷ whereabouts ++ clock
-options subcommand.Quota = Tenant ∷ Quota ∷ whereabouts ++ clock
-options subcommand.TenantRemove = Tenant ∷ WithObjects ∷ whereabouts ++ clock
-options subcommand.KeyAdd = Tenant ∷ Name ∷ Secret ∷ whereabouts ++ clock
-options subcommand.KeyRemove = Tenant ∷ Name ∷ whereabouts ++ clock
-options subcommand.Keys = Tenant ∷ whereabouts ++ clock
-options subcommand.Usage = Tenant ∷ whereabouts ++ clock
-options subcommand.Tenants = whereabouts ++ clock
-options subcommand.Report = whereabouts ++ clock
+options (subcommand.Order name) = order_options name
 options subcommand.Check = File ∷ []
-options subcommand.Sweep = Limit ∷ whereabouts ++ clock
-options subcommand.Backup = To ∷ whereabouts
 options subcommand.Export = File ∷ Tenant ∷ To ∷ []
 options subcommand.Import = File ∷ From ∷ ClockLeap ∷ Force ∷ []
 options subcommand.Serve = File ∷ Port ∷ Socket ∷ SocketGroup ∷ Count ∷ Log ∷ Timeout ∷ Connections ∷ Spool ∷ ClockLeap ∷ ClockStep
     ∷ Force ∷ BlockSize ∷ CacheBlocks ∷ CacheBytes ∷ OperatorPort ∷ OperatorSocket ∷ OperatorSecretFile ∷ []
 options subcommand.Tell = Port ∷ Socket ∷ SecretFile ∷ Order ∷ []
-options subcommand.Stop = server
-options subcommand.Health = server
-options subcommand.Metrics = server
-options subcommand.ClockAccept = server
 
+-- ---- names
+
+-- those that are no order
+abbrev own_subcommands : List Subcommand
+own_subcommands = subcommand.Script ∷ subcommand.Init ∷ subcommand.Check ∷ subcommand.Export ∷ subcommand.Import ∷ subcommand.Serve
+    ∷ subcommand.Tell ∷ []
+
+abbrev pub own_named : Text → Option Subcommand
+own_named name = find (λ s. bytes_eq (word s) name) own_subcommands
+
+abbrev pub subcommand_named : Text → Option Subcommand
+subcommand_named name = option_or (own_named name) (option_map subcommand.Order (named name))
+
+-- all, in the order of the help
 abbrev pub subcommands : List Subcommand
-subcommands = subcommand.Script ∷ subcommand.Init ∷ subcommand.TenantAdd ∷ subcommand.Quota ∷ subcommand.TenantRemove
-    ∷ subcommand.KeyAdd ∷ subcommand.KeyRemove ∷ subcommand.Keys ∷ subcommand.Usage ∷ subcommand.Tenants ∷ subcommand.Report
-    ∷ subcommand.Check ∷ subcommand.Sweep ∷ subcommand.Backup ∷ subcommand.Export ∷ subcommand.Import ∷ subcommand.Serve
-    ∷ subcommand.Tell ∷ subcommand.Stop ∷ subcommand.Health ∷ subcommand.Metrics ∷ subcommand.ClockAccept ∷ []
+subcommands = subcommand.Script ∷ subcommand.Init ∷ subcommand.Order order.TenantAdd ∷ subcommand.Order order.Quota
+    ∷ subcommand.Order order.TenantRemove ∷ subcommand.Order order.KeyAdd ∷ subcommand.Order order.KeyRemove ∷ subcommand.Order order.Keys
+    ∷ subcommand.Order order.Usage ∷ subcommand.Order order.Tenants ∷ subcommand.Order order.Report ∷ subcommand.Check
+    ∷ subcommand.Order order.Sweep ∷ subcommand.Order order.Backup ∷ subcommand.Export ∷ subcommand.Import ∷ subcommand.Serve
+    ∷ subcommand.Tell ∷ subcommand.Order order.Stop ∷ subcommand.Order order.Health ∷ subcommand.Order order.Metrics
+    ∷ subcommand.Order order.ClockAccept ∷ []
 
 -- a command with these options
 abbrev pub shape : Text → List OptionName → Shape

@@ -1,6 +1,7 @@
 -- A parsed command line, as contracts see it.
 use Rattle.std.specs.Prelude.{ℕ, Bool, List, Option, option_map}
 use Rattle.std.specs.String.{string_bytes}
+use Rattle.bh_event.specs.Orders.{Instruction, instruction_of}
 use Rattle.bh_types.specs.Limits.{HostLimits, HostTuning}
 use Rattle.bh_types.specs.declared.block_digest.BlockDigest.{BlockDigest}
 use Rattle.bh_words.specs.declared.lines.ClockTyped.{ClockTyped}
@@ -9,21 +10,11 @@ use Rattle.bh_words.specs.declared.lines.DoorsGiven.{DoorsGiven}
 use Rattle.bh_words.specs.declared.lines.Leap.{Leap}
 use Rattle.bh_words.specs.declared.lines.Line.{Line}
 use Rattle.bh_words.specs.declared.lines.Line.TheVariants as line
-use Rattle.bh_words.specs.declared.lines.OrderGiven.{OrderGiven}
-use Rattle.bh_words.specs.declared.lines.OrderGiven.TheVariants as ordered
 use Rattle.bh_words.specs.declared.lines.PlaceGiven.{PlaceGiven}
-use Rattle.bh_words.specs.declared.lines.SecretGiven.{SecretGiven}
-use Rattle.bh_words.specs.declared.lines.SecretGiven.TheVariants as given
 use Rattle.bh_words.specs.declared.lines.ServeGiven.{ServeGiven}
-use Rattle.bh_words.specs.declared.lines.ServerAsked.{ServerAsked}
 
 abbrev pub Octets : Type 0
 Octets = List ℕ
-
--- a secret as a word, or on standard input
-pub data Secret : Type 0 where
-  Written : (secret : Octets) → Secret
-  FromInput : Secret
 
 -- where a server listens, as far as it is given
 pub record Door : Type 0 where
@@ -53,34 +44,16 @@ pub record Place : Type 0 where
   pub door : Door
   pub secret_file : Option Octets
 
-pub data OperatorOrder : Type 0 where
-  TenantAdd : (tenant : Octets) (quota : ℕ) → OperatorOrder
-  Quota : (tenant : Octets) (quota : ℕ) → OperatorOrder
-  TenantRemove : (tenant : Octets) (with_objects : Bool) → OperatorOrder
-  KeyAdd : (tenant : Octets) (name : Octets) (secret : Secret) → OperatorOrder
-  KeyRemove : (tenant : Octets) (name : Octets) → OperatorOrder
-  Keys : (tenant : Octets) → OperatorOrder
-  Usage : (tenant : Octets) → OperatorOrder
-  Tenants : OperatorOrder
-  Report : OperatorOrder
-  Sweep : (limit : ℕ) → OperatorOrder
-
 -- a subcommand with its values; `digest` is none if no function has that name
 pub data CommandLine : Type 0 where
   Script : (limits : HostLimits) (tuning : HostTuning) (digest : Option BlockDigest) → CommandLine
   Init : (file : Octets) (limits : HostLimits) (digest : Option BlockDigest) → CommandLine
-  Order : (place : Place) (clock : ClockTyped) (order : OperatorOrder) → CommandLine
+  Ask : (place : Place) (clock : ClockTyped) (order : Instruction) → CommandLine
   Check : (file : Octets) → CommandLine
-  Backup : (place : Place) (to : Octets) → CommandLine
   Export : (file : Octets) (tenant : Octets) (to : Octets) → CommandLine
   Import : (file : Octets) (given : Octets) (leap : Leap) → CommandLine
   Serve : (file : Octets) (leap : Leap) (tuning : HostTuning) (serving : Serving) → CommandLine
   Tell : (door : Door) (secret_file : Option Octets) (order : Octets) → CommandLine
-  AtServer : (door : Door) (secret_file : Option Octets) (asked : ServerAsked) → CommandLine
-
-abbrev pub secret : SecretGiven → Secret
-secret (given.Word text) = Written (string_bytes text)
-secret given.StandardInput = FromInput
 
 abbrev pub door : DoorGiven → Door
 door given = record { port = given.port; socket = option_map string_bytes given.socket }
@@ -111,26 +84,12 @@ place given = record {
   secret_file = option_map string_bytes given.secret_file;
 }
 
-abbrev pub order : OrderGiven → OperatorOrder
-order (ordered.TenantAdd tenant quota) = TenantAdd (string_bytes tenant) quota
-order (ordered.Quota tenant quota) = Quota (string_bytes tenant) quota
-order (ordered.TenantRemove tenant with_objects) = TenantRemove (string_bytes tenant) with_objects
-order (ordered.KeyAdd tenant name s) = KeyAdd (string_bytes tenant) (string_bytes name) (secret s)
-order (ordered.KeyRemove tenant name) = KeyRemove (string_bytes tenant) (string_bytes name)
-order (ordered.Keys tenant) = Keys (string_bytes tenant)
-order (ordered.Usage tenant) = Usage (string_bytes tenant)
-order ordered.Tenants = Tenants
-order ordered.Report = Report
-order (ordered.Sweep limit) = Sweep limit
-
 abbrev pub command_line : Line → CommandLine
 command_line (line.Script limits tuning digest) = Script limits tuning digest
 command_line (line.Init file limits digest) = Init (string_bytes file) limits digest
-command_line (line.Order given clock given_order) = Order (place given) clock (order given_order)
+command_line (line.Ask given clock order) = Ask (place given) clock (instruction_of order)
 command_line (line.Check file) = Check (string_bytes file)
-command_line (line.Backup given to) = Backup (place given) (string_bytes to)
 command_line (line.Export file tenant to) = Export (string_bytes file) (string_bytes tenant) (string_bytes to)
 command_line (line.Import file given leap) = Import (string_bytes file) (string_bytes given) leap
 command_line (line.Serve file leap tuning given) = Serve (string_bytes file) leap tuning (serving given)
 command_line (line.Tell at secret order) = Tell (door at) (option_map string_bytes secret) (string_bytes order)
-command_line (line.AtServer at secret asked) = AtServer (door at) (option_map string_bytes secret) asked

@@ -3,11 +3,7 @@ use Rattle.std.specs.Prelude.{ℕ, ◌^◌, ◌&&◌, nat_lt, Option, Some, None
 use Rattle.std.specs.Str.Parse.{digits_value, without_leading_plus}
 use Rattle.clap.specs.Words.{Text}
 use Rattle.clap.specs.ValueTests.{is_numeral}
-
-infixl 10 ◌>>=◌
-abbrev pub ◌>>=◌ : {A B : Type 0} → Option A → (A → Option B) → Option B
-None >>= f = None
-(Some a) >>= f = f a
+pub use Rattle.bh_event.specs.Given.{◌>>=◌}
 
 -- the decimal digits of a number of some bits, with an optional plus
 abbrev pub number_of : ℕ → Text → Option ℕ

@@ -3,6 +3,8 @@ use Rattle.std.specs.Prelude.{ℕ, ◌-◌, ◌*◌, ◌^◌, [], ◌∷◌, cod
 use Rattle.clap.specs.Words.{Rule, Text, new_rule}
 use Rattle.clap.specs.declared.builder.action.ArgAction.TheVariants.{SetTrue}
 use Rattle.clap.specs.declared.builder.value_parser.ValueParser.TheVariants.{Unsigned}
+use Rattle.bh_event.specs.declared.name.Field.{Field}
+use Rattle.bh_event.specs.declared.name.Field.TheVariants as field
 use Rattle.bh_types.specs.Limits.{default_limits, default_tuning}
 use Rattle.bh_words.specs.declared.options.OptionName.{OptionName}
 use Rattle.bh_words.specs.declared.options.OptionName.TheVariants.{File, HostFile, To, From, Tenant, Name, Secret, Quota, WithObjects, At}
@@ -46,6 +48,16 @@ word OperatorSocket = codes "operator-socket"
 word OperatorSecretFile = codes "operator-secret-file"
 word SecretFile = codes "secret-file"
 word Order = codes "LINE"
+
+-- the option that gives a field's value
+abbrev pub option_of : Field → OptionName
+option_of field.Tenant = Tenant
+option_of field.Quota = Quota
+option_of field.WithObjects = WithObjects
+option_of field.Name = Name
+option_of field.Secret = Secret
+option_of field.Limit = Limit
+option_of field.To = To
 
 abbrev pub described : OptionName → Rule
 described o = record (new_rule (word o)) { long = Some (word o) }

@@ -1,37 +1,29 @@
 -- A command line's meaning, by its matches.
-use Rattle.std.specs.Prelude.{◌≡◌, ℕ, Bool, false, ◌/◌, ◌^◌, ◌&&◌, List, codes, find, min, nat_le, unwrap_or}
-use Rattle.std.specs.Prelude.{Option, Some, None, Result, Ok, Err, if◌then◌else◌}
+use Rattle.std.specs.Prelude.{ℕ, Bool, false, ◌/◌, ◌^◌, ◌&&◌, List, codes, min, nat_le, unwrap_or}
+use Rattle.std.specs.Prelude.{Option, Some, None, if◌then◌else◌}
 use Rattle.std.specs.Option.{option_map_or}
 use Rattle.std.specs.Str.{bytes_eq}
 use Rattle.clap.specs.Words.{Kinds, Row, Text, fault_of, first_of, found_of, rows_of, subcommand_of}
 use Rattle.clap.specs.declared.parser.matches.ArgMatches.{ArgMatches}
+use Rattle.bh_event.specs.Given.{Given}
+use Rattle.bh_event.specs.Orders.{instruction_by}
+use Rattle.bh_event.specs.declared.name.OrderName.{OrderName}
 use Rattle.bh_types.specs.Limits.{HostLimits, HostTuning}
 use Rattle.bh_types.specs.declared.block_digest.BlockDigest.{BlockDigest}
 use Rattle.bh_types.specs.declared.block_digest.BlockDigest.TheVariants.{Sha256, Fast}
-use Rattle.bh_words.specs.Commands.{subcommands, the_command}
-use Rattle.bh_words.specs.Commands as commands
-use Rattle.bh_words.specs.Lines.{Secret, Written, FromInput, OperatorOrder, CommandLine}
+use Rattle.bh_words.specs.Commands.{subcommand_named, the_command}
+use Rattle.bh_words.specs.Lines.{CommandLine}
 use Rattle.bh_words.specs.Lines as line
 pub use Rattle.bh_words.specs.Numbers.{◌>>=◌, number_of}
-use Rattle.bh_words.specs.Options.{word}
+use Rattle.bh_words.specs.Options.{option_of, word}
 use Rattle.bh_words.specs.Sizes.{sized}
-use Rattle.bh_words.specs.declared.given.GivenError.{GivenError}
-use Rattle.bh_words.specs.declared.given.GivenError.TheVariants.{NotGiven, OutOfMemory}
 use Rattle.bh_words.specs.declared.lines.ClockTyped.{ClockTyped}
 use Rattle.bh_words.specs.declared.lines.Leap.{Leap}
 use Rattle.bh_words.specs.declared.lines.Leap.TheVariants.{Days, Any}
-use Rattle.bh_words.specs.declared.lines.ServerAsked.{ServerAsked}
-use Rattle.bh_words.specs.declared.lines.ServerAsked.TheVariants.{Stop, Health, Metrics, ClockAccept}
 use Rattle.bh_words.specs.declared.options.OptionName.{OptionName}
 use Rattle.bh_words.specs.declared.options.OptionName.TheVariants as option
 use Rattle.bh_words.specs.declared.subcommands.Subcommand.{Subcommand}
 use Rattle.bh_words.specs.declared.subcommands.Subcommand.TheVariants as subcommand
-
--- the result, through view, is the answer, unless memory ran out
-abbrev pub Gives : {X Y : Type 0} → (X → Y) → Result X GivenError → Option Y → Type 0
-Gives view (Ok x) answer = answer ≡ Some (view x)
-Gives view (Err NotGiven) answer = answer ≡ None
-Gives view (Err OutOfMemory) answer = Unit {0}
 
 -- the values found for the options of a subcommand
 abbrev pub rows_in : ArgMatches → List Row
@@ -49,14 +41,13 @@ number_at bits o rows = text_at o rows >>= number_of bits
 abbrev pub is_given : OptionName → List Row → Bool
 is_given o rows = option_map_or (λ text. bytes_eq text (codes "true")) (text_at o rows) false
 
--- `-` means standard input
-abbrev pub secret_of : Text → Secret
-secret_of text = if bytes_eq text (codes "-") then FromInput else Written text
-
-abbrev pub secret_at : List Row → Option Secret
-secret_at rows = do
-  text ← text_at option.Secret rows
-  Some (secret_of text)
+-- as the values of an order's fields; an option without a value is always a choice
+abbrev pub given_at : List Row → Given
+given_at rows = record {
+  text = λ field. text_at (option_of field) rows;
+  number = λ field. number_at 64 (option_of field) rows;
+  choice = λ field. Some (is_given (option_of field) rows);
+}
 
 -- a port's number and a socket's path, as far as they are given
 abbrev pub door_at : OptionName → OptionName → List Row → line.Door
@@ -161,72 +152,16 @@ init rows = do
   digest ← digest_at rows
   Some (line.Init file limits digest)
 
-abbrev pub tenant_add : List Row → Option OperatorOrder
-tenant_add rows = do
-  tenant ← text_at option.Tenant rows
-  quota ← number_at 64 option.Quota rows
-  Some (line.TenantAdd tenant quota)
-
-abbrev pub quota : List Row → Option OperatorOrder
-quota rows = do
-  tenant ← text_at option.Tenant rows
-  quota ← number_at 64 option.Quota rows
-  Some (line.Quota tenant quota)
-
-abbrev pub tenant_remove : List Row → Option OperatorOrder
-tenant_remove rows = do
-  tenant ← text_at option.Tenant rows
-  Some (line.TenantRemove tenant (is_given option.WithObjects rows))
-
-abbrev pub key_add : List Row → Option OperatorOrder
-key_add rows = do
-  tenant ← text_at option.Tenant rows
-  name ← text_at option.Name rows
-  secret ← secret_at rows
-  Some (line.KeyAdd tenant name secret)
-
-abbrev pub key_remove : List Row → Option OperatorOrder
-key_remove rows = do
-  tenant ← text_at option.Tenant rows
-  name ← text_at option.Name rows
-  Some (line.KeyRemove tenant name)
-
-abbrev pub keys : List Row → Option OperatorOrder
-keys rows = do
-  tenant ← text_at option.Tenant rows
-  Some (line.Keys tenant)
-
-abbrev pub usage : List Row → Option OperatorOrder
-usage rows = do
-  tenant ← text_at option.Tenant rows
-  Some (line.Usage tenant)
-
-abbrev pub tenants : List Row → Option OperatorOrder
-tenants rows = Some line.Tenants
-
-abbrev pub report : List Row → Option OperatorOrder
-report rows = Some line.Report
-
-abbrev pub sweep : List Row → Option OperatorOrder
-sweep rows = do
-  limit ← number_at 32 option.Limit rows
-  Some (line.Sweep limit)
-
 -- an order with its place and clock
-abbrev pub ordered : (List Row → Option OperatorOrder) → List Row → Option CommandLine
-ordered order rows = do
-  asked ← order rows
-  Some (line.Order (place_at rows) (clock_at rows) asked)
+abbrev pub ask : OrderName → List Row → Option CommandLine
+ask name rows = do
+  order ← instruction_by name (given_at rows)
+  Some (line.Ask (place_at rows) (clock_at rows) order)
 
 abbrev pub check : List Row → Option CommandLine
 check rows = do
   file ← text_at option.File rows
   Some (line.Check file)
-
-abbrev pub backup : List Row → Option CommandLine
-backup rows = do
-  to ← text_at option.To rows
-  Some (line.Backup (place_at rows) to)
 
 abbrev pub export : List Row → Option CommandLine
 export rows = do
@@ -253,37 +188,15 @@ tell rows = do
   order ← text_at option.Order rows
   Some (line.Tell (door_at option.Port option.Socket rows) (text_at option.SecretFile rows) order)
 
--- what is asked of the server at an operators' door
-abbrev pub at_server : ServerAsked → List Row → Option CommandLine
-at_server asked rows =
-    Some (line.AtServer (door_at option.OperatorPort option.OperatorSocket rows) (text_at option.OperatorSecretFile rows) asked)
-
 abbrev pub line_at : Subcommand → List Row → Option CommandLine
 line_at subcommand.Script = script
 line_at subcommand.Init = init
-line_at subcommand.TenantAdd = ordered tenant_add
-line_at subcommand.Quota = ordered quota
-line_at subcommand.TenantRemove = ordered tenant_remove
-line_at subcommand.KeyAdd = ordered key_add
-line_at subcommand.KeyRemove = ordered key_remove
-line_at subcommand.Keys = ordered keys
-line_at subcommand.Usage = ordered usage
-line_at subcommand.Tenants = ordered tenants
-line_at subcommand.Report = ordered report
+line_at (subcommand.Order name) = ask name
 line_at subcommand.Check = check
-line_at subcommand.Sweep = ordered sweep
-line_at subcommand.Backup = backup
 line_at subcommand.Export = export
 line_at subcommand.Import = import_
 line_at subcommand.Serve = serve
 line_at subcommand.Tell = tell
-line_at subcommand.Stop = at_server Stop
-line_at subcommand.Health = at_server Health
-line_at subcommand.Metrics = at_server Metrics
-line_at subcommand.ClockAccept = at_server ClockAccept
-
-abbrev pub subcommand_named : Text → Option Subcommand
-subcommand_named name = find (λ s. bytes_eq (commands.word s) name) subcommands
 
 -- the line of a subcommand's name and matches
 abbrev pub line_in : Text × List Row → Option CommandLine

@@ -6,6 +6,7 @@ ghost use Rattle.bh_words.specs.Commands as spec;
 
 use crate::options::OptionName;
 use crate::subcommands::Subcommand;
+use bh_event::name::OrderName;
 use clap::Command;
 use std::alloc::{AllocError, Global};
 
@@ -41,26 +42,26 @@ fn with_subcommands<'a>(
 static SUBCOMMANDS: [Subcommand; 22] = [
     Subcommand::Script,
     Subcommand::Init,
-    Subcommand::TenantAdd,
-    Subcommand::Quota,
-    Subcommand::TenantRemove,
-    Subcommand::KeyAdd,
-    Subcommand::KeyRemove,
-    Subcommand::Keys,
-    Subcommand::Usage,
-    Subcommand::Tenants,
-    Subcommand::Report,
+    Subcommand::Order(OrderName::TenantAdd),
+    Subcommand::Order(OrderName::Quota),
+    Subcommand::Order(OrderName::TenantRemove),
+    Subcommand::Order(OrderName::KeyAdd),
+    Subcommand::Order(OrderName::KeyRemove),
+    Subcommand::Order(OrderName::Keys),
+    Subcommand::Order(OrderName::Usage),
+    Subcommand::Order(OrderName::Tenants),
+    Subcommand::Order(OrderName::Report),
     Subcommand::Check,
-    Subcommand::Sweep,
-    Subcommand::Backup,
+    Subcommand::Order(OrderName::Sweep),
+    Subcommand::Order(OrderName::Backup),
     Subcommand::Export,
     Subcommand::Import,
     Subcommand::Serve,
     Subcommand::Tell,
-    Subcommand::Stop,
-    Subcommand::Health,
-    Subcommand::Metrics,
-    Subcommand::ClockAccept,
+    Subcommand::Order(OrderName::Stop),
+    Subcommand::Order(OrderName::Health),
+    Subcommand::Order(OrderName::Metrics),
+    Subcommand::Order(OrderName::ClockAccept),
 ];
 
 fn subcommand_command<'a>(alloc: Global, subcommand: Subcommand) -> Result<Command<'a>, AllocError>
@@ -68,7 +69,8 @@ fn subcommand_command<'a>(alloc: Global, subcommand: Subcommand) -> Result<Comma
     ensures local { IfOk result (λ c. (fields_of c).has_globals ≡ false) }
 {
     let bare = Command::new(alloc, subcommand.word()).about(subcommand.about());
-    with_options(alloc, bare, subcommand.options())
+    let options = subcommand.options(alloc)?;
+    with_options(alloc, bare, options.as_slice())
 }
 
 fn with_options<'a>(

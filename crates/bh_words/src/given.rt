@@ -1,33 +1,38 @@
 //! The values that `clap` found for the options of a subcommand.
-ghost use Rattle.std.specs.Prelude.{◌≡◌, Some, IfOk, option_map};
+ghost use Rattle.std.specs.Prelude.{◌≡◌, Some, option_map};
 ghost use Rattle.std.specs.String.{string_bytes};
+ghost use Rattle.bh_event.specs.Given.{Gives};
 ghost use Rattle.bh_words.specs.Lines as lines;
 ghost use Rattle.bh_words.specs.Readings as spec;
 
-use crate::lines::{ClockTyped, DoorGiven, DoorsGiven, Leap, PlaceGiven, SecretGiven, ServeGiven};
-use crate::options::OptionName;
+use crate::lines::{ClockTyped, DoorGiven, DoorsGiven, Leap, PlaceGiven, ServeGiven};
+use crate::options::{OptionName, option_of};
+use bh_event::given::{Fields, GivenError, needed};
+use bh_event::name::Field;
 use bh_types::block_digest::BlockDigest;
 use bh_types::limits::{GREATEST_CACHE_BLOCKS, Limits, Tuning};
 use clap::ArgMatches;
-use std::alloc::{AllocError, Global};
+use std::alloc::Global;
 
-/// Why an option has no value.
-#[derive(Clone, Copy)]
-pub(crate) enum GivenError {
-    /// The value is missing or out of its range.
-    NotGiven,
-    /// Memory ran out.
-    OutOfMemory,
-}
+/// The values of a subcommand's options, as those of an order's fields.
+#[derive(Drop)]
+pub(crate) struct Typed<'a, 'b>(pub(crate) &'b ArgMatches<'a>);
 
-impl From<AllocError> for GivenError {
-    ghost use Rattle.std.specs.Prelude.{◌≡◌};
-    ghost use Rattle.bh_words.specs.declared.given.GivenError.TheVariants.{OutOfMemory};
+impl<'a, 'b> Fields for Typed<'a, 'b> {
+    ghost use Rattle.bh_words.specs.Readings.{given_at, rows_in};
 
-    ghost from_gives = { λ _ e. e ≡ OutOfMemory };
+    ghost given = { λ typed. given_at (rows_in typed.0.now) };
 
-    fn from(_error: AllocError) -> GivenError {
-        GivenError::OutOfMemory
+    fn text(&self, field: Field) -> Option<&str> {
+        written(self.0, option_of(field))
+    }
+
+    fn number(&self, field: Field) -> Option<u64> {
+        number(self.0, option_of(field))
+    }
+
+    fn choice(&self, field: Field) -> Option<bool> {
+        Some(is_given(self.0, option_of(field)))
     }
 }
 
@@ -45,7 +50,7 @@ pub(crate) fn text(
     given: &ArgMatches<'_>,
     option: OptionName,
 ) -> Result<String, GivenError>
-    ensures { spec.Gives string_bytes result (spec.text_at option (spec.rows_in given.now)) }
+    ensures { Gives string_bytes result (spec.text_at option (spec.rows_in given.now)) }
 {
     match written(given, option) {
         Some(text) => Ok(String::from_str(alloc, text)?),
@@ -59,7 +64,7 @@ pub(crate) fn text_if_given(
     given: &ArgMatches<'_>,
     option: OptionName,
 ) -> Result<Option<String>, GivenError>
-    ensures { spec.Gives (option_map string_bytes) result (Some (spec.text_at option (spec.rows_in given.now))) }
+    ensures { Gives (option_map string_bytes) result (Some (spec.text_at option (spec.rows_in given.now))) }
 {
     match written(given, option) {
         Some(text) => Ok(Some(String::from_str(alloc, text)?)),
@@ -67,27 +72,8 @@ pub(crate) fn text_if_given(
     }
 }
 
-/// The secret of a key.
-pub(crate) fn secret(alloc: Global, given: &ArgMatches<'_>) -> Result<SecretGiven, GivenError>
-    ensures { spec.Gives lines.secret result (spec.secret_at (spec.rows_in given.now)) }
-{
-    match written(given, OptionName::Secret) {
-        Some(text) => Ok(secret_of(alloc, text)?),
-        None => Err(GivenError::NotGiven),
-    }
-}
-
-fn secret_of(alloc: Global, text: &str) -> Result<SecretGiven, AllocError>
-    ensures { IfOk result (λ secret. lines.secret secret ≡ spec.secret_of text.now) }
-{
-    if text == "-" {
-        return Ok(SecretGiven::StandardInput);
-    }
-    Ok(SecretGiven::Word(String::from_str(alloc, text)?))
-}
-
 /// The number of an option, if it has one.
-pub(crate) fn number(given: &ArgMatches<'_>, option: OptionName) -> Option<u64>
+fn number(given: &ArgMatches<'_>, option: OptionName) -> Option<u64>
     ensures { result ≡ spec.number_at 64 option (spec.rows_in given.now) }
 {
     match written(given, option) {
@@ -105,7 +91,7 @@ pub(crate) fn number_of(text: &str) -> Option<u64>
 }
 
 /// Whether an option without a value was given.
-pub(crate) fn is_given(given: &ArgMatches<'_>, option: OptionName) -> bool
+fn is_given(given: &ArgMatches<'_>, option: OptionName) -> bool
     ensures { result ≡ spec.is_given option (spec.rows_in given.now) }
 {
     match written(given, option) {
@@ -134,7 +120,7 @@ pub(crate) fn clock(given: &ArgMatches<'_>) -> ClockTyped
 
 /// Where an order is carried out.
 pub(crate) fn place(alloc: Global, given: &ArgMatches<'_>) -> Result<PlaceGiven, GivenError>
-    ensures { spec.Gives lines.place result (Some (spec.place_at (spec.rows_in given.now))) }
+    ensures { Gives lines.place result (Some (spec.place_at (spec.rows_in given.now))) }
 {
     Ok(PlaceGiven {
         file: text_if_given(alloc, given, OptionName::HostFile)?,
@@ -149,7 +135,7 @@ pub(crate) fn place(alloc: Global, given: &ArgMatches<'_>) -> Result<PlaceGiven,
 }
 
 /// The 32-bit number of an option, if it has one.
-pub(crate) fn small_number(given: &ArgMatches<'_>, option: OptionName) -> Option<u32>
+fn small_number(given: &ArgMatches<'_>, option: OptionName) -> Option<u32>
     ensures { result ≡ spec.number_at 32 option (spec.rows_in given.now) }
 {
     match written(given, option) {
@@ -190,7 +176,7 @@ pub(crate) fn door(
     port_option: OptionName,
     socket_option: OptionName,
 ) -> Result<DoorGiven, GivenError>
-    ensures { spec.Gives lines.door result (Some (spec.door_at port_option socket_option (spec.rows_in given.now))) }
+    ensures { Gives lines.door result (Some (spec.door_at port_option socket_option (spec.rows_in given.now))) }
 {
     let socket = text_if_given(alloc, given, socket_option)?;
     Ok(DoorGiven {
@@ -201,7 +187,7 @@ pub(crate) fn door(
 
 /// Where a server listens for clients and for operators.
 fn doors(alloc: Global, given: &ArgMatches<'_>) -> Result<DoorsGiven, GivenError>
-    ensures { spec.Gives lines.doors result (Some (spec.doors_at (spec.rows_in given.now))) }
+    ensures { Gives lines.doors result (Some (spec.doors_at (spec.rows_in given.now))) }
 {
     Ok(DoorsGiven {
         clients: door(alloc, given, OptionName::Port, OptionName::Socket)?,
@@ -219,7 +205,7 @@ fn doors(alloc: Global, given: &ArgMatches<'_>) -> Result<DoorsGiven, GivenError
 /// How a host is served.
 #[tactic(auto, unfolding(crate::specs::Readings::serving_at))]
 pub(crate) fn serving(alloc: Global, given: &ArgMatches<'_>) -> Result<ServeGiven, GivenError>
-    ensures { spec.Gives lines.serving result (spec.serving_at (spec.rows_in given.now)) }
+    ensures { Gives lines.serving result (spec.serving_at (spec.rows_in given.now)) }
 {
     let timeout = needed(number(given, OptionName::Timeout))?;
     let connections = needed(small_number(given, OptionName::Connections))?;
@@ -311,14 +297,4 @@ fn digest_of(text: &str) -> Option<BlockDigest>
         return Some(BlockDigest::Fast);
     }
     None
-}
-
-/// The value, or `NotGiven` if there is none.
-pub(crate) fn needed<T>(value: Option<T>) -> Result<T, GivenError>
-    ensures { spec.Gives (λ x. x) result value }
-{
-    match value {
-        Some(value) => Ok(value),
-        None => Err(GivenError::NotGiven),
-    }
 }

@@ -14,7 +14,6 @@ mod subcommands;
 pub use fault::LineFault;
 pub use given::port_of;
 pub use lines::{
-    ClockGiven, ClockTyped, DoorGiven, DoorsGiven, Leap, Line, OrderGiven, PlaceGiven, SecretGiven,
-    ServeGiven, ServerAsked,
+    ClockGiven, ClockTyped, DoorGiven, DoorsGiven, Leap, Line, PlaceGiven, ServeGiven,
 };
 pub use read::read_words;

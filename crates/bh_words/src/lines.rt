@@ -1,17 +1,9 @@
 ghost use Rattle.std.specs.Prelude.{◌≡◌};
 ghost use Rattle.bh_words.specs.Readings.{leap_of};
 
+use bh_event::order::Order;
 use bh_types::block_digest::BlockDigest;
 use bh_types::limits::{Limits, Tuning};
-
-/// The source of an access key's secret.
-#[derive(Drop)]
-pub enum SecretGiven {
-    /// The word itself.
-    Word(String),
-    /// The first line of standard input: the word was `-`.
-    StandardInput,
-}
 
 /// How far ahead of the host's last stamp a clock may be.
 #[derive(Clone, Copy)]
@@ -98,67 +90,6 @@ pub struct PlaceGiven {
     pub secret_file: Option<String>,
 }
 
-/// What an operator asks of a running server, and not of its host.
-#[derive(Clone, Copy)]
-pub enum ServerAsked {
-    /// To end.
-    Stop,
-    /// Whether it serves requests.
-    Health,
-    /// What it has counted since its start.
-    Metrics,
-    /// To take the clock's present reading as right.
-    ClockAccept,
-}
-
-/// An operator's order. Names, secrets and quotas are unchecked: the host checks their ranges.
-#[derive(Drop)]
-pub enum OrderGiven {
-    /// Adds a tenant with a quota in bytes.
-    TenantAdd {
-        tenant: String,
-        quota: u64,
-    },
-    /// Sets a tenant's quota, in bytes.
-    Quota {
-        tenant: String,
-        quota: u64,
-    },
-    /// Removes a tenant.
-    TenantRemove {
-        tenant: String,
-        /// Whether its buckets go with it; else it is refused while it has one.
-        with_objects: bool,
-    },
-    /// Adds an access key to a tenant.
-    KeyAdd {
-        tenant: String,
-        name: String,
-        secret: SecretGiven,
-    },
-    /// Removes a tenant's access key.
-    KeyRemove {
-        tenant: String,
-        name: String,
-    },
-    /// Lists a tenant's access keys.
-    Keys {
-        tenant: String,
-    },
-    /// Prints how many bytes a tenant uses.
-    Usage {
-        tenant: String,
-    },
-    /// Lists all tenants, with the bytes that each uses.
-    Tenants,
-    /// Counts the stored blocks and the references to them.
-    Report,
-    /// Removes at most `limit` stale uploads and unreferenced blocks.
-    Sweep {
-        limit: u32,
-    },
-}
-
 /// A parsed command line: a subcommand and its options.
 ///
 /// A `digest` is `None` if no function has the given name.
@@ -176,20 +107,15 @@ pub enum Line {
         limits: Limits,
         digest: Option<BlockDigest>,
     },
-    /// Carries out an operator's order.
-    Order {
+    /// Carries out an operator's order. A key's secret `-` means the first line of standard input.
+    Ask {
         place: PlaceGiven,
         clock: ClockTyped,
-        order: OrderGiven,
+        order: Order,
     },
     /// Checks that the file's host is sound.
     Check {
         file: String,
-    },
-    /// Copies a host to a new file, `to`.
-    Backup {
-        place: PlaceGiven,
-        to: String,
     },
     /// Copies a tenant, with all its contents, to a new host in a new file, `to`.
     Export {
@@ -217,12 +143,5 @@ pub enum Line {
         door: DoorGiven,
         secret_file: Option<String>,
         order: String,
-    },
-    /// Asks something of a running server, at its operators' door, after the secret in a file if one
-    /// is named.
-    AtServer {
-        door: DoorGiven,
-        secret_file: Option<String>,
-        asked: ServerAsked,
     },
 }

@@ -3,6 +3,7 @@ ghost use Rattle.std.specs.Prelude.{◌≡◌, false};
 ghost use Rattle.clap.specs.Words.{rule_of};
 ghost use Rattle.bh_words.specs.Options as spec;
 
+use bh_event::name::Field;
 use clap::builder::ValueParser;
 use clap::{Arg, ArgAction};
 use std::alloc::Global;
@@ -43,6 +44,21 @@ pub(crate) enum OptionName {
     OperatorSecretFile,
     SecretFile,
     Order,
+}
+
+/// The option that gives the value of a field.
+pub(crate) fn option_of(field: Field) -> OptionName
+    ensures { result ≡ spec.option_of field }
+{
+    match field {
+        Field::Tenant => OptionName::Tenant,
+        Field::Quota => OptionName::Quota,
+        Field::WithObjects => OptionName::WithObjects,
+        Field::Name => OptionName::Name,
+        Field::Secret => OptionName::Secret,
+        Field::Limit => OptionName::Limit,
+        Field::To => OptionName::To,
+    }
 }
 
 impl OptionName {

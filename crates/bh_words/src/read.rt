@@ -1,16 +1,17 @@
 ghost use Rattle.std.specs.Prelude.{◌≡◌, [], IfOk, IfErr, Some, map};
 ghost use Rattle.std.specs.String.{string_bytes};
 ghost use Rattle.clap.specs.Words.{FailsBy, HasKind, fault_of, subcommand_of, subcommand_rows_of};
+ghost use Rattle.bh_event.specs.Given.{Gives};
 ghost use Rattle.bh_words.specs.Commands.{the_command};
 ghost use Rattle.bh_words.specs.Lines.{command_line};
 ghost use Rattle.bh_words.specs.Readings as spec;
 
 use crate::command::the_command;
 use crate::fault::LineFault;
-use crate::given::GivenError;
 use crate::lines::Line;
 use crate::readings::line_in;
 use crate::sizes::sized;
+use bh_event::given::GivenError;
 use clap::{ArgMatches, Error};
 use std::alloc::{AllocError, Global};
 
@@ -46,7 +47,7 @@ fn matches_of<'a>(alloc: Global, words: &'a [String]) -> Result<ArgMatches<'a>, 
 // The line of the matched subcommand.
 #[tactic(auto, using(crate::proofs::Rows::rows_met))]
 fn line_of(alloc: Global, matches: &ArgMatches<'_>) -> Result<Line, GivenError>
-    ensures { spec.Gives command_line result (spec.line_of (subcommand_rows_of matches.now)) }
+    ensures { Gives command_line result (spec.line_of (subcommand_rows_of matches.now)) }
 {
     match matches.subcommand() {
         Some((name, given)) => line_in(alloc, name, given),

@@ -1,22 +1,23 @@
 //! Each subcommand's line, from its values.
-ghost use Rattle.std.specs.Prelude.{Some};
-ghost use Rattle.bh_words.specs.Lines.{command_line, order};
-ghost use Rattle.bh_words.specs.Lines as lines;
+ghost use Rattle.bh_event.specs.Given.{Gives};
+ghost use Rattle.bh_words.specs.Lines.{command_line};
 ghost use Rattle.bh_words.specs.Readings as spec;
 
 use crate::given::{
-    GivenError, clock, digest, door, is_given, leap, limits, needed, number, place, secret,
-    serving, small_number, text, text_if_given, tuning,
+    Typed, clock, digest, door, leap, limits, place, serving, text, text_if_given, tuning,
 };
-use crate::lines::{Line, OrderGiven, ServerAsked};
+use crate::lines::Line;
 use crate::options::OptionName;
 use crate::subcommands::Subcommand;
+use bh_event::given::{GivenError, needed};
+use bh_event::name::OrderName;
+use bh_event::order::order_by;
 use clap::ArgMatches;
 use std::alloc::Global;
 
 /// The line of a subcommand, by its name and values.
 pub(crate) fn line_in(alloc: Global, name: &str, given: &ArgMatches<'_>) -> Result<Line, GivenError>
-    ensures { spec.Gives command_line result (spec.line_in (name.now, spec.rows_in given.now)) }
+    ensures { Gives command_line result (spec.line_in (name.now, spec.rows_in given.now)) }
 {
     let subcommand = needed(Subcommand::named(name))?;
     line_of(alloc, subcommand, given)
@@ -27,36 +28,22 @@ fn line_of(
     subcommand: Subcommand,
     given: &ArgMatches<'_>,
 ) -> Result<Line, GivenError>
-    ensures { spec.Gives command_line result (spec.line_at subcommand (spec.rows_in given.now)) }
+    ensures { Gives command_line result (spec.line_at subcommand (spec.rows_in given.now)) }
 {
     match subcommand {
         Subcommand::Script => script(given),
         Subcommand::Init => init(alloc, given),
-        Subcommand::TenantAdd => ordered(alloc, given, tenant_add(alloc, given)?),
-        Subcommand::Quota => ordered(alloc, given, quota(alloc, given)?),
-        Subcommand::TenantRemove => ordered(alloc, given, tenant_remove(alloc, given)?),
-        Subcommand::KeyAdd => ordered(alloc, given, key_add(alloc, given)?),
-        Subcommand::KeyRemove => ordered(alloc, given, key_remove(alloc, given)?),
-        Subcommand::Keys => ordered(alloc, given, keys(alloc, given)?),
-        Subcommand::Usage => ordered(alloc, given, usage(alloc, given)?),
-        Subcommand::Tenants => ordered(alloc, given, OrderGiven::Tenants),
-        Subcommand::Report => ordered(alloc, given, OrderGiven::Report),
+        Subcommand::Order(name) => ask(alloc, given, name),
         Subcommand::Check => check(alloc, given),
-        Subcommand::Sweep => ordered(alloc, given, sweep(given)?),
-        Subcommand::Backup => backup(alloc, given),
         Subcommand::Export => export(alloc, given),
         Subcommand::Import => import(alloc, given),
         Subcommand::Serve => serve(alloc, given),
         Subcommand::Tell => tell(alloc, given),
-        Subcommand::Stop => at_server(alloc, given, ServerAsked::Stop),
-        Subcommand::Health => at_server(alloc, given, ServerAsked::Health),
-        Subcommand::Metrics => at_server(alloc, given, ServerAsked::Metrics),
-        Subcommand::ClockAccept => at_server(alloc, given, ServerAsked::ClockAccept),
     }
 }
 
 fn script(given: &ArgMatches<'_>) -> Result<Line, GivenError>
-    ensures { spec.Gives command_line result (spec.script (spec.rows_in given.now)) }
+    ensures { Gives command_line result (spec.script (spec.rows_in given.now)) }
 {
     let limits = needed(limits(given))?;
     let tuning = needed(tuning(given))?;
@@ -69,7 +56,7 @@ fn script(given: &ArgMatches<'_>) -> Result<Line, GivenError>
 }
 
 fn init(alloc: Global, given: &ArgMatches<'_>) -> Result<Line, GivenError>
-    ensures { spec.Gives command_line result (spec.init (spec.rows_in given.now)) }
+    ensures { Gives command_line result (spec.init (spec.rows_in given.now)) }
 {
     let file = text(alloc, given, OptionName::File)?;
     let limits = needed(limits(given))?;
@@ -81,81 +68,12 @@ fn init(alloc: Global, given: &ArgMatches<'_>) -> Result<Line, GivenError>
     })
 }
 
-fn tenant_add(alloc: Global, given: &ArgMatches<'_>) -> Result<OrderGiven, GivenError>
-    ensures { spec.Gives order result (spec.tenant_add (spec.rows_in given.now)) }
+/// An order, with where it is carried out and by which clock.
+fn ask(alloc: Global, given: &ArgMatches<'_>, name: OrderName) -> Result<Line, GivenError>
+    ensures { Gives command_line result (spec.ask name (spec.rows_in given.now)) }
 {
-    let tenant = text(alloc, given, OptionName::Tenant)?;
-    let quota = needed(number(given, OptionName::Quota))?;
-    Ok(OrderGiven::TenantAdd { tenant, quota })
-}
-
-fn quota(alloc: Global, given: &ArgMatches<'_>) -> Result<OrderGiven, GivenError>
-    ensures { spec.Gives order result (spec.quota (spec.rows_in given.now)) }
-{
-    let tenant = text(alloc, given, OptionName::Tenant)?;
-    let quota = needed(number(given, OptionName::Quota))?;
-    Ok(OrderGiven::Quota { tenant, quota })
-}
-
-fn tenant_remove(alloc: Global, given: &ArgMatches<'_>) -> Result<OrderGiven, GivenError>
-    ensures { spec.Gives order result (spec.tenant_remove (spec.rows_in given.now)) }
-{
-    let tenant = text(alloc, given, OptionName::Tenant)?;
-    let with_objects = is_given(given, OptionName::WithObjects);
-    Ok(OrderGiven::TenantRemove {
-        tenant,
-        with_objects,
-    })
-}
-
-fn key_add(alloc: Global, given: &ArgMatches<'_>) -> Result<OrderGiven, GivenError>
-    ensures { spec.Gives order result (spec.key_add (spec.rows_in given.now)) }
-{
-    let tenant = text(alloc, given, OptionName::Tenant)?;
-    let name = text(alloc, given, OptionName::Name)?;
-    let secret = secret(alloc, given)?;
-    Ok(OrderGiven::KeyAdd {
-        tenant,
-        name,
-        secret,
-    })
-}
-
-fn key_remove(alloc: Global, given: &ArgMatches<'_>) -> Result<OrderGiven, GivenError>
-    ensures { spec.Gives order result (spec.key_remove (spec.rows_in given.now)) }
-{
-    let tenant = text(alloc, given, OptionName::Tenant)?;
-    let name = text(alloc, given, OptionName::Name)?;
-    Ok(OrderGiven::KeyRemove { tenant, name })
-}
-
-fn keys(alloc: Global, given: &ArgMatches<'_>) -> Result<OrderGiven, GivenError>
-    ensures { spec.Gives order result (spec.keys (spec.rows_in given.now)) }
-{
-    let tenant = text(alloc, given, OptionName::Tenant)?;
-    Ok(OrderGiven::Keys { tenant })
-}
-
-fn usage(alloc: Global, given: &ArgMatches<'_>) -> Result<OrderGiven, GivenError>
-    ensures { spec.Gives order result (spec.usage (spec.rows_in given.now)) }
-{
-    let tenant = text(alloc, given, OptionName::Tenant)?;
-    Ok(OrderGiven::Usage { tenant })
-}
-
-fn sweep(given: &ArgMatches<'_>) -> Result<OrderGiven, GivenError>
-    ensures { spec.Gives order result (spec.sweep (spec.rows_in given.now)) }
-{
-    let limit = needed(small_number(given, OptionName::Limit))?;
-    Ok(OrderGiven::Sweep { limit })
-}
-
-/// An order with its place and clock.
-fn ordered(alloc: Global, given: &ArgMatches<'_>, order: OrderGiven) -> Result<Line, GivenError>
-    ensures { spec.Gives command_line result
-        (Some (lines.Order (spec.place_at (spec.rows_in given.now)) (spec.clock_at (spec.rows_in given.now)) (lines.order order))) }
-{
-    Ok(Line::Order {
+    let order = order_by(alloc, name, &Typed(given))?;
+    Ok(Line::Ask {
         place: place(alloc, given)?,
         clock: clock(given),
         order,
@@ -163,22 +81,14 @@ fn ordered(alloc: Global, given: &ArgMatches<'_>, order: OrderGiven) -> Result<L
 }
 
 fn check(alloc: Global, given: &ArgMatches<'_>) -> Result<Line, GivenError>
-    ensures { spec.Gives command_line result (spec.check (spec.rows_in given.now)) }
+    ensures { Gives command_line result (spec.check (spec.rows_in given.now)) }
 {
     let file = text(alloc, given, OptionName::File)?;
     Ok(Line::Check { file })
 }
 
-fn backup(alloc: Global, given: &ArgMatches<'_>) -> Result<Line, GivenError>
-    ensures { spec.Gives command_line result (spec.backup (spec.rows_in given.now)) }
-{
-    let to = text(alloc, given, OptionName::To)?;
-    let place = place(alloc, given)?;
-    Ok(Line::Backup { place, to })
-}
-
 fn export(alloc: Global, given: &ArgMatches<'_>) -> Result<Line, GivenError>
-    ensures { spec.Gives command_line result (spec.export (spec.rows_in given.now)) }
+    ensures { Gives command_line result (spec.export (spec.rows_in given.now)) }
 {
     let file = text(alloc, given, OptionName::File)?;
     let tenant = text(alloc, given, OptionName::Tenant)?;
@@ -187,7 +97,7 @@ fn export(alloc: Global, given: &ArgMatches<'_>) -> Result<Line, GivenError>
 }
 
 fn import(alloc: Global, given: &ArgMatches<'_>) -> Result<Line, GivenError>
-    ensures { spec.Gives command_line result (spec.import_ (spec.rows_in given.now)) }
+    ensures { Gives command_line result (spec.import_ (spec.rows_in given.now)) }
 {
     let file = text(alloc, given, OptionName::File)?;
     let from = text(alloc, given, OptionName::From)?;
@@ -200,7 +110,7 @@ fn import(alloc: Global, given: &ArgMatches<'_>) -> Result<Line, GivenError>
 }
 
 fn serve(alloc: Global, given: &ArgMatches<'_>) -> Result<Line, GivenError>
-    ensures { spec.Gives command_line result (spec.serve (spec.rows_in given.now)) }
+    ensures { Gives command_line result (spec.serve (spec.rows_in given.now)) }
 {
     let file = text(alloc, given, OptionName::File)?;
     let leap = leap(given);
@@ -215,7 +125,7 @@ fn serve(alloc: Global, given: &ArgMatches<'_>) -> Result<Line, GivenError>
 }
 
 fn tell(alloc: Global, given: &ArgMatches<'_>) -> Result<Line, GivenError>
-    ensures { spec.Gives command_line result (spec.tell (spec.rows_in given.now)) }
+    ensures { Gives command_line result (spec.tell (spec.rows_in given.now)) }
 {
     let door = door(alloc, given, OptionName::Port, OptionName::Socket)?;
     let secret_file = text_if_given(alloc, given, OptionName::SecretFile)?;
@@ -224,23 +134,5 @@ fn tell(alloc: Global, given: &ArgMatches<'_>) -> Result<Line, GivenError>
         door,
         secret_file,
         order,
-    })
-}
-
-/// What is asked of the server at the operators' door.
-fn at_server(alloc: Global, given: &ArgMatches<'_>, asked: ServerAsked) -> Result<Line, GivenError>
-    ensures { spec.Gives command_line result (spec.at_server asked (spec.rows_in given.now)) }
-{
-    let door = door(
-        alloc,
-        given,
-        OptionName::OperatorPort,
-        OptionName::OperatorSocket,
-    )?;
-    let secret_file = text_if_given(alloc, given, OptionName::OperatorSecretFile)?;
-    Ok(Line::AtServer {
-        door,
-        secret_file,
-        asked,
     })
 }

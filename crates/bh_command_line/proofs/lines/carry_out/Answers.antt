@@ -1,12 +1,6 @@
-use Rattle.std.proofs.Common.{sym}
-use Rattle.bh_maintenance.proofs.Found.{nothing_is_sound}
+use Rattle.std.proofs.lemmas.Result.{IfOk-weaker}
 use Rattle.bh_command_line.proofs.lines.carry_out.Goals as goal
 
-pub carry_task-requires-clause-host : goal.carry_task-requires-clause-host
-carry_task-requires-clause-host c = nothing_is_sound
-
-pub carry_task-requires-clause-other : goal.carry_task-requires-clause-other
-carry_task-requires-clause-other c = nothing_is_sound
-
 pub returns : goal.returns
-returns c = (c.in_ok-environment.environment, rw (sym c.in_ok-task.ensures) c.in_ok-printed.ensures)
+returns c =
+    IfOk-weaker c.carry_line.result _ _ (λ printed done. (c.in_ok-line.line, c.in_ok-line.ensures.told.1, done)) c.carry_line.ensures

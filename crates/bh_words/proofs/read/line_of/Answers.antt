@@ -1,7 +1,8 @@
 use Rattle.std.proofs.Common.{Some, sym, subst}
 use Rattle.bh_words.proofs.Rows.{rows_met}
 use Rattle.bh_words.specs.Lines.{command_line}
-use Rattle.bh_words.specs.Readings.{Gives, line_of}
+use Rattle.bh_event.specs.Given.{Gives}
+use Rattle.bh_words.specs.Readings.{line_of}
 use Rattle.bh_words.proofs.read.line_of.Goals as goal
 
 pub returns-in-Some : goal.returns-in-Some

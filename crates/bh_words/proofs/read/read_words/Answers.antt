@@ -6,9 +6,10 @@ use Rattle.clap.specs.Words.{HasKind, Text, fault_of, subcommand_of, subcommand_
 use Rattle.bh_words.proofs.Whole.{told-taken}
 use Rattle.bh_words.specs.Commands.{the_command}
 use Rattle.bh_words.specs.Lines.{command_line}
-use Rattle.bh_words.specs.Readings.{Gives, faults_of, told_by, line_of}
+use Rattle.bh_event.specs.Given.{Gives}
+use Rattle.bh_words.specs.Readings.{faults_of, told_by, line_of}
 use Rattle.bh_words.specs.Sizes.{sized}
-use Rattle.bh_words.specs.declared.given.GivenError.{GivenError}
+use Rattle.bh_event.specs.declared.given.GivenError.{GivenError}
 use Rattle.bh_words.proofs.read.read_words.Goals as goal
 
 pub returns-in-Ok-clause-told : goal.returns-in-Ok-clause-told

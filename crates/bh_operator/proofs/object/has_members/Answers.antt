@@ -1,9 +1,0 @@
-use Rattle.std.proofs.Common.{ap, sym, ◌∙◌, option_map, unwrap_or, false, nat_eq}
-use Rattle.serde_json.specs.Events.{members_len}
-use Rattle.serde_json.proofs.Views.{members_len-members_view}
-use Rattle.bh_operator.proofs.object.has_members.Goals as goal
-
-pub returns-in-Some : goal.returns-in-Some
-returns-in-Some c =
-    ap (λ n. nat_eq n c.args.count) (c.len.ensures.len ∙ sym (members_len-members_view c.in-Some.members.now.entries))
-    ∙ ap (λ o. unwrap_or (option_map (λ ms. nat_eq (members_len ms) c.args.count) o) false) c.in-Some.ensures
