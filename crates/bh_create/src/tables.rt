@@ -2,7 +2,7 @@ ghost use Rattle.std.specs.Prelude.{◌≡◌, true, IfErr};
 ghost use Rattle.sqlite.specs.Held.{state};
 ghost use Rattle.bh_rows.specs.Means.{is_trouble};
 ghost use Rattle.bh_tables.specs.Schema.{no_schema, third_schema};
-ghost use Rattle.bh_tables.specs.Made.{with_uses_by_count, with_retains, with_tallies, with_placed, with_garbage};
+ghost use Rattle.bh_tables.specs.Made.{with_uses_by_count, with_retains, with_tallies, with_placed, with_garbage, with_unneeded};
 ghost use Rattle.bh_schema.specs.Layer.{IsIntact, IsStateClean};
 ghost use Rattle.bh_create.specs.Creation.{IsMaking, Makes};
 ghost use Rattle.bh_create.specs.Items.{before, after, IsTextOf, Lead};
@@ -36,6 +36,7 @@ enum Item {
     UploadNotes,
     Rights,
     Garbage,
+    Unneeded,
 }
 
 /// The tables and indexes of a host of version 1.
@@ -75,6 +76,10 @@ const RIGHTS: &str =
 
 const GARBAGE: &str =
     "CREATE TABLE garbage (id INTEGER PRIMARY KEY CHECK (id = 1), bytes INTEGER NOT NULL CHECK (bytes >= 0) CHECK (bytes <= 4611686018427387904)) STRICT";
+
+/// And of the one that version 5 added.
+const UNNEEDED: &str =
+    "CREATE TABLE unneeded (id INTEGER PRIMARY KEY CHECK (id = 1), bytes INTEGER NOT NULL CHECK (bytes >= 0) CHECK (bytes <= 4611686018427387904)) STRICT";
 
 impl Item {
     /// Its SQL.
@@ -121,6 +126,7 @@ impl Item {
             Item::UploadNotes => UPLOAD_NOTES,
             Item::Rights => RIGHTS,
             Item::Garbage => GARBAGE,
+            Item::Unneeded => UNNEEDED,
         }
     }
 }
@@ -191,8 +197,8 @@ fn create_pack_tables<S: Alter>(connection: &mut Connection<S>) -> Result<(), Er
     Ok(())
 }
 
-/// Creates the tables of a host and their indexes, without rows.
-pub fn create_tables<S: Alter>(connection: &mut Connection<S>) -> Result<(), Error>
+/// Creates the tables of a host of version 4 and their indexes, without rows.
+pub fn create_fourth_tables<S: Alter>(connection: &mut Connection<S>) -> Result<(), Error>
     requires { IsStateClean (state S.Store connection.old) → IsMaking no_schema (state S.Store connection.old) }
     ensures makes { Makes with_garbage (state S.Store connection.old) (state S.Store connection.new) result }
     ensures trouble { IfErr result (λ e. IsIntact (state S.Store connection.new) → is_trouble e ≡ true) }
@@ -203,5 +209,16 @@ pub fn create_tables<S: Alter>(connection: &mut Connection<S>) -> Result<(), Err
     create_item(connection, Item::UploadNotes)?;
     create_item(connection, Item::Rights)?;
     create_item(connection, Item::Garbage)?;
+    Ok(())
+}
+
+/// Creates the tables of a host and their indexes, without rows.
+pub fn create_tables<S: Alter>(connection: &mut Connection<S>) -> Result<(), Error>
+    requires { IsStateClean (state S.Store connection.old) → IsMaking no_schema (state S.Store connection.old) }
+    ensures makes { Makes with_unneeded (state S.Store connection.old) (state S.Store connection.new) result }
+    ensures trouble { IfErr result (λ e. IsIntact (state S.Store connection.new) → is_trouble e ≡ true) }
+{
+    create_fourth_tables(connection)?;
+    create_item(connection, Item::Unneeded)?;
     Ok(())
 }

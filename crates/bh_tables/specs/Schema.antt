@@ -1,6 +1,6 @@
--- The schema of a host as a value: nineteen tables and five indexes, each as its CREATE statement
--- defines it. The third schema, of version 3, lacks the last six tables; the second, of version 2,
--- lacks one more, and the first, of version 1, two more.
+-- The schema of a host as a value: twenty tables and five indexes, each as its CREATE statement
+-- defines it. The fourth schema, of version 4, lacks the last table; the third, of version 3, lacks
+-- six more; the second, of version 2, lacks one more, and the first, of version 1, two more.
 use Rattle.std.specs.Prelude.{ℕ, true, false, [], ◌∷◌, ◌++◌, List, map, Some, None, codes, pos}
 use Rattle.sqlite.specs.Collation.TheVariants.{Binary}
 use Rattle.sqlite.specs.declared.types.Value.TheVariants.{Null, Int, Text as Words}
@@ -183,7 +183,8 @@ abbrev pub rights_table : Table
 rights_table = table (codes "rights") (given (codes "tenant") Text ∷ given (codes "name") Text ∷ given (codes "rights") Text ∷ [])
     (1 ∷ 2 ∷ []) [] (refers (1 ∷ 2 ∷ []) (codes "keys") ∷ []) []
 
--- how many bytes of blocks no reference names, in one row
+-- no row: a program that makes files of version 4 keeps no count in it, and opens files of these
+-- tables without one
 abbrev pub garbage_table : Table
 garbage_table = record (table (codes "garbage") (maybe (codes "id") Integer ∷ given (codes "bytes") Integer ∷ []) (0 ∷ []) [] []
     (op2 (Compare Eq Binary) (col 1 0) (lit (Int (pos 1))) ∷ is_natural 2 ∷ is_small 2 ∷ [])) {
@@ -191,6 +192,10 @@ garbage_table = record (table (codes "garbage") (maybe (codes "id") Integer ∷ 
       uniques = [];
       orders = [];
     }
+
+-- how many bytes of blocks no reference names, in one row
+abbrev pub unneeded_table : Table
+unneeded_table = record garbage_table { name = codes "unneeded" }
 
 -- ---- the schema of all tables
 
@@ -296,13 +301,21 @@ third_schema = record {
 }
 
 -- of version 4
-abbrev pub host_schema : Schema
-host_schema = record {
+abbrev pub fourth_schema : Schema
+fourth_schema = record {
   tables = third_schema.tables ++ at 32 packs_table ∷ at 34 placed_table ∷ at 37 notes_table ∷ at 39 upload_notes_table
       ∷ at 41 rights_table ∷ at 43 garbage_table ∷ [];
   indexes = third_schema.indexes ++ auto (codes "sqlite_autoindex_packs_1") 33 32 (1 ∷ [])
       ∷ auto (codes "sqlite_autoindex_placed_1") 35 34 (1 ∷ 2 ∷ []) ∷ auto (codes "sqlite_autoindex_placed_2") 36 34 (3 ∷ 4 ∷ [])
       ∷ auto (codes "sqlite_autoindex_notes_1") 38 37 (1 ∷ 2 ∷ []) ∷ auto (codes "sqlite_autoindex_upload_notes_1") 40 39 (1 ∷ 2 ∷ [])
       ∷ auto (codes "sqlite_autoindex_rights_1") 42 41 (1 ∷ 2 ∷ []) ∷ [];
+  views = [];
+}
+
+-- of version 5
+abbrev pub host_schema : Schema
+host_schema = record {
+  tables = fourth_schema.tables ++ at 44 unneeded_table ∷ [];
+  indexes = fourth_schema.indexes;
   views = [];
 }
