@@ -14,7 +14,8 @@ use Rattle.sqlite_value.specs.contracts.value.Value as value
 use Rattle.sqlite_schema.specs.contracts.schema.Schema as schema
 use Rattle.bh_rows.specs.Form.{Form, typed}
 use Rattle.bh_tables.specs.Schema.{first_schema, second_schema, third_schema, fourth_schema, host_schema}
-use Rattle.bh_tables.specs.Typed.{HostRow, Tables, Totals, totals_of, unweighed, untallied, Raw, raw, first_raw, second_raw, third_raw, fourth_raw}
+use Rattle.bh_tables.specs.Typed.{HostRow, Tables, Totals, totals_of, unweighed, untallied, Raw, raw}
+use Rattle.bh_tables.specs.Typed.{first_raw, second_raw, third_raw, fourth_raw}
 use Rattle.bh_tables.specs.Typed.{tables_in, first_tables_in, IsFirstHost, IsSecondHost, IsThirdHost, IsFourthHost, no_rows, host_form}
 use Rattle.bh_tables.specs.Typed.{tenant_form, key_form, bucket_form}
 use Rattle.bh_tables.specs.Typed.{version_form, block_form, ref_form, upload_form, part_form, use_form, lock_form, retain_form}
