@@ -70,6 +70,7 @@ pub record IsServing (path : List ℕ) (asked : ServeTask) (serving : Serving) :
   pub file : string_bytes serving.file ≡ path
   pub spool : string_bytes serving.spool ≡ spool_name path asked.spool
   pub clock_step : serving.clock_step ≡ asked.clock_step
+  pub keep_garbage : serving.keep_garbage ≡ asked.keep_garbage
 
 -- what is ordered is what was typed; a key's secret may have been read
 abbrev pub IsReadAs : Message → Message → Type 0

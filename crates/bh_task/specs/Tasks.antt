@@ -83,6 +83,7 @@ serving_of given = do
     connections = given.connections;
     spool = given.spool;
     clock_step = given.clock_step;
+    keep_garbage = given.keep_garbage;
   })
 
 -- ---- orders

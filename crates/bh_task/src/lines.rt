@@ -216,6 +216,7 @@ fn serving_of(given: ServeGiven) -> Result<ServeTask, Misfit>
         connections: given.connections,
         spool: given.spool,
         clock_step: given.clock_step,
+        keep_garbage: given.keep_garbage,
     })
 }
 

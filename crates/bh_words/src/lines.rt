@@ -79,6 +79,8 @@ pub struct ServeGiven {
     pub spool: Option<String>,
     /// By how many seconds the clock may jump.
     pub clock_step: u64,
+    /// Sweeps begin when more bytes than these are stored that nobody needs.
+    pub keep_garbage: Option<u64>,
 }
 
 /// What was given of where an order is carried out: on the host of a file, or by a server that
