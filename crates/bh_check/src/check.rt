@@ -192,9 +192,6 @@ fn check_tallies(alloc: Global, stored: &Stored, edition: Edition) -> Result<(),
 fn check_weight(stored: &Stored) -> Result<(), Stop>
     ensures { OnOk result ((d : Trees) → AreStoredIn d stored.now → IsGarbage (d 44) (d 23) (d 10)) }
 {
-    if stored.uses.len() != stored.blocks.len() {
-        return Err(Stop::Flaw(Flaw::OtherUses));
-    }
     let bytes = unused_bytes(&stored.uses, &stored.blocks)?;
     if has_bytes(&stored.garbage, bytes) {
         Ok(())
