@@ -38,7 +38,7 @@ pub struct Serving {
     pub spool: String,
     /// By how many seconds the clock may jump.
     pub clock_step: u64,
-    /// Sweeps begin when more bytes than these are stored that nobody needs.
+    /// How many bytes that nobody needs may stay before a sweep begins.
     pub keep_garbage: Option<u64>,
 }
 

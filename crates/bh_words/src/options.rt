@@ -149,7 +149,7 @@ impl OptionName {
             OptionName::CacheBytes =>
                 "Maximum size of cached blocks, in bytes, or with a unit as in 10GB or 10GiB; overrides --cache-blocks: 0 to 2^36",
             OptionName::KeepGarbage =>
-                "Sweeps begin above this size of what nobody needs, in bytes, or with a unit as in 10GB or 10GiB: 0 to 2^64 - 1; without it, 64 MiB or a tenth of what is needed, whichever is more",
+                "Unneeded bytes above which sweeps begin, or with a unit as in 10GB or 10GiB [default: 64 MiB, or a tenth of the rest of the file if more]",
             OptionName::Digest => "Block digest, fixed when the host is created: sha256 or fast",
             OptionName::OperatorPort =>
                 "Port on 127.0.0.1 for operators' orders; with 0 the system chooses one",

@@ -167,11 +167,7 @@ fn order_options(alloc: Global, name: OrderName) -> Result<Vec<OptionName>, Allo
 fn field_options(alloc: Global, fields: &[Field]) -> Result<Vec<OptionName>, AllocError>
     ensures { IfOk result (λ options. options.items ≡ map option_of fields.now) }
 {
-    fields
-        .iter()
-        .copied()
-        .map(|field| option_of(field))
-        .collect(alloc)
+    fields.iter().copied().map(option_of).collect(alloc)
 }
 
 /// The options of where an order is carried out, and by which clock.
