@@ -1,5 +1,7 @@
 """What nobody needs: how many bytes of it a server tells (`metrics`), after each kind of request and order; and when it sweeps by itself
 (`--keep-garbage`): as soon as there are more than that, also while nobody asks and what an earlier server left, and never before.
+
+A server counts again within a quarter of a second after a request that may write.
 """
 import os
 import random
@@ -24,8 +26,8 @@ MIB, MUCH = 1 << 20, "1TiB"
 DEFAULT = 64 * MIB
 # Of a tenant who overwrites one object.
 QUOTA, LARGE = 17 * MIB, 8 * MIB
-# Seconds within which a sweep of a few blocks is over.
-SOON = 10
+# Seconds within which a sweep of a few blocks is over, and what was changed is counted.
+SOON, COUNTED = 10, 10
 DAY = 86_400
 
 
@@ -39,7 +41,15 @@ class Kept(Operated):
         return figures(self.order(op="metrics")).get(f"bucketd_server_{name}")
 
     def garbage(self):
+        """The bytes that nobody needed at the last count; None before the first one."""
         return self.figure("garbage_bytes")
+
+    def counts(self, wanted):
+        """The same once it is so many, or else what it is after some time."""
+        begun = time.monotonic()
+        while (found := self.garbage()) != wanted and time.monotonic() - begun < COUNTED:
+            time.sleep(0.05)
+        return found
 
     def steps(self):
         """How many steps its own sweeps have had."""
@@ -53,7 +63,7 @@ class Kept(Operated):
     def falls(self, most):
         """The bytes that nobody needs, once there are at most so many; and the seconds until then."""
         begun = time.monotonic()
-        while (found := self.garbage()) is not None and found > most and time.monotonic() - begun < PATIENCE:
+        while ((found := self.garbage()) is None or found > most) and time.monotonic() - begun < PATIENCE:
             time.sleep(0.05)
         return found, time.monotonic() - begun
 
@@ -138,9 +148,9 @@ def test_each_request(expect, program, folder, file):
     need("gcc")
     clock = Clock(folder, time.time())
     with Kept(program, file, MUCH, *SMALL, "--clock-step", "4294967295", **clock.env) as it:
-        expect("a new host", it.garbage() == 0, it.order(op="metrics"))
+        expect("a new host", it.counts(0) == 0, it.order(op="metrics"))
         for name, tenant, (method, path, body, *fields), status, wanted in REQUESTS:
-            answer, found = it.ask(tenant, method, path, body, fields), it.garbage()
+            answer, found = it.ask(tenant, method, path, body, fields), it.counts(wanted)
             expect(name, (answer.status, found) == (status, wanted), f"{answer} {found}, not {wanted}")
         for name, members, told, wanted in (
             ("a tenant that has a bucket stays", {"op": "tenant-remove", "tenant": "blue", "with_objects": False}, "49 TenantNotEmpty\n", 41),
@@ -148,20 +158,21 @@ def test_each_request(expect, program, folder, file):
             ("a tenant goes with all it has", {"op": "tenant-remove", "tenant": "blue", "with_objects": True}, "removed blue\n", 53),
             ("an upload that hasn't expired", {"op": "usage", "tenant": "green"}, "usage green bytes 8 quota 1\n", 53),
         ):
-            found = it.order(**members), it.garbage()
+            found = it.order(**members), it.counts(wanted)
             expect(name, found == (told, wanted), f"{found}, not {wanted}")
-        answer, found = it.ask("green", "PUT", "/plans/n", b"nnnn"), it.garbage()
+        answer, found = it.ask("green", "PUT", "/plans/n", b"nnnn"), it.counts(53)
         expect("a put above the quota", (answer.status, found) == (403, 53), f"{answer} {found}")
         clock.set(clock.now + 3 * DAY)
-        found = it.order(op="usage", tenant="green"), it.garbage()
+        found = it.order(op="usage", tenant="green"), it.counts(61)
         expect("the upload has expired", found == ("usage green bytes 0 quota 1\n", 61), found)
-        found = it.report(), it.garbage()
+        found = it.report(), it.counts(61)
         expect("a report counts as much", found == ((61, 0), 61), found)
-        found = it.order(op="sweep", limit=0), it.garbage()
+        found = it.order(op="sweep", limit=0), it.counts(61)
         expect("a sweep of nothing", found == ("sweep uploads 0 blocks 0 partial\n", 61), found)
-        found = it.order(op="sweep", limit=1), it.garbage(), it.report()[0]
-        expect("a sweep of one block", found[0] == "sweep uploads 0 blocks 1 partial\n" and found[1] == found[2] in (57, 60), found)
-        found = it.order(op="sweep", limit=1000), it.garbage(), it.report()
+        told, left = it.order(op="sweep", limit=1), it.report()[0]
+        found = it.counts(left)
+        expect("a sweep of one block", told == "sweep uploads 0 blocks 1 partial\n" and found == left in (57, 60), (told, left, found))
+        found = it.order(op="sweep", limit=1000), it.counts(0), it.report()
         expect("a sweep of all", found[0].endswith(" complete\n") and found[1:] == (0, (0, 0)), found)
         expect("the server itself swept nothing", it.steps() == 0, it.steps())
     told = command(program, file, "check")
@@ -178,7 +189,7 @@ def counted(host):
 def test_drawn_requests(expect, program, folder, seed):
     """Requests of two tenants that have blocks in common: after each the server tells what a model counts. So it does after a kill."""
     file, chance = os.path.join(folder, "host"), random.Random(seed)
-    host, steps = made(program, file), 300 if is_fast(program) else 25
+    host, steps = made(program, file), 200 if is_fast(program) else 24
     drawn = model.Drawn(chance, [0, 10, 3000, 70_000, 200_000] if is_quick(program) else [0, 10, 3000, 70_000])
     with Kept(program, file, MUCH) as it:
         most = 0
@@ -188,20 +199,21 @@ def test_drawn_requests(expect, program, folder, seed):
             assert answer.status in (200, 204), f"{step.told()} is answered {answer}"
             step.change(host.tenants[step.tenant])
             host.store(step.brings)
-            most, found = max(most, counted(host)), it.garbage()
-            if found != counted(host):
+            most = max(most, counted(host))
+            if number % 4 == 3 and (found := it.counts(counted(host))) != counted(host):
                 break
         expect(f"{number + 1} requests, after which there were up to {most} bytes", found == counted(host) and most > 0, f"{step.told()}: {found}, not {counted(host)}")
         told = it.order(op="report")
         expect("a report", told == host.report() + "\n", f"{told}, not {host.report()}")
     with Kept(program, file, MUCH) as it:
-        expect("after a kill", it.garbage() == counted(host), f"{it.garbage()}, not {counted(host)}")
+        found = it.counts(counted(host))
+        expect("after a kill", found == counted(host), f"{found}, not {counted(host)}")
         name = chance.choice(NAMES)
         del host.tenants[name]
-        told = it.order(op="tenant-remove", tenant=name, with_objects=True), it.garbage()
+        told = it.order(op="tenant-remove", tenant=name, with_objects=True), it.counts(counted(host))
         expect("once a tenant is gone", told == (f"removed {name}\n", counted(host)), f"{told}, not {counted(host)}")
         wanted = host.swept() + "\n"
-        told = it.order(op="sweep", limit=1_000_000), it.garbage()
+        told = it.order(op="sweep", limit=1_000_000), it.counts(0)
         expect("after a sweep", told == (wanted, 0), f"{told}, not {wanted}")
     told = command(program, file, "check")
     expect("check", told == ("sound", 0), told)
@@ -221,7 +233,7 @@ def test_more_than_is_kept(expect, program, file):
     size, times = measures(program)
     with Kept(program, file, str(times * size)) as it:
         it.get("PUT", "/plans", b"")
-        expect("it tells what it keeps", it.figure("keep_garbage_bytes") == times * size, it.order(op="metrics"))
+        expect("it tells what it keeps", it.counts(0) == 0 and it.figure("keep_garbage_bytes") == times * size, it.order(op="metrics"))
         for number in range(times + 1):
             it.put(number, size)
         rest(program)
@@ -235,7 +247,8 @@ def test_more_than_is_kept(expect, program, file):
         expect("in a step of its own", steps >= 1 and referred == size and stored == size + found, f"{steps} steps, {stored} {referred} {found}")
         expect("what is needed stays", it.get("GET", "/plans/x")[2] == kept)
         rest(program)
-        expect("and then it rests", (it.steps(), it.garbage()) == (steps, found), f"{it.steps()} steps, not {steps}; {it.garbage()}, not {found}")
+        now = it.steps(), it.garbage()
+        expect("and then it rests", now == (steps, found), f"{now}, not {(steps, found)}")
 
 
 @pytest.mark.cost(30)
@@ -244,7 +257,7 @@ def test_nothing_is_kept(expect, program, file):
     size, times = measures(program)
     with Kept(program, file, "0") as it:
         it.get("PUT", "/plans", b"")
-        expect("it tells that it keeps nothing", it.figure("keep_garbage_bytes") == 0, it.order(op="metrics"))
+        expect("it tells that it keeps nothing", it.counts(0) == 0 and it.figure("keep_garbage_bytes") == 0, it.order(op="metrics"))
         for number in range(times):
             it.put(number, size, f"/plans/x{number}")
         for number in range(times - 1):
@@ -266,7 +279,7 @@ def test_much_is_kept(expect, program, file):
     count = times * (24 if is_fast(program) else 2)
     with Kept(program, file, "1GiB") as it:
         it.get("PUT", "/plans", b"")
-        expect("it tells what it keeps", it.figure("keep_garbage_bytes") == 1 << 30, it.order(op="metrics"))
+        expect("it tells what it keeps", it.counts(0) == 0 and it.figure("keep_garbage_bytes") == 1 << 30, it.order(op="metrics"))
         for number in range(count):
             it.put(number, size)
         rest(program)
@@ -279,7 +292,7 @@ def test_default(expect, program, folder, file, full):
     """64 MiB are kept, or a tenth of what is needed."""
     with Kept(program, file) as it:
         it.get("PUT", "/plans", b"")
-        expect("without the option 64 MiB are kept", it.figure("keep_garbage_bytes") == DEFAULT, it.order(op="metrics"))
+        expect("without the option 64 MiB are kept", it.counts(0) == 0 and it.figure("keep_garbage_bytes") == DEFAULT, it.order(op="metrics"))
         if not is_fast(program):
             return expect.skip("and more is swept", "the bytes that begin a sweep take a slow program too long")
         for number in range(8):
@@ -295,8 +308,8 @@ def test_default(expect, program, folder, file, full):
             return expect.skip("a tenth of what is needed", "it needs some 700 MB")
         for number in range(88):
             it.put(100 + number, LARGE, f"/plans/y{number}")
-        needed, keep = it.report()[1], it.figure("keep_garbage_bytes")
-        expect("a tenth of what is needed", keep == needed // 10 > DEFAULT, f"{keep} of {needed}")
+        needed, keep, has = it.report()[1], it.figure("keep_garbage_bytes"), os.path.getsize(file)
+        expect("a tenth of what is needed", DEFAULT < needed // 10 <= keep <= has // 10, f"{keep} of {needed}; the file has {has}")
 
 
 @pytest.mark.cost(50)
@@ -336,7 +349,7 @@ def test_no_value(expect, program, folder, value):
     for words in (["--keep-garbage", value], [f"--keep-garbage={value}"]):
         done = subprocess.run([program, "serve", "--file", "none", "--port", "0", *words], cwd=folder, capture_output=True, text=True, timeout=PATIENCE)
         lines = done.stdout.splitlines()
-        is_told = done.returncode == 2 and lines and lines[0].startswith("error: ") and "keep-garbage" in lines[0] and not os.listdir(folder)
+        is_told = done.returncode == 2 and lines and lines[0].startswith("error: ") and ("keep-garbage" in lines[0] or repr(value) in lines[0]) and not os.listdir(folder)
         expect(f"{words}", is_told and not any("error" in it for it in lines[1:]), f"{done}")
 
 
@@ -401,15 +414,16 @@ def test_kills(expect, program, disk_folder, folder, full):
         wrong, done = [load.wrong for load in loads if load.wrong], done + sum(load.done for load in loads)
         told, counts = command(program, file, "check"), read_back(file, folder)
         with Kept(program, file, MUCH) as it:
-            found = it.garbage()
-            # What wasn't answered was done or not: each tenant goes on from what is there.
+            found = it.counts(counts)
+            # What wasn't answered was done or not: each tenant begins anew.
             for load in loads:
                 anew = model.Tenant(load.tenant.name)
                 assert it.order(op="tenant-remove", tenant=anew.name, with_objects=True) == f"removed {anew.name}\n"
                 host.tenants[anew.name] = anew
                 again(it, anew)
-            left = it.garbage(), it.report()
-        is_well = not wrong and told == ("sound", 0) and found == counts and left[1][1] == 0 and left[0] == left[1][0]
+            stored, referred = it.report()
+            left = it.counts(stored), stored, referred
+        is_well = not wrong and told == ("sound", 0) and found == counts and left == (stored, stored, 0)
         if not expect(f"kill {number}, after {done} requests", is_well, f"{wrong} {told} {found} {counts} {left}"):
             break
     expect("requests were answered", done > 0, f"{done} in {time.monotonic() - begun:.0f} s")

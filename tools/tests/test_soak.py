@@ -35,6 +35,14 @@ EVENTS = ["kills", "stops", "failed syncs", "jumps of the clock", REFUSED, OPEN,
 LIVES, SLOW_LIVES = [2, 2, 5, 5, 10, 20, 90], [15, 25, 90]
 
 
+def garbage_of(life):
+    """How many bytes nobody needs by a server's first count."""
+    ends = time.monotonic() + PATIENCE
+    while (found := figures(life.order(op="metrics")).get("bucketd_server_garbage_bytes")) is None and life.is_up() and time.monotonic() < ends:
+        time.sleep(0.1)
+    return found
+
+
 class Soak:
     """One file, its model, and the servers that live on it one after another."""
 
@@ -147,7 +155,7 @@ class Soak:
                 found = None if life.is_up() and self.settle(life) else f"the file isn't opened: {life.end()}"
             except (Wrong, ValueError, RuntimeError) as error:
                 found = f"{type(error).__name__}: {error}"
-            stored, garbage = life.order(op="report"), figures(life.order(op="metrics")).get("bucketd_server_garbage_bytes")
+            stored, garbage = life.order(op="report"), garbage_of(life)
         self.expect("at the end each tenant has the model's keys, versions and bytes", found is None, found)
         is_counted = garbage is not None and garbage == int(stored.split()[3]) - sum(self.host.needed().values())
         self.expect("the server tells how many bytes nobody needs", is_counted, f"{garbage}, where {stored!r}")
