@@ -15,6 +15,7 @@ import pytest
 import model
 from conftest import amount, need
 from host import PATIENCE, TAILS, Clock, command, copied, is_fast, is_quick, make_host, removed
+from s3_requests import Client, Gateway, build_gateway, write_keys
 from test_crash import Load, made
 from test_files import SMALL
 from test_operators import Operated, figures
@@ -217,6 +218,24 @@ def test_drawn_requests(expect, program, folder, seed):
         expect("after a sweep", told == (wanted, 0), f"{told}, not {wanted}")
     told = command(program, file, "check")
     expect("check", told == ("sound", 0), told)
+
+
+@pytest.mark.cost(60)
+def test_objects_deleted_at_once(expect, program, folder, file):
+    """Objects that the gateway deletes at once, of which one has another's bytes, and one isn't there."""
+    need("go")
+    build = build_gateway(folder)
+    write_keys(folder, ["green"])
+    bodies = {"a": b"a" * 1000, "b": b"b" * 500, "c": b"b" * 500, "d": b"d" * 100}
+    document = "<Delete>" + "".join(f"<Object><Key>{name}</Key></Object>" for name in ("a", "c", "d", "none")) + "</Delete>"
+    with Kept(program, file, MUCH) as it, Gateway(build, None, folder, "--host", f"127.0.0.1:{it.port}") as gateway:
+        client = Client(gateway.port)
+        told = [client.ask("PUT", "/plans")[0], *(client.ask("PUT", f"/plans/{name}", body)[0] for name, body in bodies.items())]
+        before, (stored, referred) = it.counts(0), it.report()
+        answer = client.ask("POST", "/plans", document.encode(), query="delete=")
+        found, wanted = it.counts(before + 1100), before + 1100
+        expect("they are deleted", told == [200] * 5 and answer[0] == 200 and answer[2].count(b"<Deleted>") == 4, f"{told} {answer}")
+        expect("what nobody needs then", found == wanted and it.report() == (stored, referred - 1600), f"{found}, not {wanted}; {it.report()}, before {(stored, referred)}")
 
 
 # ---- when the server sweeps
