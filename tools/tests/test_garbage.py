@@ -25,6 +25,8 @@ NAMES = ["green", "blue"]
 MIB, MUCH = 1 << 20, "1TiB"
 # What is kept without the option, if a tenth of what is needed isn't more.
 DEFAULT = 64 * MIB
+# What the log may have that the file hasn't.
+LOGGED = 50_000_000
 # Of a tenant who overwrites one object.
 QUOTA, LARGE = 17 * MIB, 8 * MIB
 # Seconds within which a sweep of a few blocks is over, and what was changed is counted.
@@ -61,12 +63,12 @@ class Kept(Operated):
         words = self.order(op="report").split()
         return int(words[3]), int(words[5])
 
-    def falls(self, most):
-        """The bytes that nobody needs, once there are at most so many; and the seconds until then."""
+    def falls(self, most, steps=1):
+        """The bytes that nobody needs, once its own sweeps had so many steps and there are at most so many; and the seconds until then."""
         begun = time.monotonic()
-        while ((found := self.garbage()) is None or found > most) and time.monotonic() - begun < PATIENCE:
+        while (self.steps() < steps or (found := self.garbage()) is None or found > most) and time.monotonic() - begun < PATIENCE:
             time.sleep(0.05)
-        return found, time.monotonic() - begun
+        return self.garbage(), time.monotonic() - begun
 
     def put(self, number, size, path="/plans/x"):
         """Puts bytes that no other put has."""
@@ -85,6 +87,15 @@ def rest(program):
 
 def soon(program):
     return SOON if is_fast(program) else PATIENCE
+
+
+def alone(program, it):
+    """The bytes that nobody needs after some time in which nobody asked, or a few such times where there are some."""
+    for _ in range(4):
+        rest(program)
+        if (found := it.garbage()) == 0:
+            break
+    return found
 
 
 # ---- how many bytes nobody needs
@@ -256,18 +267,19 @@ def test_more_than_is_kept(expect, program, file):
         for number in range(times + 1):
             it.put(number, size)
         rest(program)
-        found = it.garbage(), it.report(), it.steps()
+        found = it.counts(times * size), it.report(), it.steps()
         expect("as much as is kept stays", found == (times * size, ((times + 1) * size, size), 0), found)
         kept = os.urandom(size)
         it.get("PUT", "/plans/x", kept)
         found, took = it.falls(times * size)
         expect("what is more goes", found <= times * size and took < soon(program), f"{found} after {took:.1f} s")
-        steps, (stored, referred) = it.steps(), it.report()
-        expect("in a step of its own", steps >= 1 and referred == size and stored == size + found, f"{steps} steps, {stored} {referred} {found}")
+        rest(program)
+        steps, left, report = it.steps(), it.garbage(), it.report()
+        expect("in steps of its own", steps >= 1 and report == (size + left, size), f"{steps} steps, {left} {report}")
         expect("what is needed stays", it.get("GET", "/plans/x")[2] == kept)
         rest(program)
         now = it.steps(), it.garbage()
-        expect("and then it rests", now == (steps, found), f"{now}, not {(steps, found)}")
+        expect("and then it rests", now == (steps, left), f"{now}, not {(steps, left)}")
 
 
 @pytest.mark.cost(30)
@@ -281,19 +293,21 @@ def test_nothing_is_kept(expect, program, file):
             it.put(number, size, f"/plans/x{number}")
         for number in range(times - 1):
             assert it.get("DELETE", f"/plans/x{number}")[0] == 204
-        rest(program)
-        found, took = it.falls(0)
-        expect("what was deleted goes", found == 0 and took < soon(program), f"{found} after {took:.1f} s")
+        found = alone(program, it)
+        expect("what was deleted goes", found == 0, found)
         found = it.report()
         expect("and nothing else", found == (size, size), found)
+        it.put(times, size, f"/plans/x{times - 1}")
+        found = alone(program, it)
+        expect("and what was replaced", (found, it.report()) == (0, (size, size)), f"{found}, {it.report()}")
         it.order(op="tenant-remove", tenant="green", with_objects=True)
-        found, took = it.falls(0)
-        expect("what a tenant had goes", found == 0 and took < soon(program) and it.report() == (0, 0), f"{found} after {took:.1f} s, {it.report()}")
+        found = alone(program, it)
+        expect("what a tenant had goes", (found, it.report()) == (0, (0, 0)), f"{found}, {it.report()}")
 
 
 @pytest.mark.cost(30)
-def test_much_is_kept(expect, program, file):
-    """Nothing goes, however much is written."""
+def test_much_is_kept(expect, program, file, full):
+    """Nothing goes, however much is written, and though nobody asks for more than a minute."""
     size, times = measures(program)
     count = times * (24 if is_fast(program) else 2)
     with Kept(program, file, "1GiB") as it:
@@ -301,8 +315,8 @@ def test_much_is_kept(expect, program, file):
         expect("it tells what it keeps", it.counts(0) == 0 and it.figure("keep_garbage_bytes") == 1 << 30, it.order(op="metrics"))
         for number in range(count):
             it.put(number, size)
-        rest(program)
-        found = it.garbage(), it.report(), it.steps()
+        time.sleep(70) if full else rest(program)
+        found = it.counts((count - 1) * size), it.report(), it.steps()
         expect(f"{count} objects stay", found == ((count - 1) * size, (count * size, size), 0), found)
 
 
@@ -317,18 +331,20 @@ def test_default(expect, program, folder, file, full):
         for number in range(8):
             it.put(number, LARGE)
         rest(program)
-        found = it.garbage(), it.steps()
+        found = it.counts(7 * LARGE), it.steps()
         expect("56 MiB stay", found == (7 * LARGE, 0), found)
         it.put(8, LARGE)
         it.put(9, LARGE)
         found, took = it.falls(DEFAULT)
         expect("72 MiB don't", found <= DEFAULT and took < SOON, f"{found} after {took:.1f} s")
         if not full:
-            return expect.skip("a tenth of what is needed", "it needs some 700 MB")
-        for number in range(88):
+            return expect.skip("a tenth of what is needed", "it needs some 800 MB")
+        for number in range(98):
             it.put(100 + number, LARGE, f"/plans/y{number}")
+        rest(program)
         needed, keep, has = it.report()[1], it.figure("keep_garbage_bytes"), os.path.getsize(file)
-        expect("a tenth of what is needed", DEFAULT < needed // 10 <= keep <= has // 10, f"{keep} of {needed}; the file has {has}")
+        # What is in the log and not yet in the file counts later.
+        expect("a tenth of what is needed", DEFAULT < (needed - LOGGED) // 10 <= keep <= has // 10, f"{keep} of {needed}; the file has {has}")
 
 
 @pytest.mark.cost(50)
@@ -343,17 +359,16 @@ def test_restart(expect, program, file, number):
         it.end(number)
     with Kept(program, file, str(times * size)) as it:
         rest(program)
-        found = it.garbage(), it.report(), it.steps()
+        found = it.counts(times * size), it.report(), it.steps()
         expect("what it keeps stays", found == (times * size, ((times + 1) * size, size), 0), found)
         it.end(number)
     with Kept(program, file, str(times * size - 1)) as it:
-        rest(program)
         found, took = it.falls(times * size - 1)
         expect("what is more goes", found < times * size and took < soon(program), f"{found} after {took:.1f} s")
         expect("a report", it.report() == (size + found, size), f"{it.report()} {found}")
         it.end(number)
     with Kept(program, file, "0") as it:
-        found, took = it.falls(0)
+        found, took = it.falls(0, steps=0)
         expect("all goes", found == 0 and took < soon(program), f"{found} after {took:.1f} s")
         expect("but what is needed", it.report() == (size, size), it.report())
     told = command(program, file, "check")
