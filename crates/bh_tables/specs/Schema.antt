@@ -149,8 +149,7 @@ tallies_table = table (codes "tallies") (given (codes "tenant") Text ∷ given (
     ∷ given (codes "objects") Integer ∷ []) (1 ∷ []) [] (refers (1 ∷ []) (codes "tenants") ∷ [])
     (is_natural 2 ∷ is_small 2 ∷ is_natural 3 ∷ is_small 3 ∷ is_natural 4 ∷ is_small 4 ∷ [])
 
--- the tables that follow, but the last, have no row yet. They are here, since the store can't add a column, and so
--- that files change their version once for all of them
+-- the tables that follow, but the last, have no row yet. Version 4 added them, since the store can't add a column
 
 -- the packs of bytes of blocks, by their numbers: how many bytes of each are committed, and how many
 -- of these a row of placed names. INT, since INTEGER would make the number that of the row
@@ -183,8 +182,8 @@ abbrev pub rights_table : Table
 rights_table = table (codes "rights") (given (codes "tenant") Text ∷ given (codes "name") Text ∷ given (codes "rights") Text ∷ [])
     (1 ∷ 2 ∷ []) [] (refers (1 ∷ 2 ∷ []) (codes "keys") ∷ []) []
 
--- no row: a program that makes files of version 4 keeps no count in it, and opens files of these
--- tables without one
+-- it never has a row: a program that makes files of version 4 keeps no count in it, and opens such files
+-- without looking into it
 abbrev pub garbage_table : Table
 garbage_table = record (table (codes "garbage") (maybe (codes "id") Integer ∷ given (codes "bytes") Integer ∷ []) (0 ∷ []) [] []
     (op2 (Compare Eq Binary) (col 1 0) (lit (Int (pos 1))) ∷ is_natural 2 ∷ is_small 2 ∷ [])) {

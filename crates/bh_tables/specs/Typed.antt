@@ -96,9 +96,8 @@ raw db = record {
   unfilled = flat_map db unfilled_trees;
 }
 
--- under the fourth schema, which has no table of what nobody needs, under the third, which has none of those that nothing
--- fills either, under the second, which has no table of tallies either, and under the first, which has none of locks and of
--- dates either
+-- under earlier schemas, each of which lacks some more tables: the fourth that of what nobody needs, the third those that
+-- nothing fills, the second that of tallies, and the first those of locks and of dates
 abbrev pub fourth_raw : Trees → Raw
 fourth_raw db = record (raw db) { garbage = [] }
 
