@@ -52,6 +52,9 @@ pub struct Places<'a> {
     /// By how many seconds the clock may run ahead of the machine's monotonic clock before a reading
     /// is refused.
     pub clock_step: u64,
+    /// How many bytes of blocks that no reference names may stay before a sweep begins; `None` for a
+    /// tenth of what is needed, or 64 MiB if that is more.
+    pub keep_garbage: Option<u64>,
 }
 
 /// Serves `count` requests and lines on ports of 127.0.0.1, or on Unix sockets in their place, from
@@ -121,6 +124,7 @@ fn front_on<'a, N: Net + Files<File = File> + AllocGlobal + Eprint, C: Clock>(
         limits,
         clock: site.clock,
         clock_step: places.clock_step,
+        keep_garbage: places.keep_garbage,
         has_operators: ports.operator.is_some(),
         secret: secret(ports),
         is_logged: manner.is_logged,
