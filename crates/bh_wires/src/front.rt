@@ -119,6 +119,7 @@ impl<'a, W: Wires + Drop, C> Front<'a, W, C> {
         ensures operated { result.has_operators ≡ terms.entry.has_operators }
         ensures secret { result.secret ≡ terms.entry.secret }
         ensures sweep { result.sweep ≡ sweep }
+        ensures keeps { result.sweeping.limit ≡ terms.entry.keep_garbage }
     {
         let now = stage.wires().milliseconds();
         Front {

@@ -106,6 +106,7 @@ fn front_on<'a, N: Net + Files<File = File> + AllocGlobal + Eprint, C: Clock>(
 ) -> io::Result<Front<'a, Sockets<'a, N, C>, C>>
     ensures operated { IfOk result (λ front. front.has_operators ≡ is_some ports.entry.operator) }
     ensures sweep { IfOk result (λ front. IsSomeAnd front.sweep (IsOwnLine (secret_of ports.entry))) }
+    ensures keeps { IfOk result (λ front. front.sweeping.limit ≡ places.entry.keep_garbage) }
 {
     let alloc = site.net.alloc();
     let measures = measures_for(site.net, manner, places.connections);
