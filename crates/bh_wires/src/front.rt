@@ -21,6 +21,8 @@ use crate::pace::Pace;
 use crate::sweeping::{REPLY, Sweeping};
 use bh_connection::{Acceptor, Arrival, Clock, End, Served};
 use bh_event::order::Asked;
+use bh_figures::figures::Figures;
+use bh_figures::page::{Sizes, page_text};
 use bh_host::Caller;
 use bh_link::link::Link;
 use bh_stage::kept::Kept;
