@@ -34,55 +34,36 @@ times it = if is_behind it then 1 else 4
 abbrev pub has_rested : Sweeping → ℕ → Bool
 has_rested it now = not (nat_lt now (it.ended + max 20 (times it * it.took)))
 
--- something is known to be left, or is more than may stay, or was written and not counted for a minute
-abbrev pub is_wanted : Sweeping → ℕ → Bool
-is_wanted it now = it.is_partial || (is_behind it || (it.has_changed && not (nat_lt now (it.counted + 60000))))
+-- something is known to be left, or is more than may stay
+abbrev pub is_wanted : Sweeping → Bool
+is_wanted it = it.is_partial || is_behind it
 
 -- each hour there is one for uploads that expired
 abbrev pub is_due : Sweeping → ℕ → Bool
-is_due it now = has_rested it now && (is_wanted it now || not (nat_lt now (it.ended + 3600000)))
+is_due it now = has_rested it now && (is_wanted it || not (nat_lt now (it.ended + 3600000)))
 
 -- ---- when it is counted what nobody needs
 
--- at first, after each step, and once a request may have written: not within 250 ms of the last count
-abbrev pub wants_count : Sweeping → ℕ → Bool
-wants_count it now = it.is_asked || (it.has_changed && not (nat_lt now (it.counted + 250)))
+-- so many were counted, when the file had so many bytes
+abbrev pub counted : Sweeping → ℕ → Option ℕ → Sweeping
+counted it bytes file = record it { unneeded = bytes; keep = kept_of it.limit (needed_in file bytes); is_asked = false }
 
-abbrev pub counted : Sweeping → ℕ → Option ℕ → ℕ → Sweeping
-counted it bytes file now = record it {
-  unneeded = bytes;
-  keep = kept_of it.limit (needed_in file bytes);
-  counted = now;
-  is_asked = false;
-  has_changed = false;
-}
-
--- so many were counted, at some time and size of the file
+-- the same, whatever size the file had
 abbrev pub HasCounted : ℕ → Sweeping → Sweeping → Type 0
-HasCounted bytes before after = (file : Option ℕ) × (now : ℕ) × (after ≡ counted before bytes file now)
+HasCounted bytes before after = (file : Option ℕ) × (after ≡ counted before bytes file)
 
--- a host that is served from now on
+-- of a host that is served from now on, which is counted before anything is served
 abbrev pub begun : Option ℕ → ℕ → Sweeping
-begun limit now = record {
-  limit = limit;
-  unneeded = 0;
-  keep = 0;
-  counted = now;
-  is_asked = true;
-  has_changed = false;
-  is_partial = false;
-  ended = now;
-  took = 0;
-}
+begun limit now = record { limit = limit; unneeded = 0; keep = 0; is_asked = true; is_partial = false; ended = now; took = 0 }
 
--- a request may write unless it begins as a GET or a HEAD
+-- it is counted again after a request that may write: one that doesn't begin as a GET or a HEAD
 abbrev pub may_write : List ℕ → Bool
 may_write first = not (starts_with nat_eq first (codes "GET ") || starts_with nat_eq first (codes "HEAD "))
 
 abbrev pub changed : Sweeping → List ℕ → Sweeping
-changed it first = if may_write first then record it { has_changed = true } else it
+changed it first = if may_write first then record it { is_asked = true } else it
 
--- a step ended, and left something by its reply, or nothing
+-- and after a step, which left something by its reply, or nothing
 abbrev pub stepped : Sweeping → ℕ → ℕ → List ℕ → Sweeping
 stepped it began now reply =
     record it { ended = now; took = now - began; is_partial = ends_with nat_eq reply (codes " partial"); is_asked = true }

@@ -1,6 +1,6 @@
 //! A stage as what a server accepts connections of.
 
-ghost use Rattle.std.specs.Prelude.{◌≡◌, ⊤, true, false, Some, None, Ok, is_some, option_map, IfOk, IsSomeAnd};
+ghost use Rattle.std.specs.Prelude.{◌≡◌, ◌&&◌, ⊤, true, false, Some, None, Ok, is_some, option_map, IfOk, IsSomeAnd};
 ghost use Rattle.std.specs.String.{string_bytes};
 ghost use Rattle.bh_host.specs.declared.reply.Caller.TheVariants.{Operator, Request};
 ghost use Rattle.bh_stage.specs.Staged.{IsHanded, IsJoining};
@@ -474,9 +474,12 @@ impl<'a, W: Wires + Backing + Drop, C: Clock> Acceptor for Front<'a, W, C> {
         }
     }
 
-    fn wants_count(&mut self) -> bool {
-        let now = self.stage.wires().milliseconds();
-        self.has_operators && self.sweeping.wants_count(now)
+    fn wants_count(&mut self) -> bool
+        ensures calls { ⊤ }
+        ensures operated { self.new.has_operators ≡ self.old.has_operators }
+        ensures wants { result ≡ self.old.has_operators && self.old.sweeping.is_asked }
+    {
+        self.has_operators && self.sweeping.is_asked
     }
 
     /// Takes how many bytes nobody needs, with the size of the host's file, which tells what is needed.
@@ -486,9 +489,8 @@ impl<'a, W: Wires + Backing + Drop, C: Clock> Acceptor for Front<'a, W, C> {
         ensures counted { HasCounted bytes self.old.sweeping self.new.sweeping }
         ensures figures { self.new.figures ≡ with_garbage self.old.figures bytes self.new.sweeping.keep }
     {
-        let now = self.stage.wires().milliseconds();
         let sizes = self.stage.wires().sizes();
-        self.sweeping.take_count(bytes, sizes.file, now);
+        self.sweeping.take_count(bytes, sizes.file);
         self.figures.note_garbage(bytes, self.sweeping.keep);
     }
 }

@@ -16,12 +16,6 @@ const LEAST: u64 = 67_108_864;
 /// Into how many parts what is needed is divided, of which one may stay, if that is more.
 const PARTS: u64 = 10;
 
-/// For how many milliseconds a count isn't repeated because of requests.
-const PAUSE: u64 = 250;
-
-/// How many milliseconds after a count a sweep begins if something was written and not counted.
-const SOON: u64 = 60_000;
-
 /// How many milliseconds after the last step a sweep begins in any case.
 const SELDOM: u64 = 3_600_000;
 
@@ -47,12 +41,8 @@ pub struct Sweeping {
     /// How many there were at the last count, and how many may stay since then.
     pub unneeded: u64,
     pub keep: u64,
-    /// When that was.
-    pub counted: u64,
-    /// Whether the next count is due: there was none yet, or a step since.
+    /// Whether there may be others by now.
     pub is_asked: bool,
-    /// Whether a request came since the last count that may have written.
-    pub has_changed: bool,
     /// Whether the last step left something to remove.
     pub is_partial: bool,
     /// When the last step ended, and how long it took.
@@ -69,9 +59,7 @@ impl Sweeping {
             limit,
             unneeded: 0,
             keep: 0,
-            counted: now,
             is_asked: true,
-            has_changed: false,
             is_partial: false,
             ended: now,
             took: 0,
@@ -82,7 +70,7 @@ impl Sweeping {
     pub fn is_due(&self, now: u64) -> bool
         ensures { result ≡ spec.is_due self.now now }
     {
-        self.has_rested(now) && (self.is_wanted(now) || is_past(self.ended, SELDOM, now))
+        self.has_rested(now) && (self.is_wanted() || is_past(self.ended, SELDOM, now))
     }
 
     fn has_rested(&self, now: u64) -> bool
@@ -107,29 +95,19 @@ impl Sweeping {
         self.keep < self.unneeded
     }
 
-    fn is_wanted(&self, now: u64) -> bool
-        ensures { result ≡ spec.is_wanted self.now now }
+    fn is_wanted(&self) -> bool
+        ensures { result ≡ spec.is_wanted self.now }
     {
-        let is_late = self.has_changed && is_past(self.counted, SOON, now);
-        self.is_partial || self.is_behind() || is_late
-    }
-
-    /// Whether it is time to count.
-    pub fn wants_count(&self, now: u64) -> bool
-        ensures { result ≡ spec.wants_count self.now now }
-    {
-        self.is_asked || (self.has_changed && is_past(self.counted, PAUSE, now))
+        self.is_partial || self.is_behind()
     }
 
     /// So many bytes were counted that nobody needs, when the host's file had so many.
-    pub fn take_count(&mut self, bytes: u64, file: Option<u64>, now: u64)
-        ensures { self.new ≡ spec.counted self.old bytes file now }
+    pub fn take_count(&mut self, bytes: u64, file: Option<u64>)
+        ensures { self.new ≡ spec.counted self.old bytes file }
     {
         self.unneeded = bytes;
         self.keep = kept_of(self.limit, needed_in(file, bytes));
-        self.counted = now;
         self.is_asked = false;
-        self.has_changed = false;
     }
 
     /// A request was served, of which these are the first bytes.
@@ -137,7 +115,7 @@ impl Sweeping {
         ensures { self.new ≡ spec.changed self.old first.now }
     {
         if !first.starts_with(b"GET ") && !first.starts_with(b"HEAD ") {
-            self.has_changed = true;
+            self.is_asked = true;
         }
     }
 
