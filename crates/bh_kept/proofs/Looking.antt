@@ -1,50 +1,52 @@
 -- What is looked at in a transaction that is rolled back.
-use Rattle.std.proofs.Common.{◌≡◌, ℕ, Option, Some, None, Result, Ok, Err, IfOk, IfSome, sym, ap, subst, ◌∙◌}
+use Rattle.std.proofs.Common.{◌≡◌, false, Option, Some, None, Result, Ok, Err, IfOk, IfSome, refl, sym, ap, subst, ◌∙◌}
 use Rattle.std.specs.Result.{result_ok}
-use Rattle.sqlite.specs.Held.{state}
-use Rattle.sqlite_trees.specs.declared.store.Store.{Ghosts}
+use Rattle.sqlite.specs.State.{State}
+use Rattle.bh_types.specs.Limits.{HostLimits}
 use Rattle.bh_model.specs.State.{Octets}
-use Rattle.bh_tables.specs.Typed.{Tables, tables_in}
+use Rattle.bh_tables.specs.Hosts.{tables_shown}
+use Rattle.bh_tables.specs.Typed.{IsHost, tables_in}
 use Rattle.bh_view.specs.Bodies.{IsSoundHost}
-use Rattle.bh_view.specs.View.{limits_in}
-use Rattle.bh_storage.specs.Calls.{Seen, Clean, IsAtRest, IsWorking, LeavesNothingNew, TakesBack, Within}
-use Rattle.bh_schema.specs.Layer.{IsStateClean, IsInside, standing}
-use Rattle.bh_schema.specs.Storage as host
-use Rattle.bh_schema.proofs.Storing.{both, parts, inside_of, shows_in, under, plain}
-use Rattle.bh_dispatch.specs.Seeing as recalling
-use Rattle.bh_dispatch.specs.declared.recalling.RecallingStorage.{RecallingStorage}
-use Rattle.bh_dispatch.proofs.Remembering.{IsClean, alone_is, host_works}
-use Rattle.bh_connection.specs.Connections.{IsTakenBack}
+use Rattle.bh_storage.specs.Calls.{Seen, IsAtRest}
+use Rattle.bh_cache.specs.Kept.{KeptBlocks}
+use Rattle.bh_memo.specs.Facts.{Facts}
+use Rattle.bh_memo.specs.Recalled.{recalled}
+use Rattle.bh_memo.proofs.Recalling.{rests_alone, rests_under}
+use Rattle.bh_schema.specs.Layer.{Standing, IsInside, begun, standing, taken_back}
+use Rattle.bh_schema.specs.Storage.{beside, seen_in, shown}
+use Rattle.bh_schema.proofs.Storing.{plain_sound, readable_host, readable_shows}
 
-module _ {H : Type 0} (IsIntact IsOpen : H → Type 0) (IsSound : Tables → Type 0) (seen : H → Seen) (left : H → Tables → Type 0) (old mid new : H)
-    (rest : Clean IsIntact IsOpen old → IsAtRest IsSound (seen old)) (within : Within IsIntact IsOpen seen left old mid) (survives : IsIntact mid → LeavesNothingNew left old mid)
-    (intact : IsIntact new → IsIntact mid) (opened : IsIntact new → IsOpen new → IsOpen mid) (leaves : IsIntact new → LeavesNothingNew left mid new)
-    (back : Clean IsIntact IsOpen new → TakesBack (seen mid) (seen new)) (limits : (seen new).limits ≡ (seen mid).limits) where
-  before : IsIntact new → IsOpen new → Clean IsIntact IsOpen old
-  before whole up = (within.intact (intact whole), within.opened (intact whole) (opened whole up))
+-- a transaction on a host's database
+pub begun_inside : (old new : Standing) → IsHost old.now → new ≡ begun old → IsInside new
+begun_inside old new host is = subst IsInside (sym is) (record { inside = refl; host = host })
 
-  shown : IsIntact new → IsOpen new → (seen new).now ≡ (seen old).now
-  shown whole up = (back (whole, up)).now ∙ within.kept (intact whole, opened whole up) ∙ (rest (before whole up)).committed
+-- what was committed stays
+pub back_same : (old mid : Standing) → mid.kept ≡ old.kept → mid.limit ≡ old.limit → taken_back mid ≡ taken_back old
+back_same old mid kept limit = λ i. record { now = kept i; kept = kept i; inside = false; limit = limit i }
 
-  pub looked_back : IsTakenBack IsIntact IsOpen seen left old new
-  looked_back = record { same = λ whole up. ((before whole up).1, shown whole up); survives = λ whole x may. survives (intact whole) x (leaves whole x may) }
+back_seen : {digest : Octets → Octets} (l : HostLimits) (old new : State) → standing new ≡ taken_back (standing old) → IsAtRest (IsSoundHost digest) (seen_in l old) → seen_in l new ≡ seen_in l old
+unfolding seen_in
+back_seen l old new is rest = ap (shown l) is ∙ (λ i. record { now = rest.committed i; kept = tables_shown (standing old).kept; inside = sym rest.outside i; limits = l })
 
-  pub looked_rests : Clean IsIntact IsOpen new → IsAtRest IsSound (seen new)
-  looked_rests clean =
-      let it = back clean in
-      let was = rest (before clean.0 clean.1) in
-      let same = shown clean.0 clean.1 in
-      record { outside = it.outside; committed = it.kept ∙ sym it.now; sound = subst IsSound (sym same) was.sound; limits = ap limits_in same ∙ was.limits ∙ sym (limits ∙ within.limits) }
+module _ {digest : Octets → Octets} (facts : Facts) (kept : KeptBlocks) (l : HostLimits) (old : State) (rest : IsAtRest (IsSoundHost digest) (recalled facts (beside kept (seen_in l old)))) where
+  under : IsAtRest (IsSoundHost digest) (beside kept (seen_in l old))
+  under = rests_under facts (beside kept (seen_in l old)) rest
 
--- a host that works shows what its connection has
-module _ {S D : Type 0} (g : Ghosts S) (digest : Octets → Octets) (r : RecallingStorage S D) (works : IsClean g r → IsWorking (IsSoundHost digest) (recalling.seen g r)) where
-  pub is_inside : IsStateClean (state g r.storage.host.connection) → IsInside (standing (state g r.storage.host.connection))
-  is_inside clean = inside_of r.storage.host.limits (state g r.storage.host.connection) (under r.storage.host.cache _ (host_works g digest r works (parts clean)))
+  plain : beside kept (seen_in l old) ≡ seen_in l old
+  plain = plain_sound kept (seen_in l old) under.sound
 
-  pub shows : IsClean g r → (recalling.seen g r).now ≡ tables_in (standing (state g r.storage.host.connection)).now
-  shows clean =
-      let working = host_works g digest r works clean in
-      ap (λ (x : Seen). x.now) (alone_is g digest r works clean ∙ plain r.storage.host.cache _ working) ∙ shows_in r.storage.host.limits (state g r.storage.host.connection) (under r.storage.host.cache _ working)
+  alone : IsAtRest (IsSoundHost digest) (seen_in l old)
+  alone = subst (IsAtRest (IsSoundHost digest)) plain under
+
+  pub has_host : IsHost (standing old).now
+  has_host = readable_host l old alone.sound
+
+  -- what is seen is what the connection shows
+  pub shows : (recalled facts (beside kept (seen_in l old))).now ≡ tables_in (standing old).now
+  shows = ap (λ (s : Seen). s.now) (rests_alone facts (beside kept (seen_in l old)) rest ∙ plain) ∙ readable_shows l old alone.sound
+
+  pub still : (new : State) → standing new ≡ taken_back (standing old) → recalled facts (beside kept (seen_in l new)) ≡ recalled facts (beside kept (seen_in l old))
+  still new is = ap (λ s. recalled facts (beside kept s)) (back_seen l old new is alone)
 
 pub if_ok : {X E : Type 0} {P Q : X → Type 0} (result : Result X E) (told : Option X) → told ≡ result_ok result → ((x : X) → P x → Q x) → IfOk result P → IfSome told Q
 if_ok {X} {E} {P} {Q} (Ok x) told is f h = subst (λ o. IfSome o Q) (sym is) (f x h)

@@ -1,70 +1,39 @@
-//! How many bytes nobody needs, counted in a transaction that is rolled back.
+//! How many bytes nobody needs, counted in a transaction that is rolled back. What is remembered and
+//! cached stays: nothing has changed.
 
 ghost use Rattle.std.specs.Prelude.{◌≡◌, IfSome};
-ghost use Rattle.sqlite.specs.Files.{over_files};
-ghost use Rattle.bh_connection.specs.Backups.{unneeded_of};
-ghost use Rattle.bh_connection.specs.Connections.{IsTakenBack};
-ghost use Rattle.bh_dispatch.specs.Seeing as recalling;
-ghost use Rattle.bh_schema.specs.Storage as host;
-ghost use Rattle.bh_storage.specs.Calls.{Clean, IsAtRest, IsWorking, LeavesNothingNew, Within};
-ghost use Rattle.bh_view.specs.Bodies.{IsSoundHost};
+ghost use Rattle.sqlite.specs.Held.{state};
+ghost use Rattle.bh_schema.specs.Connections.{IsClean, IsIntact, stands, tables, HasHost, StaysWithin};
+ghost use Rattle.bh_schema.specs.Garbage.{garbage_in};
+ghost use Rattle.bh_schema.specs.Layer.{LeavesNothingNew, taken_back};
 
-use bh_dispatch::recalling::RecallingStorage;
-use bh_schema::host::Digester;
 use bh_schema::rows::garbage::garbage_bytes;
-use bh_storage::storage::Storage;
-use sqlite::FileStore;
-use sqlite_disk::Disk;
+use bh_schema::rows::transactions::{begin, take_back};
+use sqlite::{Alter, Connection};
 
 /// How many bytes the blocks have that no reference names. `None` if memory or the store failed.
-pub(crate) fn count<D: Disk + Drop, G: Digester + Drop>(
-    storage: &mut RecallingStorage<FileStore<D>, G>,
-) -> Option<u64>
-    requires { Clean (λ r. host.IsIntact over_files r.storage.host) (λ r. host.IsOpen over_files r.storage.host) storage.old
-        → IsAtRest (IsSoundHost G.digest_of) (recalling.seen over_files storage.old) }
-    ensures intact { host.IsIntact over_files storage.new.storage.host → host.IsIntact over_files storage.old.storage.host }
-    ensures stays { IsTakenBack (λ r. host.IsIntact over_files r.storage.host) (λ r. host.IsOpen over_files r.storage.host)
-        (λ r. recalling.seen over_files r) (λ r. host.left over_files r.storage.host) storage.old storage.new }
-    ensures ready { Clean (λ r. host.IsIntact over_files r.storage.host) (λ r. host.IsOpen over_files r.storage.host) storage.new
-        → IsAtRest (IsSoundHost G.digest_of) (recalling.seen over_files storage.new) }
-    ensures limits { (recalling.seen over_files storage.new).limits ≡ (recalling.seen over_files storage.old).limits }
-    ensures counted { IfSome result (λ n. Clean (λ r. host.IsIntact over_files r.storage.host)
-        (λ r. host.IsOpen over_files r.storage.host) storage.new → n ≡ unneeded_of (recalling.seen over_files storage.old).now) }
+pub(crate) fn count<S: Alter>(connection: &mut Connection<S>) -> Option<u64>
+    requires { HasHost S.Store connection.old }
+    ensures intact { IsIntact S.Store connection.new → IsIntact S.Store connection.old }
+    ensures clean { IsClean S.Store connection.new → IsClean S.Store connection.old }
+    ensures back { IsClean S.Store connection.new → stands S.Store connection.new ≡ taken_back (stands S.Store connection.old) }
+    ensures survives { LeavesNothingNew (state S.Store connection.old) (state S.Store connection.new) }
+    ensures counted { IfSome result (λ n. IsClean S.Store connection.new → n ≡ garbage_in (tables S.Store connection.old)) }
 {
-    let counted = look(storage);
-    storage.take_back();
+    let counted = look(connection);
+    take_back(connection);
     counted
 }
 
 /// The same, in a transaction that is left open, if it could be opened.
-fn look<D: Disk + Drop, G: Digester + Drop>(
-    storage: &mut RecallingStorage<FileStore<D>, G>,
-) -> Option<u64>
-    requires { Clean (λ r. host.IsIntact over_files r.storage.host) (λ r. host.IsOpen over_files r.storage.host) storage.old
-        → IsAtRest (IsSoundHost G.digest_of) (recalling.seen over_files storage.old) }
-    ensures within { Within (λ r. host.IsIntact over_files r.storage.host) (λ r. host.IsOpen over_files r.storage.host)
-        (λ r. recalling.seen over_files r) (λ r. host.left over_files r.storage.host) storage.old storage.new }
-    ensures survives { host.IsIntact over_files storage.new.storage.host
-        → LeavesNothingNew (λ r. host.left over_files r.storage.host) storage.old storage.new }
-    ensures counted { IfSome result (λ n. Clean (λ r. host.IsIntact over_files r.storage.host)
-        (λ r. host.IsOpen over_files r.storage.host) storage.new → n ≡ unneeded_of (recalling.seen over_files storage.old).now) }
+fn look<S: Alter>(connection: &mut Connection<S>) -> Option<u64>
+    requires { HasHost S.Store connection.old }
+    ensures within { StaysWithin S.Store connection.old connection.new }
+    ensures survives { LeavesNothingNew (state S.Store connection.old) (state S.Store connection.new) }
+    ensures counted { IfSome result (λ n. IsClean S.Store connection.new → n ≡ garbage_in (tables S.Store connection.old)) }
 {
-    match storage.begin() {
-        Ok(()) => counted(storage),
+    match begin(connection) {
+        Ok(_) => garbage_bytes(connection).ok(),
         Err(_) => None,
     }
-}
-
-/// The same, inside a transaction.
-fn counted<D: Disk + Drop, G: Digester + Drop>(
-    storage: &mut RecallingStorage<FileStore<D>, G>,
-) -> Option<u64>
-    requires { Clean (λ r. host.IsIntact over_files r.storage.host) (λ r. host.IsOpen over_files r.storage.host) storage.old
-        → IsWorking (IsSoundHost G.digest_of) (recalling.seen over_files storage.old) }
-    ensures within { Within (λ r. host.IsIntact over_files r.storage.host) (λ r. host.IsOpen over_files r.storage.host)
-        (λ r. recalling.seen over_files r) (λ r. host.left over_files r.storage.host) storage.old storage.new }
-    ensures counted { IfSome result (λ n. Clean (λ r. host.IsIntact over_files r.storage.host)
-        (λ r. host.IsOpen over_files r.storage.host) storage.new → n ≡ unneeded_of (recalling.seen over_files storage.old).now) }
-{
-    garbage_bytes(&mut storage.storage.host.connection).ok()
 }

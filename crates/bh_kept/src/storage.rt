@@ -225,7 +225,7 @@ impl<'a, D: Disk + Drop, G: Digester + Drop, K: BlockSize> BackUp for KeptHost<'
 
     fn unneeded(&mut self) -> Option<u64> {
         match &mut self.storage {
-            Some(storage) => count(storage),
+            Some(it) => count(&mut it.storage.host.connection),
             None => None,
         }
     }

@@ -1,18 +1,28 @@
 use Rattle.std.proofs.Common.{ap, ◌∙◌}
-use Rattle.sqlite.specs.Files.{over_files}
-use Rattle.bh_connection.specs.Backups.{unneeded_of}
-use Rattle.bh_dispatch.proofs.Remembering.{then}
-use Rattle.bh_kept.proofs.Held.{if_some}
+use Rattle.sqlite.specs.Held.{state}
+use Rattle.bh_tables.specs.Typed.{tables_in}
+use Rattle.bh_schema.specs.Garbage.{garbage_in}
+use Rattle.bh_schema.specs.Layer.{Standing}
+use Rattle.bh_schema.proofs.Storing.{within_then}
+use Rattle.bh_kept.proofs.Looking.{begun_inside, if_ok}
 use Rattle.bh_kept.proofs.counting.look.Goals as goal
 
+pub garbage_bytes-requires : goal.garbage_bytes-requires
+garbage_bytes-requires g c clean = begun_inside _ _ (c.requires (c.begin.ensures.within.follows.clean clean)) (c.in-Ok.ensures.begins clean.intact)
+
 pub returns-in-Ok-clause-within : goal.returns-in-Ok-clause-within
-returns-in-Ok-clause-within g c = then over_files c.args.storage.now c.begin.new.self c.counted.new.storage (λ up intact. (c.in-Ok.ensures.opens intact).1) c.begin.ensures.within c.counted.ensures.within
+returns-in-Ok-clause-within g c =
+    within_then (state g.S.Store c.args.connection.now) (state g.S.Store c.begin.new.connection) (state g.S.Store c.garbage_bytes.new.connection) (λ intact up. (c.in-Ok.ensures.opens intact).1) c.begin.ensures.within
+    c.garbage_bytes.ensures.reads.within
 
 pub returns-in-Ok-clause-survives : goal.returns-in-Ok-clause-survives
-returns-in-Ok-clause-survives g c intact x may =
-    let w = c.counted.ensures.within in
-    c.begin.ensures.survives (w.intact intact) x (w.survives ((c.in-Ok.ensures.opens (w.intact intact)).1) intact x may)
+returns-in-Ok-clause-survives g c intact db may =
+    let read = c.garbage_bytes.ensures.reads.within in
+    let before = read.follows.intact intact in
+    c.begin.ensures.survives before db (read.survives (c.in-Ok.ensures.opens before).1 intact db may)
 
 pub returns-in-Ok-clause-counted : goal.returns-in-Ok-clause-counted
 returns-in-Ok-clause-counted g c =
-    if_some c.counted.result (λ n is clean. is clean ∙ ap unneeded_of (c.in-Ok.ensures.same (c.counted.ensures.within.intact clean.0))) c.counted.ensures.counted
+    let read = c.garbage_bytes.ensures.reads.within in
+    if_ok c.garbage_bytes.result c.ok.result c.ok.ensures.value
+    (λ n is clean. is clean ∙ ap (λ (x : Standing). garbage_in (tables_in x.now)) (c.in-Ok.ensures.begins (read.follows.intact clean.intact))) c.garbage_bytes.ensures.is
