@@ -16,7 +16,7 @@ _bucketd() {
             mapfile -t COMPREPLY < <(compgen -f -- "$word")
             return
             ;;
-        --at | --block-size | --cache-blocks | --cache-bytes | --clock-leap | --clock-step | --connections | --count | --digest | --limit | --max-body | --min-part | --name | --operator-port | --port | --quota | --secret | --socket-group | --tenant | --timeout)
+        --at | --block-size | --cache-blocks | --cache-bytes | --clock-leap | --clock-step | --connections | --count | --digest | --keep-garbage | --limit | --max-body | --min-part | --name | --operator-port | --port | --quota | --secret | --socket-group | --tenant | --timeout)
             return
             ;;
         esac
@@ -37,7 +37,7 @@ _bucketd() {
         backup) words=" --to --file --operator-port --operator-socket --operator-secret-file --help " ;;
         export) words=" --file --tenant --to --help " ;;
         import) words=" --file --from --clock-leap --force --help " ;;
-        serve) words=" --file --port --socket --socket-group --count --log --timeout --connections --spool --clock-leap --clock-step --force --block-size --cache-blocks --cache-bytes --operator-port --operator-socket --operator-secret-file --help " ;;
+        serve) words=" --file --port --socket --socket-group --count --log --timeout --connections --spool --clock-leap --clock-step --force --block-size --cache-blocks --cache-bytes --keep-garbage --operator-port --operator-socket --operator-secret-file --help " ;;
         tell) words=" --port --socket --secret-file --help " ;;
         stop) words=" --operator-port --operator-socket --operator-secret-file --help " ;;
         health) words=" --operator-port --operator-socket --operator-secret-file --help " ;;

@@ -12,7 +12,7 @@ use Rattle.bh_event.specs.Events.{Arrival}
 use Rattle.bh_tables.specs.Hosts.{tables_shown, tables_opened}
 use Rattle.bh_tables.specs.Schema.{host_schema}
 use Rattle.bh_tables.specs.Typed.{Tables}
-use Rattle.bh_tables.proofs.HostTests.{others_open, other_schema, unlike_second, unlike_third}
+use Rattle.bh_tables.proofs.HostTests.{others_open, other_schema, unlike_second, unlike_third, unlike_fourth}
 use Rattle.bh_view.specs.Bodies.{IsSoundHost}
 use Rattle.bh_storage.specs.Calls.{Seen, IsAtRest}
 use Rattle.bh_storage.specs.declared.storage.Storage as storage
@@ -40,13 +40,14 @@ use Rattle.bh_again.proofs.Remaining.{remains_last}
 not_earlier : (db : Database) → db.schema ≡ host_schema → IsEarlierSchema db.schema → ⊥
 not_earlier db is (inl first) = other_schema db is first
 not_earlier db is (inr (inl second)) = unlike_second db is second
-not_earlier db is (inr (inr third)) = unlike_third db is third
+not_earlier db is (inr (inr (inl third))) = unlike_third db is third
+not_earlier db is (inr (inr (inr fourth))) = unlike_fourth db is fourth
 
 present_typed : (db : Database) → db.schema ≡ host_schema → IsTypedIfEarlier db
-present_typed db is = record { first = λ first. absurd (other_schema db is first); second = λ second. absurd (unlike_second db is second); third = λ third. absurd (unlike_third db is third) }
+present_typed db is = record { first = λ first. absurd (other_schema db is first); second = λ second. absurd (unlike_second db is second); third = λ third. absurd (unlike_third db is third); fourth = λ fourth. absurd (unlike_fourth db is fourth) }
 
 present_opens : (db : Database) → db.schema ≡ host_schema → tables_opened db ≡ tables_shown db
-present_opens db is = others_open db (other_schema db is) (unlike_second db is) (unlike_third db is)
+present_opens db is = others_open db (other_schema db is) (unlike_second db is) (unlike_third db is) (unlike_fourth db is)
 
 present_back : {D : Type 0} {g : Ghosts D} (opened : Opened (FileStore D g)) (db : Database) → db.schema ≡ host_schema → ComesBack db opened → CameBack (tables_shown db) opened
 present_back opened db is it = subst (λ (x : Tables). CameBack x opened) (present_opens db is) (it.came_back (present_typed db is))
@@ -111,8 +112,9 @@ module _ {D G : Type 0} {g : Ghosts D} (digest : Octets → Octets) (host : Host
           told : IsHostsSchema db.schema → P (seen_again opened).now ⊎ IsOlder host (seen_again opened).now
           told (inl first) = older (inl first)
           told (inr (inl second)) = older (inr (inl second))
-          told (inr (inr (inl third))) = older (inr (inr third))
-          told (inr (inr (inr fourth))) = inl (subst P (sym (present_back opened db fourth back).tables) (says (tables_shown db) (left_shown host db may)))
+          told (inr (inr (inl third))) = older (inr (inr (inl third)))
+          told (inr (inr (inr (inl fourth)))) = older (inr (inr (inr fourth)))
+          told (inr (inr (inr (inr fifth)))) = inl (subst P (sym (present_back opened db fifth back).tables) (says (tables_shown db) (left_shown host db may)))
 
 -- ---- after an event on a storage that stands over a host
 

@@ -16,7 +16,7 @@ use Rattle.bh_types.specs.declared.block_digest.BlockDigest.TheVariants.{Sha256,
 use Rattle.bh_model.specs.State.{Octets}
 use Rattle.bh_tables.specs.Hosts.{is_of_version, with_version, tables_opened}
 use Rattle.bh_tables.specs.Typed.{HostRow, Tables, tables_in, first_tables_in}
-use Rattle.bh_tables.proofs.HostTests.{host_opens, first_opens, second_opens, third_opens, opened_host}
+use Rattle.bh_tables.proofs.HostTests.{host_opens, first_opens, second_opens, third_opens, fourth_opens, opened_host}
 use Rattle.bh_view.specs.Bodies.{IsSoundHost}
 use Rattle.bh_view.specs.View.{latest_of}
 use Rattle.bh_storage.specs.Calls.{IsAtRest}
@@ -24,7 +24,7 @@ use Rattle.bh_schema.specs.Layer.{standing, IsIntact, IsOpen, IsStateClean, Leav
 use Rattle.bh_schema.proofs.Committing.{same_database}
 use Rattle.bh_open.specs.Opening.{digest_in, IsRowOf, IsHostOf}
 use Rattle.bh_open.specs.Versions.{IsHostsSchema, IsTypedIfEarlier}
-use Rattle.bh_open.specs.declared.found.HostVersion.TheVariants.{First, Second, Third, Fourth}
+use Rattle.bh_open.specs.declared.found.HostVersion.TheVariants.{First, Second, Third, Fourth, Fifth}
 use Rattle.bh_open.specs.declared.open.Opened.{Opened}
 use Rattle.bh_again.specs.Stops.{seen_again, IsCleanAgain, ComesBack}
 
@@ -92,17 +92,17 @@ named_by (suc zero) known = (Fast, refl)
 named_by (suc (suc n)) known = absurd (omega arith)
 
 -- the one row that was brought over
-one_before : (n : ℕ) (rows : List HostRow) (row : HostRow) → map (with_version 4) rows ≡ row ∷ [] → list_all (is_of_version n) rows ≡ true
-    → (h : HostRow) × (rows ≡ h ∷ []) × (with_version 4 h ≡ row) × (h.version ≡ n)
+one_before : (n : ℕ) (rows : List HostRow) (row : HostRow) → map (with_version 5) rows ≡ row ∷ [] → list_all (is_of_version n) rows ≡ true
+    → (h : HostRow) × (rows ≡ h ∷ []) × (with_version 5 h ≡ row) × (h.version ≡ n)
 one_before n [] row is told = absurd (cc)
 one_before n (h ∷ []) row is told = (h, refl, (let e = is in cc), eqb-true h.version n (and_parts _ _ told).0)
 one_before n (h ∷ k ∷ rows) row is told = let e = ap length is in absurd (omega (arith, e))
 
-row_before : (n : ℕ) (rows : List HostRow) (row : HostRow) (named : BlockDigest) → AreLimits row.min_part row.max_body → digest_number named ≡ row.digest → map (with_version 4) rows ≡ row ∷ [] → list_all (is_of_version n) rows ≡ true
+row_before : (n : ℕ) (rows : List HostRow) (row : HostRow) (named : BlockDigest) → AreLimits row.min_part row.max_body → digest_number named ≡ row.digest → map (with_version 5) rows ≡ row ∷ [] → list_all (is_of_version n) rows ≡ true
     → IsRowOf n (record { min_part = row.min_part; max_body = row.max_body }) rows
 row_before n rows row named range number brought told =
     let one = one_before n rows row brought told in
-    let same : with_version 4 one.0 ≡ row = one.2 in
+    let same : with_version 5 one.0 ≡ row = one.2 in
     record {
       row = one.0;
       alone = one.1;
@@ -123,7 +123,7 @@ hosts_database digest db sound =
           let there : (tables_in db).host ≡ it.row ∷ [] = ap (λ (t : Tables). t.host) (sym (host_opens db host)) ∙ it.alone in (
             limits,
             (
-              Fourth,
+              Fifth,
               record {
                 host = host;
                 row = record { row = it.row; alone = there; version_is = it.good.version; range = it.good.limits; limits_are = refl; named = by.0; number = by.1 };
@@ -132,15 +132,20 @@ hosts_database digest db sound =
           )
       | inr earlier ↦ elim earlier [
         | inl one ↦
-            let there : map (with_version 4) (first_tables_in db).host ≡ it.row ∷ [] = ap (λ (t : Tables). t.host) (sym (first_opens db one)) ∙ it.alone in
+            let there : map (with_version 5) (first_tables_in db).host ≡ it.row ∷ [] = ap (λ (t : Tables). t.host) (sym (first_opens db one)) ∙ it.alone in
             (limits, (First, record { host = one.first; row = row_before 1 (first_tables_in db).host it.row by.0 it.good.limits by.1 there one.version }))
         | inr later ↦ elim later [
           | inl two ↦
-              let there : map (with_version 4) (tables_in db).host ≡ it.row ∷ [] = ap (λ (t : Tables). t.host) (sym (second_opens db two)) ∙ it.alone in
+              let there : map (with_version 5) (tables_in db).host ≡ it.row ∷ [] = ap (λ (t : Tables). t.host) (sym (second_opens db two)) ∙ it.alone in
               (limits, (Second, record { host = two.second; row = row_before 2 (tables_in db).host it.row by.0 it.good.limits by.1 there two.version }))
-          | inr three ↦
-              let there : map (with_version 4) (tables_in db).host ≡ it.row ∷ [] = ap (λ (t : Tables). t.host) (sym (third_opens db three)) ∙ it.alone in
-              (limits, (Third, record { host = three.third; row = row_before 3 (tables_in db).host it.row by.0 it.good.limits by.1 there three.version }))
+          | inr latest ↦ elim latest [
+            | inl three ↦
+                let there : map (with_version 5) (tables_in db).host ≡ it.row ∷ [] = ap (λ (t : Tables). t.host) (sym (third_opens db three)) ∙ it.alone in
+                (limits, (Third, record { host = three.third; row = row_before 3 (tables_in db).host it.row by.0 it.good.limits by.1 there three.version }))
+            | inr four ↦
+                let there : map (with_version 5) (tables_in db).host ≡ it.row ∷ [] = ap (λ (t : Tables). t.host) (sym (fourth_opens db four)) ∙ it.alone in
+                (limits, (Fourth, record { host = four.fourth; row = row_before 4 (tables_in db).host it.row by.0 it.good.limits by.1 there four.version }))
+          ]
         ]
       ]
     ]

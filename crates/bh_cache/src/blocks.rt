@@ -40,6 +40,9 @@ pub struct BlockCache {
     blocks: Option<LruCache<BlockName, Vec<u8>>>,
     /// The bytes of all cached blocks.
     bytes: u64,
+    /// How often a block was read here, and how often from its row, since the process began.
+    hits: u64,
+    misses: u64,
 }
 
 impl Model for BlockCache {
@@ -133,6 +136,8 @@ impl BlockCache {
             tuning,
             blocks: None,
             bytes: 0,
+            hits: 0,
+            misses: 0,
         }
     }
 
@@ -163,6 +168,16 @@ impl BlockCache {
         self.bytes
     }
 
+    /// How many blocks were read here since the cache was made. Nothing depends on it.
+    pub fn hits(&self) -> u64 {
+        self.hits
+    }
+
+    /// How many blocks were read from their rows, of those that fit in the cache.
+    pub fn misses(&self) -> u64 {
+        self.misses
+    }
+
     /// The bytes of a block, if it is cached.
     pub fn kept(&self, name: &BlockName) -> Option<&[u8]>
         ensures { IfSome result (λ bytes. Contains self.now.entries (name_of name.now, bytes.now)) }
@@ -181,6 +196,7 @@ impl BlockCache {
         ensures tuning { self.new.tuning ≡ self.old.tuning }
         ensures entries { (e : Name × Octets) → Contains self.new.entries e → Contains self.old.entries e }
     {
+        self.hits = self.hits.saturating_add(1);
         if let Some(kept) = &mut self.blocks {
             kept.promote(name);
         }
@@ -203,9 +219,11 @@ impl BlockCache {
         }
     }
 
+    /// Counts a block that was read from its row, and makes the list of blocks before the first one.
     fn make_room(&mut self, alloc: Global)
         ensures { self.new ≡ self.old }
     {
+        self.misses = self.misses.saturating_add(1);
         if self.blocks.is_some() {
             return;
         }

@@ -1,5 +1,5 @@
 -- What is done for a command line's task.
-use Rattle.std.specs.Prelude.{◌≡◌, ◌++◌, List, ℕ, codes, Option, Some, None, Result, Ok, Err, MatchOption, IsSomeAnd, is_some}
+use Rattle.std.specs.Prelude.{◌≡◌, ◌++◌, List, ℕ, codes, Option, Some, None, Result, Ok, Err, MatchOption, IsOkAnd, IsSomeAnd, is_some}
 use Rattle.std.specs.String.{string_bytes}
 use Rattle.std.specs.declared.alloc.Global.{Global}
 use Rattle.std.specs.declared.string.String.{String}
@@ -19,6 +19,7 @@ use Rattle.bh_maintenance.specs.Backups.{IsBackedUp}
 use Rattle.bh_maintenance.specs.Checks.{IsChecked}
 use Rattle.bh_maintenance.specs.Moves.{IsExported, IsImported}
 use Rattle.bh_maintenance.specs.declared.clocks.ClockRead.{ClockRead}
+use Rattle.bh_maintenance.specs.declared.fault.Fault.{Fault}
 use Rattle.bh_maintenance.specs.declared.printed.Printed.{Printed}
 use Rattle.bh_commands.specs.Files.{IsAnswered}
 use Rattle.bh_command_line.specs.Input.{IsTyped}
@@ -70,6 +71,7 @@ pub record IsServing (path : List ℕ) (asked : ServeTask) (serving : Serving) :
   pub file : string_bytes serving.file ≡ path
   pub spool : string_bytes serving.spool ≡ spool_name path asked.spool
   pub clock_step : serving.clock_step ≡ asked.clock_step
+  pub keep_garbage : serving.keep_garbage ≡ asked.keep_garbage
 
 -- what is ordered is what was typed; a key's secret may have been read
 abbrev pub IsReadAs : Message → Message → Type 0
@@ -149,10 +151,12 @@ module _ {D E M : Type 0} (g : disk.Ghosts D) (e : disk.Ghosts E) (m : disk.Ghos
   IsLineDone (Ok task) printed = IsCarriedOut task printed
   IsLineDone (Err misfit) printed = ⊥
 
-  -- a line is carried out in some environment; the program names `Wary` for each file
-  abbrev pub IsDoneSomewhere : Line → Printed → Type 0
-  IsDoneSomewhere line printed = (environment : Environment) × IsLineDone (task_of wary environment line) printed
+  -- a line is carried out in an environment; the program names `Wary` for each file
+  abbrev pub IsDoneIn : Environment → Line → Printed → Type 0
+  IsDoneIn environment line printed = IsLineDone (task_of wary environment line) printed
 
-  -- what was done is what was typed: words tell a line, with the order that the table of fields says
-  abbrev pub IsDoneAsTyped : List (List ℕ) → Printed → Type 0
-  IsDoneAsTyped words printed = (line : Line) × (told_by words ≡ Some (command_line line)) × IsDoneSomewhere line printed
+  -- what was done is what was typed: words tell a line, with the order that the table of fields says,
+  -- and it is carried out in the environment, which was read
+  abbrev pub IsDoneAsTyped : Result Environment Fault → List (List ℕ) → Printed → Type 0
+  IsDoneAsTyped environment words printed =
+      (line : Line) × (told_by words ≡ Some (command_line line)) × IsOkAnd environment (λ e. IsDoneIn e line printed)

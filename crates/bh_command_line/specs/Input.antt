@@ -1,6 +1,8 @@
 -- Texts on standard input.
-use Rattle.std.specs.Prelude.{◌≡◌, ◌⊎◌, ◌==◌, ℕ, not, codes, false, List, [], take_while, IsUtf8}
+use Rattle.std.specs.Prelude.{◌≡◌, ◌⊎◌, ◌==◌, ℕ, not, codes, List, [], take_while, IsUtf8, if◌then◌else◌}
 use Rattle.std.specs.Str.{bytes_eq}
+use Rattle.bh_command_line.specs.declared.input.Source.{Source}
+use Rattle.bh_command_line.specs.declared.input.Source.TheVariants.{Word, Input}
 
 -- the bytes before the first line feed
 abbrev pub first_line : List ℕ → List ℕ
@@ -10,6 +12,10 @@ first_line bytes = take_while (λ b. not (b == 10)) bytes
 abbrev pub IsSecretIn : List ℕ → List ℕ → Type 0
 IsSecretIn bytes secret = (secret ≡ first_line bytes) ⊎ ((¬ IsUtf8 (first_line bytes)) × (secret ≡ []))
 
--- a text is what was typed, unless that is `-`; no clause is about standard input
+-- `-` stands for standard input, and any other word for itself
+abbrev pub source_of : List ℕ → Source
+source_of typed = if bytes_eq typed (codes "-") then Input else Word
+
+-- a text is what was typed, unless that stands for standard input, of which no clause is
 abbrev pub IsTyped : List ℕ → List ℕ → Type 0
-IsTyped typed text = bytes_eq typed (codes "-") ≡ false → text ≡ typed
+IsTyped typed text = source_of typed ≡ Word → text ≡ typed

@@ -10,7 +10,7 @@ use std::{env, io};
 const FOREIGN: &str = "a variable that begins with BUCKETD_ isn't UTF-8";
 
 /// What the environment gives for an order. An empty variable counts as none.
-pub(crate) fn environment_of(rt: &HostRuntime) -> Result<Environment, Fault> {
+pub fn environment_of(rt: &HostRuntime) -> Result<Environment, Fault> {
     Ok(Environment {
         file: variable(rt, "BUCKETD_FILE")?,
         operator_port: variable(rt, "BUCKETD_OPERATOR_PORT")?,

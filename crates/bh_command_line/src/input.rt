@@ -117,13 +117,34 @@ pub(crate) fn secret_in(alloc: Global, bytes: &[u8]) -> Result<String, AllocErro
     }
 }
 
+/// What a typed word stands for.
+#[derive(Clone, Copy)]
+enum Source {
+    /// Itself.
+    Word,
+    /// The first line of standard input.
+    Input,
+}
+
+fn source_of(typed: &str) -> Source
+    ensures { result ≡ spec.source_of typed.now }
+{
+    if typed == "-" {
+        Source::Input
+    } else {
+        Source::Word
+    }
+}
+
 /// A text that was typed, or for `-` the first line of standard input.
 pub fn typed_text(rt: &(impl Input + AllocGlobal), typed: String) -> Result<String, Fault>
     ensures { IfOk result (λ text. spec.IsTyped (string_bytes typed) (string_bytes text)) }
 {
-    if typed.as_str() == "-" {
-        let bytes = read_input(rt)?;
-        return Ok(secret_in(rt.alloc(), bytes.as_slice())?);
+    match source_of(typed.as_str()) {
+        Source::Word => Ok(typed),
+        Source::Input => {
+            let bytes = read_input(rt)?;
+            Ok(secret_in(rt.alloc(), bytes.as_slice())?)
+        }
     }
-    Ok(typed)
 }

@@ -10,5 +10,6 @@ mod secrets;
 mod telling;
 mod works;
 
+pub use environment::environment_of;
 pub use failure::Failure;
 pub use lines::{carry_out, carry_task};

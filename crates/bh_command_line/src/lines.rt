@@ -4,9 +4,8 @@ ghost use Rattle.std.specs.Prelude.{IfOk, map};
 ghost use Rattle.std.specs.String.{string_bytes};
 ghost use Rattle.sqlite_wal.specs.Files.{image_at};
 ghost use Rattle.bh_maintenance.specs.Files.{HoldsSoundHost};
-ghost use Rattle.bh_command_line.specs.Carrying.{IsMaintained, IsCarriedOut, IsDoneAsTyped, IsDoneSomewhere};
+ghost use Rattle.bh_command_line.specs.Carrying.{IsMaintained, IsCarriedOut, IsDoneAsTyped, IsDoneIn};
 
-use crate::environment::environment_of;
 use crate::failure::Failure;
 use crate::files::{back_up_in, check_in, export_in, import_in, known, make_in, work_in};
 use crate::input::answer_input;
@@ -14,7 +13,7 @@ use crate::telling::tell;
 use bh_file::HostFile;
 use bh_maintenance::fault::Fault;
 use bh_maintenance::printed::Printed;
-use bh_task::{LineTask, Maintenance, Starts, task_of};
+use bh_task::{Environment, LineTask, Maintenance, Starts, task_of};
 use bh_words::{Line, read_words};
 use sqlite::{Start, Wary};
 use sqlite_disk::Disk;
@@ -78,32 +77,37 @@ pub fn carry_task<S: Start, T: Start, U: Start>(
     }
 }
 
-/// Carries out a parsed command line, and returns the printed text.
+/// Carries out a parsed command line in an environment, and returns the printed text.
 ///
 /// A subcommand on a file reports the first of these problems. Options don't fit together. The file
 /// can't be opened. It has no host (`47 NotAHostFile`), or for `init` isn't empty. The clock can't
 /// be read, or is too far ahead. The event is refused.
-fn carry_line(rt: &HostRuntime, line: Line) -> Result<Printed, Failure>
-    ensures { IfOk result (IsDoneSomewhere ⟦<HostFile<Wary> as Disk>⟧ ⟦<HostFile<Wary> as Disk>⟧ ⟦<HostFile<Wary> as Disk>⟧
-        (image_at ⟦<Wary as Start>⟧) (image_at ⟦<Wary as Start>⟧) line) }
+fn carry_line(rt: &HostRuntime, environment: Environment, line: Line) -> Result<Printed, Failure>
+    ensures { IfOk result (IsDoneIn ⟦<HostFile<Wary> as Disk>⟧ ⟦<HostFile<Wary> as Disk>⟧ ⟦<HostFile<Wary> as Disk>⟧
+        (image_at ⟦<Wary as Start>⟧) (image_at ⟦<Wary as Start>⟧) environment line) }
 {
     let starts = Starts {
         host: Wary,
         other: Wary,
         made: Wary,
     };
-    let environment = environment_of(rt)?;
     let task = task_of(line, environment, starts)?;
     let printed = carry_task(rt, task)?;
     Ok(printed)
 }
 
-/// Carries out a command line, the program's name first, and returns the printed text. Fails if its
-/// words tell no line, if their options don't fit together, or as [`carry_task`] does.
-pub fn carry_out(rt: &HostRuntime, words: &[String]) -> Result<Printed, Failure>
+/// Carries out a command line, the program's name first, in an environment, and returns the printed
+/// text. Fails if its words tell no line, if the environment couldn't be read, if options don't fit
+/// together, or as [`carry_task`] does.
+pub fn carry_out(
+    rt: &HostRuntime,
+    environment: Result<Environment, Fault>,
+    words: &[String],
+) -> Result<Printed, Failure>
     ensures { IfOk result (IsDoneAsTyped ⟦<HostFile<Wary> as Disk>⟧ ⟦<HostFile<Wary> as Disk>⟧ ⟦<HostFile<Wary> as Disk>⟧
-        (image_at ⟦<Wary as Start>⟧) (image_at ⟦<Wary as Start>⟧) (map string_bytes words.now)) }
+        (image_at ⟦<Wary as Start>⟧) (image_at ⟦<Wary as Start>⟧) environment (map string_bytes words.now)) }
 {
     let line = read_words(rt.alloc(), words)?;
-    carry_line(rt, line)
+    let environment = environment?;
+    carry_line(rt, environment, line)
 }

@@ -77,6 +77,7 @@ fn serving_of(rt: &HostRuntime, path: &str, asked: ServeTask) -> Result<Serving,
         connections,
         spool,
         clock_step,
+        keep_garbage,
     } = asked;
     let operator = operator_of(rt, operator)?;
     Ok(Serving {
@@ -89,6 +90,7 @@ fn serving_of(rt: &HostRuntime, path: &str, asked: ServeTask) -> Result<Serving,
         file: String::from_str(rt.alloc(), path)?,
         spool: spool_of(rt.alloc(), path, spool)?,
         clock_step,
+        keep_garbage,
     })
 }
 

@@ -38,6 +38,8 @@ pub struct Serving {
     pub spool: String,
     /// By how many seconds the clock may jump.
     pub clock_step: u64,
+    /// How many bytes that nobody needs may stay before a sweep begins.
+    pub keep_garbage: Option<u64>,
 }
 
 impl OperatorServing {
@@ -85,6 +87,7 @@ impl Serving {
         ensures group { option_map (λ s. s.now) result.socket_group ≡ option_map string_bytes self.now.socket_group }
         ensures operators { option_map (λ s. s.now) result.operator_socket ≡ operator_socket_in self.now }
         ensures clock_step { result.clock_step ≡ self.now.clock_step }
+        ensures keep_garbage { result.keep_garbage ≡ self.now.keep_garbage }
     {
         Places {
             connections: self.connections as usize,
@@ -94,6 +97,7 @@ impl Serving {
             socket_group: self.socket_group(),
             operator_socket: self.operator_socket(),
             clock_step: self.clock_step,
+            keep_garbage: self.keep_garbage,
         }
     }
 

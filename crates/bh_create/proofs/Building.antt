@@ -8,7 +8,7 @@ use Rattle.bh_types.specs.declared.block_digest.BlockDigest.{BlockDigest}
 use Rattle.bh_model.specs.QuotaLaws.{IsBounded}
 use Rattle.bh_model.specs.State.{Octets}
 use Rattle.bh_tables.specs.Schema.{no_schema}
-use Rattle.bh_tables.specs.Made.{with_garbage}
+use Rattle.bh_tables.specs.Made.{with_unneeded}
 use Rattle.bh_tables.specs.Typed.{Tables, Totals, totals_of, unweighed, no_rows, tables_in}
 use Rattle.bh_tables.specs.Hosts.{tables_shown}
 use Rattle.bh_tables.proofs.HostTests.{host_shows}
@@ -145,20 +145,20 @@ abbrev pub Rewritten : State → State → (Totals → Totals) → Type 0
 Rewritten old new after = IsStateClean new → (sums : Totals) → IsInsideBy sums (standing old) → HoldsBy (after sums) (tables_in (standing old).now) (standing new)
 
 -- all tables are made, and nothing is counted of what nobody needs
-made_host : (s : State) → IsMaking with_garbage s → IsInsideBy (unweighed (totals_of (tables_in (standing s).now))) (standing s) × (tables_in (standing s).now ≡ no_rows)
+made_host : (s : State) → IsMaking with_unneeded s → IsInsideBy (unweighed (totals_of (tables_in (standing s).now))) (standing s) × (tables_in (standing s).now ≡ no_rows)
 unfolding standing
 made_host s making =
     let it = blank_host s (subst (λ schema. IsBlank schema s) all_made making.blank) in
     (record { inside = making.inside; host = it.0 }, it.1)
 
-pub made_midst : (s : State) → IsMaking with_garbage s → IsMidst (standing s)
+pub made_midst : (s : State) → IsMaking with_unneeded s → IsMidst (standing s)
 made_midst s making = record { sums = unweighed (totals_of (tables_in (standing s).now)); by = (made_host s making).0 }
 
-pub none_weighed : (s : State) → IsMaking with_garbage s → (sums : Totals) → IsInsideBy sums (standing s) → sums.garbage ≡ []
+pub none_weighed : (s : State) → IsMaking with_unneeded s → (sums : Totals) → IsInsideBy sums (standing s) → sums.garbage ≡ []
 none_weighed s making sums by = sym by.host.held.weighed ∙ (made_host s making).0.host.held.weighed
 
 -- the row of what nobody needs is added
-pub weighed_none : (old new : State) → IsMaking with_garbage old → Rewritten old new (weight_added 0) → IsStateClean new → Holds no_rows (standing new)
+pub weighed_none : (old new : State) → IsMaking with_unneeded old → Rewritten old new (weight_added 0) → IsStateClean new → Holds no_rows (standing new)
 weighed_none old new making rewritten clean =
     let it = made_host old making in
     let t = tables_in (standing old).now in
@@ -171,10 +171,10 @@ still_empty s h = ap (λ (t : Tables). t.host) h.is
 
 -- the host's row is added
 pub filled : (old new : State) (min_part max_body digest : ℕ) → Holds no_rows (standing old)
-    → Holds (record (tables_in (standing old).now) { host = (tables_in (standing old).now).host ++ record { version = 4; latest = 0; min_part = min_part; max_body = max_body; digest = digest } ∷ [] }) (standing new)
+    → Holds (record (tables_in (standing old).now) { host = (tables_in (standing old).now).host ++ record { version = 5; latest = 0; min_part = min_part; max_body = max_body; digest = digest } ∷ [] }) (standing new)
     → Holds (new_host min_part max_body digest) (standing new)
 filled old new min_part max_body digest none it =
-    record { within = it.within; is = it.is ∙ ap (λ (t : Tables). record t { host = t.host ++ record { version = 4; latest = 0; min_part = min_part; max_body = max_body; digest = digest } ∷ [] }) none.is }
+    record { within = it.within; is = it.is ∙ ap (λ (t : Tables). record t { host = t.host ++ record { version = 5; latest = 0; min_part = min_part; max_body = max_body; digest = digest } ∷ [] }) none.is }
 
 -- it has no body, and no tenant
 new_sound : (digest : Octets → Octets) (tables : Tables) (min_part max_body number : ℕ) → tables ≡ new_host min_part max_body number → IsSound tables → ((t : Octets) → view tables t ≡ None) → IsSoundHost digest tables

@@ -10,7 +10,7 @@ use Rattle.bh_rows.proofs.CreateLemmas.{Makes as Creates}
 use Rattle.bh_rows.proofs.IndexErrors.{IsFreeIndex}
 use Rattle.bh_rows.specs.Index.{Indexes}
 use Rattle.bh_tables.specs.Made as made
-use Rattle.bh_tables.specs.Schema.{no_schema, first_schema, second_schema, third_schema}
+use Rattle.bh_tables.specs.Schema.{no_schema, first_schema, second_schema, third_schema, fourth_schema}
 use Rattle.bh_create.specs.declared.tables.Item.{Item}
 use Rattle.bh_create.specs.declared.tables.Item.TheVariants as item
 
@@ -39,6 +39,7 @@ after item.Notes = made.with_notes
 after item.UploadNotes = made.with_upload_notes
 after item.Rights = made.with_rights
 after item.Garbage = made.with_garbage
+after item.Unneeded = made.with_unneeded
 
 abbrev pub before : Item → Schema
 before item.Host = no_schema
@@ -65,6 +66,7 @@ before item.Notes = after item.Placed
 before item.UploadNotes = after item.Notes
 before item.Rights = after item.UploadNotes
 before item.Garbage = after item.Rights
+before item.Unneeded = fourth_schema
 
 -- the SQL of its table, over the schema before it, which has no conflict with it
 pub record IsTableText (item : Item) (sql : List ℕ) : Type 0 where

@@ -7,4 +7,6 @@ mod tables;
 
 pub use fill::make;
 pub use host::{CreateError, create};
-pub use tables::{create_first_tables, create_second_tables, create_third_tables};
+pub use tables::{
+    create_first_tables, create_fourth_tables, create_second_tables, create_third_tables,
+};

@@ -2,7 +2,7 @@ ghost use Rattle.std.specs.Prelude.{◌≡◌, true, IfErr};
 ghost use Rattle.sqlite.specs.Held.{state};
 ghost use Rattle.bh_rows.specs.Means.{is_trouble};
 ghost use Rattle.bh_tables.specs.Schema.{no_schema, third_schema};
-ghost use Rattle.bh_tables.specs.Made.{with_uses_by_count, with_retains, with_tallies, with_placed, with_garbage};
+ghost use Rattle.bh_tables.specs.Made.{with_uses_by_count, with_retains, with_tallies, with_placed, with_garbage, with_unneeded};
 ghost use Rattle.bh_schema.specs.Layer.{IsIntact, IsStateClean};
 ghost use Rattle.bh_create.specs.Creation.{IsMaking, Makes};
 ghost use Rattle.bh_create.specs.Items.{before, after, IsTextOf, Lead};
@@ -36,6 +36,7 @@ enum Item {
     UploadNotes,
     Rights,
     Garbage,
+    Unneeded,
 }
 
 /// The tables and indexes of a host of version 1.
@@ -57,7 +58,17 @@ const FIRST: [Item; 15] = [
     Item::UsesByCount,
 ];
 
-/// The SQL of the tables that version 4 added.
+/// The SQL of the tables that versions 2 and 3 added.
+const LOCKS: &str =
+    "CREATE TABLE locks (tenant TEXT NOT NULL, bucket TEXT NOT NULL, PRIMARY KEY (tenant, bucket), FOREIGN KEY (tenant, bucket) REFERENCES buckets ON DELETE RESTRICT) STRICT";
+
+const RETAINS: &str =
+    "CREATE TABLE retains (tenant TEXT NOT NULL, seq INTEGER NOT NULL CHECK (seq >= 0), until INTEGER NOT NULL CHECK (until >= 0), PRIMARY KEY (tenant, seq), FOREIGN KEY (tenant, seq) REFERENCES versions ON DELETE RESTRICT) STRICT";
+
+const TALLIES: &str =
+    "CREATE TABLE tallies (tenant TEXT NOT NULL PRIMARY KEY REFERENCES tenants ON DELETE RESTRICT, versions INTEGER NOT NULL CHECK (versions >= 0) CHECK (versions <= 4611686018427387904), markers INTEGER NOT NULL CHECK (markers >= 0) CHECK (markers <= 4611686018427387904), objects INTEGER NOT NULL CHECK (objects >= 0) CHECK (objects <= 4611686018427387904)) STRICT";
+
+/// Of those that version 4 added.
 const PACKS: &str =
     "CREATE TABLE packs (pack INT NOT NULL PRIMARY KEY CHECK (pack >= 0), length INTEGER NOT NULL CHECK (length >= 0) CHECK (length <= 4611686018427387904), live INTEGER NOT NULL CHECK (live >= 0) CHECK (live <= 4611686018427387904)) STRICT";
 
@@ -75,6 +86,10 @@ const RIGHTS: &str =
 
 const GARBAGE: &str =
     "CREATE TABLE garbage (id INTEGER PRIMARY KEY CHECK (id = 1), bytes INTEGER NOT NULL CHECK (bytes >= 0) CHECK (bytes <= 4611686018427387904)) STRICT";
+
+/// And of the one that version 5 added.
+const UNNEEDED: &str =
+    "CREATE TABLE unneeded (id INTEGER PRIMARY KEY CHECK (id = 1), bytes INTEGER NOT NULL CHECK (bytes >= 0) CHECK (bytes <= 4611686018427387904)) STRICT";
 
 impl Item {
     /// Its SQL.
@@ -109,18 +124,16 @@ impl Item {
             Item::Uses =>
                 "CREATE TABLE uses (digest BLOB NOT NULL, ord INTEGER NOT NULL CHECK (ord >= 0), uses INTEGER NOT NULL CHECK (uses >= 0) CHECK (uses <= 4611686018427387904), PRIMARY KEY (digest, ord)) STRICT",
             Item::UsesByCount => "CREATE INDEX uses_by_count ON uses (uses, digest, ord)",
-            Item::Locks =>
-                "CREATE TABLE locks (tenant TEXT NOT NULL, bucket TEXT NOT NULL, PRIMARY KEY (tenant, bucket), FOREIGN KEY (tenant, bucket) REFERENCES buckets ON DELETE RESTRICT) STRICT",
-            Item::Retains =>
-                "CREATE TABLE retains (tenant TEXT NOT NULL, seq INTEGER NOT NULL CHECK (seq >= 0), until INTEGER NOT NULL CHECK (until >= 0), PRIMARY KEY (tenant, seq), FOREIGN KEY (tenant, seq) REFERENCES versions ON DELETE RESTRICT) STRICT",
-            Item::Tallies =>
-                "CREATE TABLE tallies (tenant TEXT NOT NULL PRIMARY KEY REFERENCES tenants ON DELETE RESTRICT, versions INTEGER NOT NULL CHECK (versions >= 0) CHECK (versions <= 4611686018427387904), markers INTEGER NOT NULL CHECK (markers >= 0) CHECK (markers <= 4611686018427387904), objects INTEGER NOT NULL CHECK (objects >= 0) CHECK (objects <= 4611686018427387904)) STRICT",
+            Item::Locks => LOCKS,
+            Item::Retains => RETAINS,
+            Item::Tallies => TALLIES,
             Item::Packs => PACKS,
             Item::Placed => PLACED,
             Item::Notes => NOTES,
             Item::UploadNotes => UPLOAD_NOTES,
             Item::Rights => RIGHTS,
             Item::Garbage => GARBAGE,
+            Item::Unneeded => UNNEEDED,
         }
     }
 }
@@ -191,8 +204,8 @@ fn create_pack_tables<S: Alter>(connection: &mut Connection<S>) -> Result<(), Er
     Ok(())
 }
 
-/// Creates the tables of a host and their indexes, without rows.
-pub fn create_tables<S: Alter>(connection: &mut Connection<S>) -> Result<(), Error>
+/// Creates the tables of a host of version 4 and their indexes, without rows.
+pub fn create_fourth_tables<S: Alter>(connection: &mut Connection<S>) -> Result<(), Error>
     requires { IsStateClean (state S.Store connection.old) → IsMaking no_schema (state S.Store connection.old) }
     ensures makes { Makes with_garbage (state S.Store connection.old) (state S.Store connection.new) result }
     ensures trouble { IfErr result (λ e. IsIntact (state S.Store connection.new) → is_trouble e ≡ true) }
@@ -203,5 +216,16 @@ pub fn create_tables<S: Alter>(connection: &mut Connection<S>) -> Result<(), Err
     create_item(connection, Item::UploadNotes)?;
     create_item(connection, Item::Rights)?;
     create_item(connection, Item::Garbage)?;
+    Ok(())
+}
+
+/// Creates the tables of a host and their indexes, without rows.
+pub fn create_tables<S: Alter>(connection: &mut Connection<S>) -> Result<(), Error>
+    requires { IsStateClean (state S.Store connection.old) → IsMaking no_schema (state S.Store connection.old) }
+    ensures makes { Makes with_unneeded (state S.Store connection.old) (state S.Store connection.new) result }
+    ensures trouble { IfErr result (λ e. IsIntact (state S.Store connection.new) → is_trouble e ≡ true) }
+{
+    create_fourth_tables(connection)?;
+    create_item(connection, Item::Unneeded)?;
     Ok(())
 }

@@ -14,9 +14,9 @@ use Rattle.bh_types.specs.Limits.{HostLimits}
 use Rattle.bh_types.specs.declared.block_digest.BlockDigest.{BlockDigest}
 use Rattle.bh_types.specs.declared.block_digest.BlockDigest.TheVariants.{Sha256, Fast}
 use Rattle.bh_tables.specs.Hosts.{tables_shown, tables_opened}
-use Rattle.bh_tables.specs.Schema.{Octets, first_schema, second_schema, third_schema, host_schema}
+use Rattle.bh_tables.specs.Schema.{Octets, first_schema, second_schema, third_schema, fourth_schema, host_schema}
 use Rattle.bh_tables.specs.Typed.{Tables}
-use Rattle.bh_tables.proofs.HostTests.{opened_host, other_schema, unlike_second, unlike_third, second_unlike_first, third_unlike_first, third_unlike_second}
+use Rattle.bh_tables.proofs.HostTests.{opened_host, other_schema, unlike_second, unlike_third, unlike_fourth, second_unlike_first, third_unlike_first, third_unlike_second, fourth_unlike_first, fourth_unlike_second, fourth_unlike_third}
 use Rattle.bh_view.specs.Bodies.{IsSoundHost}
 use Rattle.bh_schema.specs.Layer.{standing, IsIntact, IsOpen, IsStateClean, KeepsDisk}
 use Rattle.bh_schema.specs.Storage.{seen_in}
@@ -44,7 +44,8 @@ no_tables db sound none = go
     go (inl first) = unlisted first_schema first
     go (inr (inl second)) = unlisted second_schema second
     go (inr (inr (inl third))) = unlisted third_schema third
-    go (inr (inr (inr fourth))) = unlisted host_schema fourth
+    go (inr (inr (inr (inl fourth)))) = unlisted fourth_schema fourth
+    go (inr (inr (inr (inr fifth)))) = unlisted host_schema fifth
 
 found_in_nothing : (trees : Trees) → AreFoundIn nothing trees → trees catalog_tree ≡ []
 found_in_nothing trees (inl it) = absurd (let some = it.3.found.present in omega arith)
@@ -85,12 +86,15 @@ sound_by tables digest it row = subst (λ d. IsSoundHost (digest_by d) tables) (
 -- sound tables are those of typed rows
 opened_typed : (db : Database) → IsSoundByItsRow (tables_opened db) → IsTypedIfEarlier db
 opened_typed db it = elim (opened_host db it.sound.sound.host.row it.sound.sound.host.alone) [
-  | inl host ↦ record { first = λ first. absurd (other_schema db host.schema first); second = λ second. absurd (unlike_second db host.schema second); third = λ third. absurd (unlike_third db host.schema third) }
+  | inl host ↦ record { first = λ first. absurd (other_schema db host.schema first); second = λ second. absurd (unlike_second db host.schema second); third = λ third. absurd (unlike_third db host.schema third); fourth = λ fourth. absurd (unlike_fourth db host.schema fourth) }
   | inr earlier ↦ elim earlier [
-    | inl one ↦ record { first = λ first. one.first; second = λ second. absurd (second_unlike_first db second one.first.schema); third = λ third. absurd (third_unlike_first db third one.first.schema) }
+    | inl one ↦ record { first = λ first. one.first; second = λ second. absurd (second_unlike_first db second one.first.schema); third = λ third. absurd (third_unlike_first db third one.first.schema); fourth = λ fourth. absurd (fourth_unlike_first db fourth one.first.schema) }
     | inr later ↦ elim later [
-      | inl two ↦ record { first = λ first. absurd (second_unlike_first db two.second.schema first); second = λ second. two.second; third = λ third. absurd (third_unlike_second db third two.second.schema) }
-      | inr three ↦ record { first = λ first. absurd (third_unlike_first db three.third.schema first); second = λ second. absurd (third_unlike_second db three.third.schema second); third = λ third. three.third }
+      | inl two ↦ record { first = λ first. absurd (second_unlike_first db two.second.schema first); second = λ second. two.second; third = λ third. absurd (third_unlike_second db third two.second.schema); fourth = λ fourth. absurd (fourth_unlike_second db fourth two.second.schema) }
+      | inr latest ↦ elim latest [
+        | inl three ↦ record { first = λ first. absurd (third_unlike_first db three.third.schema first); second = λ second. absurd (third_unlike_second db three.third.schema second); third = λ third. three.third; fourth = λ fourth. absurd (fourth_unlike_third db fourth three.third.schema) }
+        | inr four ↦ record { first = λ first. absurd (fourth_unlike_first db four.fourth.schema first); second = λ second. absurd (fourth_unlike_second db four.fourth.schema second); third = λ third. absurd (fourth_unlike_third db four.fourth.schema third); fourth = λ fourth. four.fourth }
+      ]
     ]
   ]
 ]

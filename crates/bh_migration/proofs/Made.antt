@@ -12,8 +12,8 @@ use Rattle.bh_rows.specs.Over.{HasTable}
 use Rattle.bh_rows.proofs.CreateErrors.{IsFree, create_trouble}
 use Rattle.bh_rows.proofs.CreateLemmas.{Makes}
 use Rattle.bh_rows.proofs.OverLemmas.{makes_over, over_changes}
-use Rattle.bh_tables.specs.Schema.{first_schema, second_schema, third_schema, host_schema, at, locks_table, packs_table, placed_table, notes_table, upload_notes_table, rights_table, garbage_table, retains_table, tallies_table}
-use Rattle.bh_tables.specs.Typed.{Raw, raw, first_raw, second_raw, third_raw}
+use Rattle.bh_tables.specs.Schema.{first_schema, second_schema, third_schema, fourth_schema, host_schema, at, locks_table, packs_table, placed_table, notes_table, upload_notes_table, rights_table, garbage_table, retains_table, tallies_table}
+use Rattle.bh_tables.specs.Typed.{Raw, raw, first_raw, second_raw, third_raw, fourth_raw}
 use Rattle.bh_schema.specs.Layer.{Standing, standing, IsIntact, IsOpen, IsStateClean}
 use Rattle.bh_schema.proofs.Calls.{changes_inside}
 use Rattle.bh_migration.specs.Making.{before, after, IsTextOf, HasMade}
@@ -92,6 +92,15 @@ second_kept db next h = λ i. record (first_kept db next (kept_first first_schem
 third_kept : (db next : Trees) → KeepsRows third_schema.tables db next → third_raw next ≡ third_raw db
 third_kept db next h = λ i. record (second_kept db next (kept_first second_schema.tables (at 30 tallies_table ∷ []) db next h) i) { tallies = h.1.1.1.1.1.1.1.1.1.1.1.1.0 i }
 
+-- the tables that version 4 added
+abbrev filled_never : List Table
+filled_never = at 32 packs_table ∷ at 34 placed_table ∷ at 37 notes_table ∷ at 39 upload_notes_table ∷ at 41 rights_table ∷ at 43 garbage_table ∷ []
+
+fourth_kept : (db next : Trees) → KeepsRows fourth_schema.tables db next → fourth_raw next ≡ fourth_raw db
+fourth_kept db next h =
+    let z = kept_rest third_schema.tables filled_never db next h in
+    λ i. record (third_kept db next (kept_first third_schema.tables filled_never db next h) i) { unfilled = z.0 i ++ (z.1.0 i ++ (z.1.1.0 i ++ (z.1.1.1.0 i ++ (z.1.1.1.1.0 i ++ (z.1.1.1.1.1.0 i ++ []))))) }
+
 -- ---- the tables that each version added
 
 pub second_made : (a b c : Standing) → HasMade added.Locks a b → HasMade added.Retains b c → HasRows second_schema second_raw (first_raw a.now.trees) c
@@ -122,7 +131,7 @@ widens ys y was db next so keeps none = record {
 }
 
 pub fourth_made : (a b c d e f g : Standing) → HasMade added.Packs a b → HasMade added.Placed b c → HasMade added.Notes c d → HasMade added.UploadNotes d e → HasMade added.Rights e f → HasMade added.Garbage f g
-    → HasRows host_schema raw (third_raw a.now.trees) g
+    → HasRows fourth_schema fourth_raw (third_raw a.now.trees) g
 fourth_made a b c d e f g one two three four five six =
     let was = a.now.trees in
     let w1 : Widens (at 32 packs_table ∷ []) was b.now.trees = widens [] (at 32 packs_table) was was b.now.trees (record { rows = refl; none = tt }) one.rows one.none in
@@ -135,8 +144,13 @@ fourth_made a b c d e f g one two three four five six =
     let w6 : Widens (at 32 packs_table ∷ at 34 placed_table ∷ at 37 notes_table ∷ at 39 upload_notes_table ∷ at 41 rights_table ∷ at 43 garbage_table ∷ []) was g.now.trees =
     widens (at 32 packs_table ∷ at 34 placed_table ∷ at 37 notes_table ∷ at 39 upload_notes_table ∷ at 41 rights_table ∷ []) (at 43 garbage_table) was f.now.trees g.now.trees w5 six.rows six.none in
     let z = w6.none in
-    let none : raw g.now.trees ≡ third_raw g.now.trees = λ i. record (raw g.now.trees) { garbage = z.1.1.1.1.1.0 i; unfilled = z.0 i ++ (z.1.0 i ++ (z.1.1.0 i ++ (z.1.1.1.0 i ++ (z.1.1.1.1.0 i ++ [])))) } in
+    let none : fourth_raw g.now.trees ≡ third_raw g.now.trees = λ i. record (fourth_raw g.now.trees) { unfilled = z.0 i ++ (z.1.0 i ++ (z.1.1.0 i ++ (z.1.1.1.0 i ++ (z.1.1.1.1.0 i ++ (z.1.1.1.1.1.0 i ++ []))))) } in
     record { inside = six.inside; schema = six.schema; rows = none ∙ w6.rows }
+
+pub fifth_made : (a b : Standing) → HasMade added.Unneeded a b → HasRows host_schema raw (fourth_raw a.now.trees) b
+fifth_made a b one =
+    let none : raw b.now.trees ≡ fourth_raw b.now.trees = λ i. record (raw b.now.trees) { garbage = one.none i } in
+    record { inside = one.inside; schema = one.schema; rows = none ∙ fourth_kept a.now.trees b.now.trees one.rows }
 
 -- ---- several, one after another
 

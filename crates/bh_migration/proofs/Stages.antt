@@ -10,17 +10,17 @@ use Rattle.bh_rows.proofs.WriteLemmas.{updates_quiet}
 use Rattle.bh_tables.specs.Hosts.{brought_over, tables_shown, tables_opened}
 use Rattle.bh_tables.specs.Schema.{host_schema, host_table, at}
 use Rattle.bh_tables.specs.Typed.{raw, Tables, tables_in, tables_of, first_tables_in, totals_of, unweighed, untallied, AreHeld, IsHost}
-use Rattle.bh_tables.proofs.HostTests.{host_shows, first_opens, second_opens, third_opens, second_unlike_first, third_unlike_first, third_unlike_second}
+use Rattle.bh_tables.proofs.HostTests.{host_shows, first_opens, second_opens, third_opens, fourth_opens, second_unlike_first, third_unlike_first, third_unlike_second, fourth_unlike_first, fourth_unlike_second, fourth_unlike_third}
 use Rattle.bh_tables.proofs.HostTexts.{version_set, version_may}
 use Rattle.bh_tables.proofs.Places.{host as hosts, host_is, orderly}
 use Rattle.bh_schema.specs.Layer.{Standing, standing, IsIntact, IsOpen, IsStateClean, Holds, KeepsDisk, StateWithin, LeavesNothingNew, Leaves}
 use Rattle.bh_schema.proofs.Calls.{Write, changes_inside, updated}
 use Rattle.bh_migration.specs.Migration.{earlier_schema, earlier_raw, IsEarlierHost, IsOfEarlier, IsBroughtOver, IsChanged, LeavesChanged, HasSchema, HasRows, HoldsUntallied, Brings}
 use Rattle.bh_migration.specs.declared.Earlier.{Earlier}
-use Rattle.bh_migration.specs.declared.Earlier.TheVariants.{First, Second, Third}
+use Rattle.bh_migration.specs.declared.Earlier.TheVariants.{First, Second, Third, Fourth}
 
 abbrev pub version_text : List ℕ
-version_text = codes "UPDATE host SET version = 4"
+version_text = codes "UPDATE host SET version = 5"
 
 -- a premise of what holds after an answer, and after an error
 given_ok : (C P X : Type 0) (r : Result ℕ Error) → (P → OnOk r (C → X)) → OnOk r (C → P → X)
@@ -71,6 +71,7 @@ pub holds_untallied : (version : Earlier) (a b : Standing) → HasRows host_sche
 holds_untallied First a b it host = record { within = record { inside = it.inside; host = record { schema = it.schema; held = subst (AreHeld (untallied (totals_of (first_tables_in a.now)))) (sym it.rows) host.held } }; is = ap tables_of it.rows }
 holds_untallied Second a b it host = record { within = record { inside = it.inside; host = record { schema = it.schema; held = subst (AreHeld (untallied (totals_of (tables_in a.now)))) (sym it.rows) host.held } }; is = ap tables_of it.rows }
 holds_untallied Third a b it host = record { within = record { inside = it.inside; host = record { schema = it.schema; held = subst (AreHeld (unweighed (totals_of (tables_in a.now)))) (sym it.rows) host.held } }; is = ap tables_of it.rows }
+holds_untallied Fourth a b it host = record { within = record { inside = it.inside; host = record { schema = it.schema; held = subst (AreHeld (unweighed (totals_of (tables_in a.now)))) (sym it.rows) host.held } }; is = ap tables_of it.rows }
 
 module _ (version : Earlier) (a b c d : Standing) (made : HasRows host_schema raw (earlier_raw version a.now.trees) b) (holds : (t : Tables) → HoldsUntallied version t b → Holds t c) where
   -- it is a host's, if it was one of this version
@@ -82,9 +83,10 @@ module _ (version : Earlier) (a b c d : Standing) (made : HasRows host_schema ra
 
 -- a database of one schema is a host's of no other version
 changed : (version : Earlier) (a d : Standing) → a.now.schema ≡ earlier_schema version → d.now.schema ≡ host_schema → (IsEarlierHost version a.now → IsBroughtOver (tables_of (earlier_raw version a.now.trees)) d.now) → IsChanged a.now d.now
-changed First a d was is over = record { schema = is; first = over; second = λ host. absurd (second_unlike_first a.now host.schema was); third = λ host. absurd (third_unlike_first a.now host.schema was) }
-changed Second a d was is over = record { schema = is; first = λ host. absurd (second_unlike_first a.now was host.schema); second = over; third = λ host. absurd (third_unlike_second a.now host.schema was) }
-changed Third a d was is over = record { schema = is; first = λ host. absurd (third_unlike_first a.now was host.schema); second = λ host. absurd (third_unlike_second a.now was host.schema); third = over }
+changed First a d was is over = record { schema = is; first = over; second = λ host. absurd (second_unlike_first a.now host.schema was); third = λ host. absurd (third_unlike_first a.now host.schema was); fourth = λ host. absurd (fourth_unlike_first a.now host.schema was) }
+changed Second a d was is over = record { schema = is; first = λ host. absurd (second_unlike_first a.now was host.schema); second = over; third = λ host. absurd (third_unlike_second a.now host.schema was); fourth = λ host. absurd (fourth_unlike_second a.now host.schema was) }
+changed Third a d was is over = record { schema = is; first = λ host. absurd (third_unlike_first a.now was host.schema); second = λ host. absurd (third_unlike_second a.now was host.schema); third = over; fourth = λ host. absurd (fourth_unlike_third a.now host.schema was) }
+changed Fourth a d was is over = record { schema = is; first = λ host. absurd (fourth_unlike_first a.now was host.schema); second = λ host. absurd (fourth_unlike_second a.now was host.schema); third = λ host. absurd (fourth_unlike_third a.now was host.schema); fourth = over }
 
 pub all_brought : (version : Earlier) (a b c d : Standing) → HasSchema (earlier_schema version) a → HasRows host_schema raw (earlier_raw version a.now.trees) b → ((t : Tables) → HoldsUntallied version t b → Holds t c) → HasSchema host_schema d
     → (IsHost c.now → Holds (brought_over (tables_in c.now)) d) → Brings a d
@@ -97,7 +99,8 @@ all_brought version a b c d was made holds is set = record {
 pub shows_same : (old new : Database) → IsOfEarlier old → IsChanged old new → tables_shown new ≡ tables_opened old
 shows_same old new (inl was) it = let over = it.first was.first in host_shows new over.host ∙ over.rows ∙ sym (first_opens old was)
 shows_same old new (inr (inl was)) it = let over = it.second was.second in host_shows new over.host ∙ over.rows ∙ sym (second_opens old was)
-shows_same old new (inr (inr was)) it = let over = it.third was.third in host_shows new over.host ∙ over.rows ∙ sym (third_opens old was)
+shows_same old new (inr (inr (inl was))) it = let over = it.third was.third in host_shows new over.host ∙ over.rows ∙ sym (third_opens old was)
+shows_same old new (inr (inr (inr was))) it = let over = it.fourth was.fourth in host_shows new over.host ∙ over.rows ∙ sym (fourth_opens old was)
 
 -- ---- what a crash leaves once the change is committed, or may be
 

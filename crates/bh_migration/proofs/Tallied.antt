@@ -15,7 +15,7 @@ use Rattle.sqlite_keyed.proofs.ListLemmas.{filter-map}
 use Rattle.bh_rows.specs.Means.{Means, Asks, Changes}
 use Rattle.bh_rows.proofs.CallLemmas.{clean_before, shown_open, shown_same, shows_nothing, query_up, query_undone, write_changes}
 use Rattle.bh_rows.proofs.InsertLemmas.{inserts}
-use Rattle.bh_tables.specs.Schema.{Octets, host_schema, tallies_table, garbage_table, at}
+use Rattle.bh_tables.specs.Schema.{Octets, host_schema, tallies_table, unneeded_table, at}
 use Rattle.bh_tables.specs.Bodies.{columns_of, unneeded}
 use Rattle.bh_tables.specs.Typed.{Totals, totals_of, unweighed, weight, TallyRow, TenantRow, VersionColumns, VersionRow, Tables, tables_in, IsHostBy, tally, number}
 use Rattle.bh_tables.specs.Shown.{has_marker}
@@ -193,7 +193,7 @@ module _ (old new : State) (has : IsStateClean old → HasSchema host_schema (st
         go (Err e) ran stays = tt
         go (Ok m) ran stays = λ clean.
             let was = schema_is (clean_before old new _ survives clean.intact) (weight_changes.up clean.intact clean.is_open) in
-            let done = inserts weight_text host_schema (at 43 garbage_table) 18 weight_terms 3 1 weight_means (garbage_is.is_table ∙ ap Some (sym garbage_is.plain)) (number n ∷ []) _ (weight_gives n) old new was m (ran clean.intact) in
+            let done = inserts weight_text host_schema (at 44 unneeded_table) 19 weight_terms 3 1 weight_means (garbage_is.is_table ∙ ap Some (sym garbage_is.plain)) (number n ∷ []) _ (weight_gives n) old new was m (ran clean.intact) in
             record { inside = stays clean; schema = ap (λ (d : Database). d.schema) done.1.now }
 
     pub weight_adds : OnOk result (IsStateClean new → (t : Tables) → HoldsUnweighed t (standing old) → HoldsBy (record (totals_of t) { garbage = weight n ∷ [] }) t (standing new))

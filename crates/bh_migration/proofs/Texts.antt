@@ -17,7 +17,7 @@ use Rattle.sqlite_typed.proofs.TestLemmas.{at_texts, at_ints, last_term, then_te
 use Rattle.bh_rows.specs.Means.{Means}
 use Rattle.bh_rows.specs.Scan.{no_limit}
 use Rattle.bh_rows.specs.Texts.{SelectText, SumText, plainly}
-use Rattle.bh_tables.specs.Schema.{Octets, host_schema, tallies_table, garbage_table, at}
+use Rattle.bh_tables.specs.Schema.{Octets, host_schema, tallies_table, unneeded_table, at}
 use Rattle.bh_tables.specs.Bodies.{bare}
 use Rattle.bh_tables.specs.Typed.{Totals, tenant_form, version_form, number}
 use Rattle.bh_tables.specs.Shown.{has_marker}
@@ -91,15 +91,15 @@ unfolding everything
 insert_gives v a b c = refl
 
 abbrev pub weight_text : List ℕ
-weight_text = codes "INSERT INTO garbage (bytes) VALUES (?1)"
+weight_text = codes "INSERT INTO unneeded (bytes) VALUES (?1)"
 
 abbrev pub weight_terms : List Term
 weight_terms = lit Null ∷ lit Null ∷ col 0 0 ∷ []
 
-pub weight_means : Means host_schema weight_text (Insert 18 (Values weight_terms 3)) 1
+pub weight_means : Means host_schema weight_text (Insert 19 (Values weight_terms 3)) 1
 unfolding understood everything
 weight_means = record { is = refl; plain = (refl, refl); unlisted = refl; whole = refl; given = refl }
 
-pub weight_gives : (n : ℕ) → value_rows (stamped (plainly (at 43 garbage_table)) (number n ∷ [])) 3 (length weight_terms / 3) weight_terms ≡ (Null ∷ Null ∷ number n ∷ []) ∷ []
+pub weight_gives : (n : ℕ) → value_rows (stamped (plainly (at 44 unneeded_table)) (number n ∷ [])) 3 (length weight_terms / 3) weight_terms ≡ (Null ∷ Null ∷ number n ∷ []) ∷ []
 unfolding everything
 weight_gives n = refl

@@ -8,7 +8,7 @@ use Rattle.bh_rows.proofs.CreateErrors.{IsFree}
 use Rattle.bh_rows.proofs.CreateLemmas.{Makes}
 use Rattle.bh_schema.specs.Layer.{Standing}
 use Rattle.bh_tables.specs.Made as made
-use Rattle.bh_tables.specs.Schema.{first_schema, second_schema, third_schema, host_schema}
+use Rattle.bh_tables.specs.Schema.{first_schema, second_schema, third_schema, fourth_schema, host_schema}
 use Rattle.bh_migration.specs.declared.making.Added.{Added}
 use Rattle.bh_migration.specs.declared.making.Added.TheVariants as added
 
@@ -22,6 +22,7 @@ before added.Notes = made.with_placed
 before added.UploadNotes = made.with_notes
 before added.Rights = made.with_upload_notes
 before added.Garbage = made.with_rights
+before added.Unneeded = fourth_schema
 
 abbrev pub after : Added → Schema
 after added.Locks = made.with_locks
@@ -32,7 +33,8 @@ after added.Placed = made.with_placed
 after added.Notes = made.with_notes
 after added.UploadNotes = made.with_upload_notes
 after added.Rights = made.with_rights
-after added.Garbage = host_schema
+after added.Garbage = fourth_schema
+after added.Unneeded = host_schema
 
 -- the SQL of this table, over the schema before it, which has no conflict with it
 pub record IsTextOf (item : Added) (sql : List ℕ) : Type 0 where

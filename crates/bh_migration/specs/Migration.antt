@@ -1,16 +1,16 @@
--- Upgrading the database of a host of version 1, 2 or 3 to version 4.
+-- Upgrading the database of a host of version 1, 2, 3 or 4 to version 5.
 use Rattle.std.specs.Prelude.{◌≡◌, ◌⊎◌, [], true, false}
 use Rattle.sqlite.specs.Effect.{Database}
 use Rattle.sqlite.specs.Schema.{Schema}
 use Rattle.sqlite.specs.Tree.{Trees}
-use Rattle.bh_tables.specs.Hosts.{IsOfVersion1, IsOfVersion2, IsOfVersion3, brought_over}
-use Rattle.bh_tables.specs.Schema.{first_schema, second_schema, third_schema, host_schema}
-use Rattle.bh_tables.specs.Typed.{IsHost, IsFirstHost, IsSecondHost, IsThirdHost, Tables, tables_in, first_tables_in}
-use Rattle.bh_tables.specs.Typed.{Raw, first_raw, second_raw, third_raw}
+use Rattle.bh_tables.specs.Hosts.{IsOfVersion1, IsOfVersion2, IsOfVersion3, IsOfVersion4, brought_over}
+use Rattle.bh_tables.specs.Schema.{first_schema, second_schema, third_schema, fourth_schema, host_schema}
+use Rattle.bh_tables.specs.Typed.{IsHost, IsFirstHost, IsSecondHost, IsThirdHost, IsFourthHost, Tables, tables_in, first_tables_in}
+use Rattle.bh_tables.specs.Typed.{Raw, first_raw, second_raw, third_raw, fourth_raw}
 use Rattle.bh_schema.specs.Layer.{Standing}
 use Rattle.bh_migration.specs.Tallying.{HoldsTallies, HoldsUnweighed}
 use Rattle.bh_migration.specs.declared.Earlier.{Earlier}
-use Rattle.bh_migration.specs.declared.Earlier.TheVariants.{First, Second, Third}
+use Rattle.bh_migration.specs.declared.Earlier.TheVariants.{First, Second, Third, Fourth}
 
 -- ---- before and after
 
@@ -18,28 +18,30 @@ abbrev pub earlier_schema : Earlier → Schema
 earlier_schema First = first_schema
 earlier_schema Second = second_schema
 earlier_schema Third = third_schema
+earlier_schema Fourth = fourth_schema
 
 -- it has the schema, and rows that are typed rows
 abbrev pub IsEarlierHost : Earlier → Database → Type 0
 IsEarlierHost First db = IsFirstHost db
 IsEarlierHost Second db = IsSecondHost db
 IsEarlierHost Third db = IsThirdHost db
+IsEarlierHost Fourth db = IsFourthHost db
 
 -- whose row has its version
 abbrev pub IsOfEarlier : Database → Type 0
-IsOfEarlier db = IsOfVersion1 db ⊎ (IsOfVersion2 db ⊎ IsOfVersion3 db)
+IsOfEarlier db = IsOfVersion1 db ⊎ (IsOfVersion2 db ⊎ (IsOfVersion3 db ⊎ IsOfVersion4 db))
 
 -- no transaction is open over a database that has the tables of a host of this version
 pub record IsEarlier (version : Earlier) (x : Standing) : Type 0 where
   pub outside : x.inside ≡ false
   pub schema : x.now.schema ≡ earlier_schema version
 
--- a host's database of version 4 has these rows, and the version 4
+-- a host's database of version 5 has these rows, and the version 5
 pub record IsBroughtOver (was : Tables) (new : Database) : Type 0 where
   pub host : IsHost new
   pub rows : tables_in new ≡ brought_over was
 
--- a database got the tables of a host of version 4. If its rows were those of a host of an earlier
+-- a database got the tables of a host of version 5. If its rows were those of a host of an earlier
 -- version, it is upgraded. Those rows are unchanged, no bucket is locked and no version has a date
 -- that had none, the tallies and the bytes that nobody needs are the right counts, and the tables that
 -- nothing fills have no row
@@ -48,6 +50,7 @@ pub record IsChanged (old new : Database) : Type 0 where
   pub first : IsFirstHost old → IsBroughtOver (first_tables_in old) new
   pub second : IsSecondHost old → IsBroughtOver (tables_in old) new
   pub third : IsThirdHost old → IsBroughtOver (tables_in old) new
+  pub fourth : IsFourthHost old → IsBroughtOver (tables_in old) new
 
 -- no transaction is open over a database that was upgraded so, and all is committed
 pub record Settles (old new : Standing) : Type 0 where
@@ -77,6 +80,7 @@ abbrev pub earlier_raw : Earlier → Trees → Raw
 earlier_raw First = first_raw
 earlier_raw Second = second_raw
 earlier_raw Third = third_raw
+earlier_raw Fourth = fourth_raw
 
 -- in a transaction, a host's database has these tables, no count of what nobody needs yet, and no
 -- tallies if the earlier version has none
@@ -84,6 +88,7 @@ abbrev pub HoldsUntallied : Earlier → Tables → Standing → Type 0
 HoldsUntallied First tables = HoldsTallies tables []
 HoldsUntallied Second tables = HoldsTallies tables []
 HoldsUntallied Third tables = HoldsUnweighed tables
+HoldsUntallied Fourth tables = HoldsUnweighed tables
 
 pub record Brings (old new : Standing) : Type 0 where
   pub inside : new.inside ≡ true

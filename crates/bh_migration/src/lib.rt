@@ -28,12 +28,15 @@ use sqlite::{Alter, Connection, Error};
 /// The version of an older host.
 #[derive(Clone, Copy)]
 pub enum Earlier {
-    /// Its tables of locks, of dates and of tallies are missing, and those that version 4 added.
+    /// Its tables of locks, of dates and of tallies are missing, and those that versions 4 and 5
+    /// added.
     First,
-    /// Its table of tallies is missing, and those that version 4 added.
+    /// Its table of tallies is missing, and those that versions 4 and 5 added.
     Second,
-    /// Those that version 4 added are missing.
+    /// Those that versions 4 and 5 added are missing.
     Third,
+    /// The one that version 5 added is missing.
+    Fourth,
 }
 
 /// Fills the table of tallies, if a host of this version has none.
@@ -50,6 +53,7 @@ fn tally<S: Alter>(connection: &mut Connection<S>, version: Earlier) -> Result<(
         Earlier::First => tally_tenants(connection),
         Earlier::Second => tally_tenants(connection),
         Earlier::Third => Ok(()),
+        Earlier::Fourth => Ok(()),
     }
 }
 
@@ -66,7 +70,7 @@ fn set_version<S: Alter>(connection: &mut Connection<S>) -> Result<usize, Error>
 {
     // Asked for what it ensures: the rows obey the schema.
     let _schema = connection.schema();
-    connection.execute("UPDATE host SET version = 4", &[])
+    connection.execute("UPDATE host SET version = 5", &[])
 }
 
 fn change<S: Alter>(connection: &mut Connection<S>, version: Earlier) -> Result<usize, Error>
@@ -102,11 +106,11 @@ fn commit_change<S: Alter>(connection: &mut Connection<S>, version: Earlier) -> 
     commit(connection)
 }
 
-/// Upgrades a database with the tables of a host of an older version to version 4, in one commit.
+/// Upgrades a database with the tables of a host of an older version to version 5, in one commit.
 ///
 /// It creates the missing tables: that of tallies with the counts of each tenant's rows, that of what
 /// nobody needs with the bytes of the blocks that no reference names, and the others without rows.
-/// Then it sets the host's version to 4. The host's contents don't change. After an error nothing has
+/// Then it sets the host's version to 5. The host's contents don't change. After an error nothing has
 /// changed.
 pub fn bring_over<S: Alter>(connection: &mut Connection<S>, version: Earlier) -> Result<(), Error>
     requires { IsClean S.Store connection.old → IsEarlier version (stands S.Store connection.old) }

@@ -2,8 +2,8 @@
 
 ghost use Rattle.std.specs.Prelude.{◌≡◌, true, IfErr, OnOk};
 ghost use Rattle.bh_rows.specs.Means.{is_trouble};
-ghost use Rattle.bh_tables.specs.Schema.{first_schema, second_schema, third_schema, host_schema};
-ghost use Rattle.bh_tables.specs.Typed.{raw, first_raw, second_raw, third_raw};
+ghost use Rattle.bh_tables.specs.Schema.{first_schema, second_schema, third_schema, fourth_schema, host_schema};
+ghost use Rattle.bh_tables.specs.Typed.{raw, first_raw, second_raw, third_raw, fourth_raw};
 ghost use Rattle.bh_schema.specs.Connections.{IsIntact, IsClean, stands, StaysWithin, StaysOpen};
 ghost use Rattle.bh_migration.specs.Making.{before, IsTextOf, HasMade};
 ghost use Rattle.bh_migration.specs.Migration.{earlier_schema, earlier_raw, HasSchema, HasRows};
@@ -11,8 +11,8 @@ ghost use Rattle.bh_migration.specs.Migration.{earlier_schema, earlier_raw, HasS
 use crate::Earlier;
 use sqlite::{Alter, Connection, Error};
 
-/// A table that version 2 added (`Locks`, `Retains`), version 3 (`Tallies`) or version 4, in the
-/// order in which they are created.
+/// A table that version 2 added (`Locks`, `Retains`), version 3 (`Tallies`), version 4 or version 5
+/// (`Unneeded`), in the order in which they are created.
 #[derive(Clone, Copy)]
 enum Added {
     Locks,
@@ -24,6 +24,7 @@ enum Added {
     UploadNotes,
     Rights,
     Garbage,
+    Unneeded,
 }
 
 impl Added {
@@ -50,6 +51,8 @@ impl Added {
                 "CREATE TABLE rights (tenant TEXT NOT NULL, name TEXT NOT NULL, rights TEXT NOT NULL, PRIMARY KEY (tenant, name), FOREIGN KEY (tenant, name) REFERENCES keys ON DELETE RESTRICT) STRICT",
             Added::Garbage =>
                 "CREATE TABLE garbage (id INTEGER PRIMARY KEY CHECK (id = 1), bytes INTEGER NOT NULL CHECK (bytes >= 0) CHECK (bytes <= 4611686018427387904)) STRICT",
+            Added::Unneeded =>
+                "CREATE TABLE unneeded (id INTEGER PRIMARY KEY CHECK (id = 1), bytes INTEGER NOT NULL CHECK (bytes >= 0) CHECK (bytes <= 4611686018427387904)) STRICT",
         }
     }
 }
@@ -66,50 +69,13 @@ fn make_table<S: Alter>(connection: &mut Connection<S>, item: Added) -> Result<u
     connection.execute(item.text(), &[])
 }
 
-/// Creates the tables that version 2 added.
-fn make_second<S: Alter>(connection: &mut Connection<S>) -> Result<(), Error>
-    requires { IsClean S.Store connection.old → HasSchema first_schema (stands S.Store connection.old) }
-    ensures within { StaysWithin S.Store connection.old connection.new }
-    ensures opens { OnOk result (StaysOpen S.Store connection.old connection.new) }
-    ensures made { OnOk result (IsClean S.Store connection.new
-        → HasRows second_schema second_raw (first_raw (stands S.Store connection.old).now.trees) (stands S.Store connection.new)) }
-    ensures trouble { IfErr result (λ e. IsIntact S.Store connection.new → is_trouble e ≡ true) }
-{
-    make_table(connection, Added::Locks)?;
-    make_table(connection, Added::Retains)?;
-    Ok(())
-}
-
-/// Creates the tables that versions 2 and 3 added, as far as they are missing.
-fn make_third<S: Alter>(connection: &mut Connection<S>, version: Earlier) -> Result<(), Error>
-    requires { IsClean S.Store connection.old → HasSchema (earlier_schema version) (stands S.Store connection.old) }
-    ensures within { StaysWithin S.Store connection.old connection.new }
-    ensures opens { OnOk result (StaysOpen S.Store connection.old connection.new) }
-    ensures made { OnOk result (IsClean S.Store connection.new → HasRows third_schema third_raw
-        (earlier_raw version (stands S.Store connection.old).now.trees) (stands S.Store connection.new)) }
-    ensures trouble { IfErr result (λ e. IsIntact S.Store connection.new → is_trouble e ≡ true) }
-{
-    match version {
-        Earlier::First => {
-            make_second(connection)?;
-            make_table(connection, Added::Tallies)?;
-            Ok(())
-        }
-        Earlier::Second => {
-            make_table(connection, Added::Tallies)?;
-            Ok(())
-        }
-        Earlier::Third => Ok(()),
-    }
-}
-
 /// Creates the tables that version 4 added.
 fn make_fourth<S: Alter>(connection: &mut Connection<S>) -> Result<(), Error>
     requires { IsClean S.Store connection.old → HasSchema third_schema (stands S.Store connection.old) }
     ensures within { StaysWithin S.Store connection.old connection.new }
     ensures opens { OnOk result (StaysOpen S.Store connection.old connection.new) }
     ensures made { OnOk result (IsClean S.Store connection.new
-        → HasRows host_schema raw (third_raw (stands S.Store connection.old).now.trees) (stands S.Store connection.new)) }
+        → HasRows fourth_schema fourth_raw (third_raw (stands S.Store connection.old).now.trees) (stands S.Store connection.new)) }
     ensures trouble { IfErr result (λ e. IsIntact S.Store connection.new → is_trouble e ≡ true) }
 {
     make_table(connection, Added::Packs)?;
@@ -121,6 +87,59 @@ fn make_fourth<S: Alter>(connection: &mut Connection<S>) -> Result<(), Error>
     Ok(())
 }
 
+/// Creates the table that a host of version 4 lacks.
+fn complete_fourth<S: Alter>(connection: &mut Connection<S>) -> Result<(), Error>
+    requires { IsClean S.Store connection.old → HasSchema fourth_schema (stands S.Store connection.old) }
+    ensures within { StaysWithin S.Store connection.old connection.new }
+    ensures opens { OnOk result (StaysOpen S.Store connection.old connection.new) }
+    ensures made { OnOk result (IsClean S.Store connection.new
+        → HasRows host_schema raw (fourth_raw (stands S.Store connection.old).now.trees) (stands S.Store connection.new)) }
+    ensures trouble { IfErr result (λ e. IsIntact S.Store connection.new → is_trouble e ≡ true) }
+{
+    make_table(connection, Added::Unneeded)?;
+    Ok(())
+}
+
+/// Creates the tables that a host of version 3 lacks.
+fn complete_third<S: Alter>(connection: &mut Connection<S>) -> Result<(), Error>
+    requires { IsClean S.Store connection.old → HasSchema third_schema (stands S.Store connection.old) }
+    ensures within { StaysWithin S.Store connection.old connection.new }
+    ensures opens { OnOk result (StaysOpen S.Store connection.old connection.new) }
+    ensures made { OnOk result (IsClean S.Store connection.new
+        → HasRows host_schema raw (third_raw (stands S.Store connection.old).now.trees) (stands S.Store connection.new)) }
+    ensures trouble { IfErr result (λ e. IsIntact S.Store connection.new → is_trouble e ≡ true) }
+{
+    make_fourth(connection)?;
+    complete_fourth(connection)
+}
+
+/// Creates the tables that a host of version 2 lacks.
+fn complete_second<S: Alter>(connection: &mut Connection<S>) -> Result<(), Error>
+    requires { IsClean S.Store connection.old → HasSchema second_schema (stands S.Store connection.old) }
+    ensures within { StaysWithin S.Store connection.old connection.new }
+    ensures opens { OnOk result (StaysOpen S.Store connection.old connection.new) }
+    ensures made { OnOk result (IsClean S.Store connection.new
+        → HasRows host_schema raw (second_raw (stands S.Store connection.old).now.trees) (stands S.Store connection.new)) }
+    ensures trouble { IfErr result (λ e. IsIntact S.Store connection.new → is_trouble e ≡ true) }
+{
+    make_table(connection, Added::Tallies)?;
+    complete_third(connection)
+}
+
+/// Creates the tables that a host of version 1 lacks.
+fn complete_first<S: Alter>(connection: &mut Connection<S>) -> Result<(), Error>
+    requires { IsClean S.Store connection.old → HasSchema first_schema (stands S.Store connection.old) }
+    ensures within { StaysWithin S.Store connection.old connection.new }
+    ensures opens { OnOk result (StaysOpen S.Store connection.old connection.new) }
+    ensures made { OnOk result (IsClean S.Store connection.new
+        → HasRows host_schema raw (first_raw (stands S.Store connection.old).now.trees) (stands S.Store connection.new)) }
+    ensures trouble { IfErr result (λ e. IsIntact S.Store connection.new → is_trouble e ≡ true) }
+{
+    make_table(connection, Added::Locks)?;
+    make_table(connection, Added::Retains)?;
+    complete_second(connection)
+}
+
 /// Creates all tables that a host of this version lacks, without rows.
 pub fn make_tables<S: Alter>(connection: &mut Connection<S>, version: Earlier) -> Result<(), Error>
     requires { IsClean S.Store connection.old → HasSchema (earlier_schema version) (stands S.Store connection.old) }
@@ -130,6 +149,10 @@ pub fn make_tables<S: Alter>(connection: &mut Connection<S>, version: Earlier) -
         (earlier_raw version (stands S.Store connection.old).now.trees) (stands S.Store connection.new)) }
     ensures trouble { IfErr result (λ e. IsIntact S.Store connection.new → is_trouble e ≡ true) }
 {
-    make_third(connection, version)?;
-    make_fourth(connection)
+    match version {
+        Earlier::First => complete_first(connection),
+        Earlier::Second => complete_second(connection),
+        Earlier::Third => complete_third(connection),
+        Earlier::Fourth => complete_fourth(connection),
+    }
 }

@@ -66,7 +66,7 @@ fn insert<S: Alter>(connection: &mut Connection<S>, bytes: u64) -> Result<usize,
 {
     write(
         connection,
-        "INSERT INTO garbage (bytes) VALUES (?1)",
+        "INSERT INTO unneeded (bytes) VALUES (?1)",
         &[number(bytes)],
     )
 }

@@ -11,7 +11,7 @@ use Rattle.bh_open.specs.Opening.{digest_in, IsRowOf, Tells, shown_row}
 use Rattle.bh_open.specs.Versions.{number_of}
 use Rattle.bh_open.specs.declared.found.FoundHost.{FoundHost}
 use Rattle.bh_open.specs.declared.found.HostVersion.{HostVersion}
-use Rattle.bh_open.specs.declared.found.HostVersion.TheVariants.{Fourth}
+use Rattle.bh_open.specs.declared.found.HostVersion.TheVariants.{Fifth}
 
 same_row : (n : ℕ) (limits : HostLimits) (h : HostRow) → (it : IsRowOf n limits (h ∷ [])) → it.row ≡ h
 same_row n limits h it = let e = it.alone in cc
@@ -42,9 +42,9 @@ unfolding digest_in
 digest_kept tables n limits it = ap (λ l. digest_in (record tables { host = l })) (sym it.alone)
 
 -- the row of a host that is brought over
-pub told_brought : (v : HostVersion) (rows : List HostRow) (found : FoundHost) → Tells v rows found → Tells Fourth (map (with_version 4) rows) found
+pub told_brought : (v : HostVersion) (rows : List HostRow) (found : FoundHost) → Tells v rows found → Tells Fifth (map (with_version 5) rows) found
 told_brought v rows found it = (
-  record { row = with_version 4 it.0.row; alone = ap (map (with_version 4)) it.0.alone; version_is = refl; range = it.0.range; limits_are = it.0.limits_are; named = it.0.named; number = it.0.number },
+  record { row = with_version 5 it.0.row; alone = ap (map (with_version 5)) it.0.alone; version_is = refl; range = it.0.range; limits_are = it.0.limits_are; named = it.0.named; number = it.0.number },
   it.1,
   it.2,
 )

@@ -12,12 +12,12 @@ use Rattle.bh_types.specs.BlockDigests.{digest_number}
 use Rattle.bh_types.specs.Limits.{HostLimits}
 use Rattle.bh_types.specs.declared.block_digest.BlockDigest.{BlockDigest}
 use Rattle.bh_model.specs.State.{Octets}
-use Rattle.bh_tables.specs.Made.{with_uses_by_count, with_retains, with_tallies}
-use Rattle.bh_tables.specs.Schema.{no_schema, first_schema, second_schema, third_schema, host_schema}
-use Rattle.bh_tables.specs.Typed.{HostRow, Tables, IsHost, IsFirstHost, IsSecondHost, IsThirdHost, tables_in}
-use Rattle.bh_tables.specs.Hosts.{IsOfVersion1, IsOfVersion2, IsOfVersion3, is_of_version, tables_shown, tables_opened}
-use Rattle.bh_tables.proofs.Creates.{first_made, second_made, third_made}
-use Rattle.bh_tables.proofs.HostTests.{host_shows, other_schema, unlike_second, unlike_third, second_unlike_first, third_unlike_first, third_unlike_second, others_open}
+use Rattle.bh_tables.specs.Made.{with_uses_by_count, with_retains, with_tallies, with_garbage}
+use Rattle.bh_tables.specs.Schema.{no_schema, first_schema, second_schema, third_schema, fourth_schema, host_schema}
+use Rattle.bh_tables.specs.Typed.{HostRow, Tables, IsHost, IsFirstHost, IsSecondHost, IsThirdHost, IsFourthHost, tables_in}
+use Rattle.bh_tables.specs.Hosts.{IsOfVersion1, IsOfVersion2, IsOfVersion3, IsOfVersion4, is_of_version, tables_shown, tables_opened}
+use Rattle.bh_tables.proofs.Creates.{first_made, second_made, third_made, fourth_made}
+use Rattle.bh_tables.proofs.HostTests.{host_shows, other_schema, unlike_second, unlike_third, unlike_fourth, second_unlike_first, third_unlike_first, third_unlike_second, fourth_unlike_first, fourth_unlike_second, fourth_unlike_third, others_open}
 use Rattle.bh_view.specs.Bodies.{IsSoundHost}
 use Rattle.bh_view.specs.View.{latest_of, limits_in}
 use Rattle.bh_storage.specs.Calls.{IsAtRest}
@@ -32,7 +32,7 @@ use Rattle.bh_open.specs.Opening.{digest_in, IsRowOf, IsHostOf, IsSettled, IsKep
 use Rattle.bh_open.specs.Versions.{number_of, schema_of, IsEarlierSchema, IsHostsSchema, IsHostWith, IsAnyHost, IsTypedIfEarlier}
 use Rattle.bh_open.specs.declared.found.FoundHost.{FoundHost}
 use Rattle.bh_open.specs.declared.found.HostVersion.{HostVersion}
-use Rattle.bh_open.specs.declared.found.HostVersion.TheVariants.{First, Second, Third, Fourth}
+use Rattle.bh_open.specs.declared.found.HostVersion.TheVariants.{First, Second, Third, Fourth, Fifth}
 use Rattle.bh_open.specs.declared.found.NoHost.{NoHost}
 use Rattle.bh_open.proofs.Rows.{digest_kept, latest_kept, limits_kept, told_brought}
 
@@ -50,6 +50,9 @@ second_schema_made s making = making.blank.schema_is ∙ second_made
 
 pub third_schema_made : (s : State) → IsMaking with_tallies s → s.now.schema ≡ third_schema
 third_schema_made s making = making.blank.schema_is ∙ third_made
+
+pub fourth_schema_made : (s : State) → IsMaking with_garbage s → s.now.schema ≡ fourth_schema
+fourth_schema_made s making = making.blank.schema_is ∙ fourth_made
 
 pub first_making : (old new : Held MemStore) → IsEmpty (state over_memory old) → standing (state over_memory new) ≡ begun (standing (state over_memory old)) → IsMaking no_schema (state over_memory new)
 first_making old new empty is = begun_making (state over_memory old) (state over_memory new) empty is
@@ -91,24 +94,34 @@ with_schema First db host = host.schema
 with_schema Second db host = host.schema
 with_schema Third db host = host.schema
 with_schema Fourth db host = host.schema
+with_schema Fifth db host = host.schema
 
 one_version : (v w : HostVersion) (db : Database) → db.schema ≡ schema_of v → db.schema ≡ schema_of w → w ≡ v
 one_version First First db is other = refl
 one_version First Second db is other = absurd (second_unlike_first db other is)
 one_version First Third db is other = absurd (third_unlike_first db other is)
-one_version First Fourth db is other = absurd (other_schema db other is)
+one_version First Fourth db is other = absurd (fourth_unlike_first db other is)
+one_version First Fifth db is other = absurd (other_schema db other is)
 one_version Second First db is other = absurd (second_unlike_first db is other)
 one_version Second Second db is other = refl
 one_version Second Third db is other = absurd (third_unlike_second db other is)
-one_version Second Fourth db is other = absurd (unlike_second db other is)
+one_version Second Fourth db is other = absurd (fourth_unlike_second db other is)
+one_version Second Fifth db is other = absurd (unlike_second db other is)
 one_version Third First db is other = absurd (third_unlike_first db is other)
 one_version Third Second db is other = absurd (third_unlike_second db is other)
 one_version Third Third db is other = refl
-one_version Third Fourth db is other = absurd (unlike_third db other is)
-one_version Fourth First db is other = absurd (other_schema db is other)
-one_version Fourth Second db is other = absurd (unlike_second db is other)
-one_version Fourth Third db is other = absurd (unlike_third db is other)
+one_version Third Fourth db is other = absurd (fourth_unlike_third db other is)
+one_version Third Fifth db is other = absurd (unlike_third db other is)
+one_version Fourth First db is other = absurd (fourth_unlike_first db is other)
+one_version Fourth Second db is other = absurd (fourth_unlike_second db is other)
+one_version Fourth Third db is other = absurd (fourth_unlike_third db is other)
 one_version Fourth Fourth db is other = refl
+one_version Fourth Fifth db is other = absurd (unlike_fourth db other is)
+one_version Fifth First db is other = absurd (other_schema db is other)
+one_version Fifth Second db is other = absurd (unlike_second db is other)
+one_version Fifth Third db is other = absurd (unlike_third db is other)
+one_version Fifth Fourth db is other = absurd (unlike_fourth db is other)
+one_version Fifth Fifth db is other = refl
 
 -- a host of any version is one of the version that its schema has
 pub host_with : (v : HostVersion) (db : Database) → db.schema ≡ schema_of v → IsAnyHost db → IsHostWith v db
@@ -118,19 +131,22 @@ pub any_schema : (v : HostVersion) (schema : Schema) → schema ≡ schema_of v 
 any_schema First schema is = inl is
 any_schema Second schema is = inr (inl is)
 any_schema Third schema is = inr (inr (inl is))
-any_schema Fourth schema is = inr (inr (inr is))
+any_schema Fourth schema is = inr (inr (inr (inl is)))
+any_schema Fifth schema is = inr (inr (inr (inr is)))
 
 pub no_schema_of : (schema : Schema) → ((v : HostVersion) → schema ≢ schema_of v) → IsHostsSchema schema → ⊥
 no_schema_of schema other (inl is) = other First is
 no_schema_of schema other (inr (inl is)) = other Second is
 no_schema_of schema other (inr (inr (inl is))) = other Third is
-no_schema_of schema other (inr (inr (inr is))) = other Fourth is
+no_schema_of schema other (inr (inr (inr (inl is)))) = other Fourth is
+no_schema_of schema other (inr (inr (inr (inr is)))) = other Fifth is
 
 -- that of an older host isn't the present one
 pub not_present : (db : Database) → IsEarlierSchema db.schema → db.schema ≡ host_schema → ⊥
 not_present db (inl is) present = other_schema db present is
 not_present db (inr (inl is)) present = unlike_second db present is
-not_present db (inr (inr is)) present = unlike_third db present is
+not_present db (inr (inr (inl is))) present = unlike_third db present is
+not_present db (inr (inr (inr is))) present = unlike_fourth db present is
 
 -- ---- what is found
 
@@ -178,7 +194,7 @@ opens_brought v old new schema earlier settles = record {
   brought = λ _. settles;
 }
 
-pub opens_same : (old : Standing) → old.now.schema ≡ host_schema → old.inside ≡ false → old.now ≡ old.kept → Opens Fourth old old
+pub opens_same : (old : Standing) → old.now.schema ≡ host_schema → old.inside ≡ false → old.now ≡ old.kept → Opens Fifth old old
 opens_same old schema outside committed = record {
   schema = schema;
   outside = outside;
@@ -197,20 +213,23 @@ left_over a d follows earlier crash intact db left = elim (crash intact db left)
 -- ---- once it is opened
 
 module _ (old new : Standing) where
-  told_after : (v : HostVersion) (found : FoundHost) → Opens v old new → IsHostWith v old.now → Tells v (tables_in old.now).host found → Tells Fourth (tables_in new.now).host found
+  told_after : (v : HostVersion) (found : FoundHost) → Opens v old new → IsHostWith v old.now → Tells v (tables_in old.now).host found → Tells Fifth (tables_in new.now).host found
   told_after First found o host it =
-      subst (λ (l : List HostRow). Tells Fourth l found) (sym (ap (λ (t : Tables). t.host) ((o.brought (inl o.schema)).changed.first host).rows)) (told_brought First (tables_in old.now).host found it)
+      subst (λ (l : List HostRow). Tells Fifth l found) (sym (ap (λ (t : Tables). t.host) ((o.brought (inl o.schema)).changed.first host).rows)) (told_brought First (tables_in old.now).host found it)
   told_after Second found o host it =
-      subst (λ (l : List HostRow). Tells Fourth l found) (sym (ap (λ (t : Tables). t.host) ((o.brought (inr (inl o.schema))).changed.second host).rows)) (told_brought Second (tables_in old.now).host found it)
+      subst (λ (l : List HostRow). Tells Fifth l found) (sym (ap (λ (t : Tables). t.host) ((o.brought (inr (inl o.schema))).changed.second host).rows)) (told_brought Second (tables_in old.now).host found it)
   told_after Third found o host it =
-      subst (λ (l : List HostRow). Tells Fourth l found) (sym (ap (λ (t : Tables). t.host) ((o.brought (inr (inr o.schema))).changed.third host).rows)) (told_brought Third (tables_in old.now).host found it)
-  told_after Fourth found o host it = subst (λ (x : Standing). Tells Fourth (tables_in x.now).host found) (sym (o.same o.schema)) it
+      subst (λ (l : List HostRow). Tells Fifth l found) (sym (ap (λ (t : Tables). t.host) ((o.brought (inr (inr (inl o.schema)))).changed.third host).rows)) (told_brought Third (tables_in old.now).host found it)
+  told_after Fourth found o host it =
+      subst (λ (l : List HostRow). Tells Fifth l found) (sym (ap (λ (t : Tables). t.host) ((o.brought (inr (inr (inr o.schema)))).changed.fourth host).rows)) (told_brought Fourth (tables_in old.now).host found it)
+  told_after Fifth found o host it = subst (λ (x : Standing). Tells Fifth (tables_in x.now).host found) (sym (o.same o.schema)) it
 
   host_before : (v : HostVersion) → Opens v old new → IsTypedIfEarlier old.now → IsHost new.now → IsHostWith v old.now
   host_before First o typed host = typed.first o.schema
   host_before Second o typed host = typed.second o.schema
   host_before Third o typed host = typed.third o.schema
-  host_before Fourth o typed host = subst (λ (x : Standing). IsHost x.now) (o.same o.schema) host
+  host_before Fourth o typed host = typed.fourth o.schema
+  host_before Fifth o typed host = subst (λ (x : Standing). IsHost x.now) (o.same o.schema) host
 
   first_version : (found : FoundHost) → IsFirstHost old.now → Tells First (tables_in old.now).host found → IsOfVersion1 old.now
   first_version found host it = record { first = host; version = ap (list_all (is_of_version 1)) it.0.alone ∙ ap (λ n. (n == 1) && true) it.0.version_is }
@@ -221,17 +240,21 @@ module _ (old new : Standing) where
   third_version : (found : FoundHost) → IsThirdHost old.now → Tells Third (tables_in old.now).host found → IsOfVersion3 old.now
   third_version found host it = record { third = host; version = ap (list_all (is_of_version 3)) it.0.alone ∙ ap (λ n. (n == 3) && true) it.0.version_is }
 
+  fourth_version : (found : FoundHost) → IsFourthHost old.now → Tells Fourth (tables_in old.now).host found → IsOfVersion4 old.now
+  fourth_version found host it = record { fourth = host; version = ap (list_all (is_of_version 4)) it.0.alone ∙ ap (λ n. (n == 4) && true) it.0.version_is }
+
   shown_after : (v : HostVersion) (found : FoundHost) → Opens v old new → (IsHostWith v old.now → Tells v (tables_in old.now).host found) → IsTypedIfEarlier old.now → tables_shown new.now ≡ tables_opened old.now
   shown_after First found o told typed = let host = typed.first o.schema in shows_same old.now new.now (inl (first_version found host (told host))) (o.brought (inl o.schema)).changed
   shown_after Second found o told typed = let host = typed.second o.schema in shows_same old.now new.now (inr (inl (second_version found host (told host)))) (o.brought (inr (inl o.schema))).changed
-  shown_after Third found o told typed = let host = typed.third o.schema in shows_same old.now new.now (inr (inr (third_version found host (told host)))) (o.brought (inr (inr o.schema))).changed
-  shown_after Fourth found o told typed = ap (λ (x : Standing). tables_shown x.now) (o.same o.schema) ∙ sym (others_open old.now (other_schema old.now o.schema) (unlike_second old.now o.schema) (unlike_third old.now o.schema))
+  shown_after Third found o told typed = let host = typed.third o.schema in shows_same old.now new.now (inr (inr (inl (third_version found host (told host))))) (o.brought (inr (inr (inl o.schema)))).changed
+  shown_after Fourth found o told typed = let host = typed.fourth o.schema in shows_same old.now new.now (inr (inr (inr (fourth_version found host (told host))))) (o.brought (inr (inr (inr o.schema)))).changed
+  shown_after Fifth found o told typed = ap (λ (x : Standing). tables_shown x.now) (o.same o.schema) ∙ sym (others_open old.now (other_schema old.now o.schema) (unlike_second old.now o.schema) (unlike_third old.now o.schema) (unlike_fourth old.now o.schema))
 
   pub host_of : (found : FoundHost) → Opens found.version old new → (IsHostWith found.version old.now → Tells found.version (tables_in old.now).host found) → IsAnyHost old.now → IsHostOf found.limits old.now
   host_of found o told any = let host = host_with found.version old.now o.schema any in (found.version, record { host = host; row = (told host).0 })
 
 module _ (old new : State) (found : FoundHost) (opens : IsStateClean new → Opens found.version (standing old) (standing new)) (told : IsStateClean new → IsHostWith found.version (standing old).now → Tells found.version (tables_in (standing old).now).host found) where
-  after : IsStateClean new → IsTypedIfEarlier (standing old).now → IsHost (standing new).now → Tells Fourth (tables_in (standing new).now).host found
+  after : IsStateClean new → IsTypedIfEarlier (standing old).now → IsHost (standing new).now → Tells Fifth (tables_in (standing new).now).host found
   after clean typed host =
       let before = host_before (standing old) (standing new) found.version (opens clean) typed host in
       told_after (standing old) (standing new) found.version found (opens clean) before (told clean before)
@@ -248,7 +271,7 @@ module _ (old new : State) (found : FoundHost) (opens : IsStateClean new → Ope
         outside = (opens clean).outside;
         committed = ap tables_shown (opens clean).committed;
         sound = sound;
-        limits = ap limits_in (host_shows (standing new).now host) ∙ limits_kept (tables_in (standing new).now) 4 found.limits (after clean typed host).0;
+        limits = ap limits_in (host_shows (standing new).now host) ∙ limits_kept (tables_in (standing new).now) 5 found.limits (after clean typed host).0;
       }
 
   pub tells : (digest : Octets → Octets) → IsStateClean new → IsTypedIfEarlier (standing old).now → IsSoundHost digest (seen_in found.limits new).now → found.latest ≡ latest_of (seen_in found.limits new).now
@@ -256,11 +279,11 @@ module _ (old new : State) (found : FoundHost) (opens : IsStateClean new → Ope
   tells digest clean typed sound =
       let host = sound_host (standing new).now sound.sound in
       let it = after clean typed host in
-      it.1 ∙ latest_kept (tables_in (standing new).now) 4 found.limits it.0 ∙ ap latest_of (sym (host_shows (standing new).now host))
+      it.1 ∙ latest_kept (tables_in (standing new).now) 5 found.limits it.0 ∙ ap latest_of (sym (host_shows (standing new).now host))
 
   pub names : (digest : Octets → Octets) → IsStateClean new → IsTypedIfEarlier (standing old).now → IsSoundHost digest (seen_in found.limits new).now → digest_number found.digest ≡ digest_in (seen_in found.limits new).now
   unfolding seen_in
   names digest clean typed sound =
       let host = sound_host (standing new).now sound.sound in
       let it = after clean typed host in
-      it.2 ∙ digest_kept (tables_in (standing new).now) 4 found.limits it.0 ∙ ap digest_in (sym (host_shows (standing new).now host))
+      it.2 ∙ digest_kept (tables_in (standing new).now) 5 found.limits it.0 ∙ ap digest_in (sym (host_shows (standing new).now host))

@@ -18,7 +18,7 @@ use Rattle.bh_schema.specs.Layer.{standing, IsStateClean, IsIntact, IsOpen}
 use Rattle.bh_open.specs.Opening.{shown_row}
 use Rattle.bh_open.specs.Versions.{schema_of, IsHostWith}
 use Rattle.bh_open.specs.declared.found.HostVersion.{HostVersion}
-use Rattle.bh_open.specs.declared.found.HostVersion.TheVariants.{First, Second, Third, Fourth}
+use Rattle.bh_open.specs.declared.found.HostVersion.TheVariants.{First, Second, Third, Fourth, Fifth}
 
 abbrev pub row_text : List ℕ
 row_text = codes "SELECT version, latest, min_part, max_body, digest FROM host ORDER BY rowid"
@@ -65,6 +65,16 @@ row_shown Fourth = record {
   tests = λ id h. refl;
   shows = λ id h. refl;
 }
+row_shown Fifth = record {
+  test = [];
+  show = col 1 2 ∷ col 1 3 ∷ col 1 4 ∷ col 1 5 ∷ col 1 6 ∷ [];
+  names = codes "version" ∷ codes "latest" ∷ codes "min_part" ∷ codes "max_body" ∷ codes "digest" ∷ [];
+  means = record { is = refl; plain = (refl, refl); unlisted = refl; whole = refl; given = refl };
+  low = refl;
+  accepts = refl;
+  tests = λ id h. refl;
+  shows = λ id h. refl;
+}
 
 -- the host's table has typed rows
 typed_host : (v : HostVersion) (db : Database) → IsHostWith v db → (db.schema ≡ schema_of v) × AreRows host_form (db.trees 0)
@@ -72,6 +82,7 @@ typed_host First db host = (host.schema, host.held.host)
 typed_host Second db host = (host.schema, host.held.host)
 typed_host Third db host = (host.schema, host.held.host)
 typed_host Fourth db host = (host.schema, host.held.host)
+typed_host Fifth db host = (host.schema, host.held.host)
 
 module _ (v : HostVersion) {X : Type 0} (old new : State) (schema : IsStateClean old → (standing old).now.schema ≡ schema_of v) (rows_in : X → List Row) (result : Result X Error)
     (ok : HasCleanDisk new → IfOk result (λ x. Shown row_text [] old new (rows_in x))) (survives : Survives old new (CommitsShowing row_text [] old)) where

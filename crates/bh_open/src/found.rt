@@ -7,14 +7,17 @@ use bh_types::limits::Limits;
 /// The version of a host, by its tables.
 #[derive(Clone, Copy)]
 pub enum HostVersion {
-    /// Its tables of locks, of dates and of tallies are missing, and those that version 4 added.
+    /// Its tables of locks, of dates and of tallies are missing, and those that versions 4 and 5
+    /// added.
     First,
-    /// Its table of tallies is missing, and those that version 4 added.
+    /// Its table of tallies is missing, and those that versions 4 and 5 added.
     Second,
-    /// Those that version 4 added are missing.
+    /// Those that versions 4 and 5 added are missing.
     Third,
-    /// It has all tables.
+    /// The one that version 5 added is missing.
     Fourth,
+    /// It has all tables.
+    Fifth,
 }
 
 impl HostVersion {
@@ -27,6 +30,7 @@ impl HostVersion {
             HostVersion::Second => 2,
             HostVersion::Third => 3,
             HostVersion::Fourth => 4,
+            HostVersion::Fifth => 5,
         }
     }
 }

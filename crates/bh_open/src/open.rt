@@ -165,7 +165,8 @@ fn bring<S: Alter>(connection: &mut Connection<S>, version: HostVersion) -> Resu
         HostVersion::First => bring_over(connection, Earlier::First),
         HostVersion::Second => bring_over(connection, Earlier::Second),
         HostVersion::Third => bring_over(connection, Earlier::Third),
-        HostVersion::Fourth => Ok(()),
+        HostVersion::Fourth => bring_over(connection, Earlier::Fourth),
+        HostVersion::Fifth => Ok(()),
     }
 }
 

@@ -2,12 +2,14 @@ ghost use Rattle.std.specs.Prelude.{◌≡◌, ◌↔◌, true, IsTrue, IfOk, If
 ghost use Rattle.sqlite.specs.Held.{state};
 ghost use Rattle.sqlite.specs.Steps.{over_memory};
 ghost use Rattle.bh_rows.specs.Means.{is_trouble};
-ghost use Rattle.bh_tables.specs.Schema.{first_schema, second_schema, third_schema, host_schema};
+ghost use Rattle.bh_tables.specs.Schema.{first_schema, second_schema, third_schema, fourth_schema, host_schema};
 ghost use Rattle.bh_open.specs.Versions.{IsVersionOf, IsHostsSchema};
 
 use crate::found::{HostVersion, NoHost};
 use bh_compare::same_schema;
-use bh_create::{create_first_tables, create_second_tables, create_third_tables, make};
+use bh_create::{
+    create_first_tables, create_fourth_tables, create_second_tables, create_third_tables, make,
+};
 use bh_schema::rows::transactions::begin;
 use bh_types::block_digest::BlockDigest;
 use bh_types::limits::Limits;
@@ -58,11 +60,30 @@ fn third_tables(alloc: Global) -> Result<Connection<MemStore>, Error>
     Ok(connection)
 }
 
-fn is_fourth(alloc: Global, schema: &Schema) -> Result<bool, Error>
+/// Those of a host of version 4.
+fn fourth_tables(alloc: Global) -> Result<Connection<MemStore>, Error>
+    ensures schema { IfOk result (λ connection. (state over_memory connection).now.schema ≡ fourth_schema) }
+    ensures trouble { IfErr result (λ e. is_trouble e ≡ true) }
+{
+    let mut connection = Connection::open_in_memory(alloc)?;
+    begin(&mut connection)?;
+    create_fourth_tables(&mut connection)?;
+    Ok(connection)
+}
+
+fn is_fifth(alloc: Global, schema: &Schema) -> Result<bool, Error>
     ensures is { IfOk result (λ is. IsTrue is ↔ (schema.now ≡ host_schema)) }
     ensures trouble { IfErr result (λ e. is_trouble e ≡ true) }
 {
     let connection = new_tables(alloc)?;
+    Ok(same_schema(schema, connection.schema()))
+}
+
+fn is_fourth(alloc: Global, schema: &Schema) -> Result<bool, Error>
+    ensures is { IfOk result (λ is. IsTrue is ↔ (schema.now ≡ fourth_schema)) }
+    ensures trouble { IfErr result (λ e. is_trouble e ≡ true) }
+{
+    let connection = fourth_tables(alloc)?;
     Ok(same_schema(schema, connection.schema()))
 }
 
@@ -95,7 +116,9 @@ pub(crate) fn version_of(alloc: Global, schema: &Schema) -> Result<Option<HostVe
     ensures is { IfOk result (λ found. IsVersionOf schema.now found) }
     ensures trouble { IfErr result (λ e. is_trouble e ≡ true) }
 {
-    if is_fourth(alloc, schema)? {
+    if is_fifth(alloc, schema)? {
+        Ok(Some(HostVersion::Fifth))
+    } else if is_fourth(alloc, schema)? {
         Ok(Some(HostVersion::Fourth))
     } else if is_third(alloc, schema)? {
         Ok(Some(HostVersion::Third))

@@ -11,7 +11,7 @@ use Rattle.bh_rows.specs.Texts.{IsReadyAt, InsertText, UpdateText, Leaves, MayAd
 use Rattle.bh_rows.specs.Scan.{no_limit}
 use Rattle.bh_rows.proofs.CallLemmas.{clean_before, shown_open}
 use Rattle.bh_rows.proofs.TextLemmas as text
-use Rattle.bh_tables.specs.Schema.{host_schema, garbage_table, at}
+use Rattle.bh_tables.specs.Schema.{host_schema, unneeded_table, at}
 use Rattle.bh_tables.specs.Typed.{Totals, GarbageRow, garbage_form, weight, weighed, IsHostBy, Tables, tables, number}
 use Rattle.bh_tables.specs.Shown.{shown_garbage}
 use Rattle.bh_tables.proofs.GarbageTexts.{garbage_shown}
@@ -23,34 +23,34 @@ use Rattle.bh_schema.proofs.Calls.{Turn, Question, question, ready}
 use Rattle.bh_schema.proofs.Calls as call
 
 -- the rows of it become these of those that were
-garbage_turn : (old new : State) (change : List GarbageRow → List GarbageRow) (sums : Totals) → IsHostBy sums old.now → Leaves garbage_form host_schema 43 old new (change (typed garbage_form (old.now.trees 43))) → IsHostBy (weighed change sums) new.now × (tables new ≡ tables old)
-garbage_turn old new change sums host l = garbage_turned sums (change sums.garbage) old new host (subst (λ gs. Leaves garbage_form host_schema 43 old new (change gs)) host.held.weighed l)
+garbage_turn : (old new : State) (change : List GarbageRow → List GarbageRow) (sums : Totals) → IsHostBy sums old.now → Leaves garbage_form host_schema 44 old new (change (typed garbage_form (old.now.trees 44))) → IsHostBy (weighed change sums) new.now × (tables new ≡ tables old)
+garbage_turn old new change sums host l = garbage_turned sums (change sums.garbage) old new host (subst (λ gs. Leaves garbage_form host_schema 44 old new (change gs)) host.held.weighed l)
 
 module _ (old new : State) (midst : IsStateClean old → IsMidst (standing old)) (result : Result ℕ Error) (live : IsLive old) {sql : List ℕ} {params : Row} where
-  pub adds : {x : GarbageRow} → InsertText garbage_form host_schema 18 (at 43 garbage_table) sql params x → (HasCleanDisk new → Executes sql params old new result) → Survives old new (CommitsBy sql params old)
+  pub adds : {x : GarbageRow} → InsertText garbage_form host_schema 19 (at 44 unneeded_table) sql params x → (HasCleanDisk new → Executes sql params old new result) → Survives old new (CommitsBy sql params old)
       → Turn old new (weighed (λ gs. gs ++ x ∷ [])) (λ t. t) result
-  adds {x} it = call.adds garbage_form 18 (at 43 garbage_table) garbage_is (λ sums db h. h.held.garbage) old new midst result live (weighed (λ gs. gs ++ x ∷ [])) (λ t. t) it (garbage_turn old new (λ gs. gs ++ x ∷ []))
+  adds {x} it = call.adds garbage_form 19 (at 44 unneeded_table) garbage_is (λ sums db h. h.held.garbage) old new midst result live (weighed (λ gs. gs ++ x ∷ [])) (λ t. t) it (garbage_turn old new (λ gs. gs ++ x ∷ []))
 
-  pub sets : {m : GarbageRow → Bool} {f : GarbageRow → GarbageRow} → UpdateText garbage_form host_schema 18 (at 43 garbage_table) sql params m f → (HasCleanDisk new → Executes sql params old new result) → Survives old new (CommitsBy sql params old)
+  pub sets : {m : GarbageRow → Bool} {f : GarbageRow → GarbageRow} → UpdateText garbage_form host_schema 19 (at 44 unneeded_table) sql params m f → (HasCleanDisk new → Executes sql params old new result) → Survives old new (CommitsBy sql params old)
       → Turn old new (weighed (update_where m f)) (λ t. t) result
-  sets {m} {f} it = call.sets garbage_form 18 (at 43 garbage_table) garbage_is (λ sums db h. h.held.garbage) old new midst result live (weighed (update_where m f)) (λ t. t) it (garbage_turn old new (update_where m f))
+  sets {m} {f} it = call.sets garbage_form 19 (at 44 unneeded_table) garbage_is (λ sums db h. h.held.garbage) old new midst result live (weighed (update_where m f)) (λ t. t) it (garbage_turn old new (update_where m f))
 
-  pub adds_trouble : {x : GarbageRow} {A : Type 0} → InsertText garbage_form host_schema 18 (at 43 garbage_table) sql params x → (IsStateClean old → A → MayAdd garbage_form host_schema (at 43 garbage_table) (standing old).now.trees x)
+  pub adds_trouble : {x : GarbageRow} {A : Type 0} → InsertText garbage_form host_schema 19 (at 44 unneeded_table) sql params x → (IsStateClean old → A → MayAdd garbage_form host_schema (at 44 unneeded_table) (standing old).now.trees x)
       → (HasCleanDisk new → Executes sql params old new result) → Survives old new (CommitsBy sql params old) → IfErr result (λ e. IsIntact new → (standing old).limit ≡ None → A → is_trouble e ≡ true)
-  adds_trouble it may runs survives = call.adds_trouble garbage_form 18 (at 43 garbage_table) garbage_is (λ sums db h. h.held.garbage) old new midst result live (λ s. s) (λ t. t) it may runs survives
+  adds_trouble it may runs survives = call.adds_trouble garbage_form 19 (at 44 unneeded_table) garbage_is (λ sums db h. h.held.garbage) old new midst result live (λ s. s) (λ t. t) it may runs survives
 
-  pub sets_trouble : {m : GarbageRow → Bool} {f : GarbageRow → GarbageRow} → UpdateText garbage_form host_schema 18 (at 43 garbage_table) sql params m f → MayChange garbage_form host_schema (at 43 garbage_table) m f
+  pub sets_trouble : {m : GarbageRow → Bool} {f : GarbageRow → GarbageRow} → UpdateText garbage_form host_schema 19 (at 44 unneeded_table) sql params m f → MayChange garbage_form host_schema (at 44 unneeded_table) m f
       → (HasCleanDisk new → Executes sql params old new result) → Survives old new (CommitsBy sql params old) → IfErr result (λ e. IsIntact new → (standing old).limit ≡ None → Unit {0} → is_trouble e ≡ true)
-  sets_trouble {m} {f} it may runs survives = call.sets_trouble garbage_form 18 (at 43 garbage_table) garbage_is (λ sums db h. h.held.garbage) old new midst result live (λ s. s) (λ t. t) it may.unwatched
-      (λ clean _ e there was. may.suits e.0 e.1 (has_filtered (λ (d : Entry GarbageRow). m d.1) (entries garbage_form ((standing old).now.trees 43)) e there).1 was) runs survives
+  sets_trouble {m} {f} it may runs survives = call.sets_trouble garbage_form 19 (at 44 unneeded_table) garbage_is (λ sums db h. h.held.garbage) old new midst result live (λ s. s) (λ t. t) it may.unwatched
+      (λ clean _ e there was. may.suits e.0 e.1 (has_filtered (λ (d : Entry GarbageRow). m d.1) (entries garbage_form ((standing old).now.trees 44)) e there).1 was) runs survives
 
 -- ---- it is told
 
 module _ (old new : State) (inside : IsStateClean old → IsInside (standing old)) where
   abbrev sql : List ℕ
-  sql = codes "SELECT bytes FROM garbage ORDER BY rowid"
+  sql = codes "SELECT bytes FROM unneeded ORDER BY rowid"
 
-  ready_at : IsReadyAt garbage_form host_schema 43 old
+  ready_at : IsReadyAt garbage_form host_schema 44 old
   ready_at clean up = let h = ready old inside clean up in (h.schema, h.held.garbage)
 
   abbrev told : List GarbageRow → List Row
@@ -60,11 +60,11 @@ module _ (old new : State) (inside : IsStateClean old → IsInside (standing old
       → (HasCleanDisk new → IfErr result (FailsToQuery sql [] old new)) → Survives old new (CommitsShowing sql [] old)
       → Question old new rows_in (λ t. (number (garbage_in t) ∷ []) ∷ []) result
   garbage_told {X} rows_in result ok err survives = question old new rows_in _ result inside (record {
-    asks = text.select_asks garbage_form host_schema 43 old new ready_at sql [] (λ _. true) shown_garbage no_limit garbage_shown rows_in result ok err survives;
-    rows = λ clean. go clean result ok (text.select_rows garbage_form host_schema 43 old new ready_at sql [] (λ _. true) shown_garbage no_limit garbage_shown rows_in result ok survives clean);
+    asks = text.select_asks garbage_form host_schema 44 old new ready_at sql [] (λ _. true) shown_garbage no_limit garbage_shown rows_in result ok err survives;
+    rows = λ clean. go clean result ok (text.select_rows garbage_form host_schema 44 old new ready_at sql [] (λ _. true) shown_garbage no_limit garbage_shown rows_in result ok survives clean);
   })
     where
-      go : HasCleanDisk new → (r : Result X Error) → (HasCleanDisk new → IfOk r (λ x. Shown sql [] old new (rows_in x))) → IfOk r (λ x. rows_in x ≡ told (typed garbage_form (old.now.trees 43)))
+      go : HasCleanDisk new → (r : Result X Error) → (HasCleanDisk new → IfOk r (λ x. Shown sql [] old new (rows_in x))) → IfOk r (λ x. rows_in x ≡ told (typed garbage_form (old.now.trees 44)))
           → IfOk r (λ x. rows_in x ≡ (number (garbage_in (tables old)) ∷ []) ∷ [])
       go clean (Err e) ok is = tt
       go clean (Ok x) ok is =

@@ -75,5 +75,5 @@ pub record AreAllFit (d : Trees) : Type 0 where
   pub locks : AreFit lock_kinds (d 26)
   pub retains : AreFit retain_kinds (d 28)
   pub tallies : AreFit tally_kinds (d 30)
-  pub garbage : AreFit garbage_kinds (d 43)
+  pub garbage : AreFit garbage_kinds (d 44)
   pub unfilled : AreUnfilled d

@@ -7,7 +7,7 @@ ghost use Rattle.bh_stored.specs.Cells.{is_fit};
 ghost use Rattle.bh_stored.specs.Fits.{AreFit, AreUnfilled, AreAllFit};
 ghost use Rattle.bh_stored.specs.Stored.{seen, AreStoredIn};
 ghost use Rattle.bh_stored.specs.Stores.{KeepsTrees};
-ghost use Rattle.bh_stored.specs.declared.stored.Edition.TheVariants.{First, Second, Third, Fourth};
+ghost use Rattle.bh_stored.specs.declared.stored.Edition.TheVariants.{First, Second, Third, Fourth, Fifth};
 
 use crate::cells::Kind::{self, Blob, Key, MaybeNumber, Number, Text};
 use crate::cells::{is_fit, number_in};
@@ -55,8 +55,10 @@ pub enum Edition {
     Second,
     /// With those and one of tallies.
     Third,
-    /// With those, one of what nobody needs, and some that nothing fills yet.
+    /// With those and some that nothing fills yet.
     Fourth,
+    /// With those and one of what nobody needs.
+    Fifth,
 }
 
 /// As they are stored.
@@ -129,7 +131,8 @@ fn none_filled<S: Store>(alloc: Global, store: &mut S) -> Result<(), Failure>
     no_rows(alloc, store, 34)?;
     no_rows(alloc, store, 37)?;
     no_rows(alloc, store, 39)?;
-    no_rows(alloc, store, 41)
+    no_rows(alloc, store, 41)?;
+    no_rows(alloc, store, 43)
 }
 
 impl Stored {
@@ -180,15 +183,25 @@ impl Stored {
         Ok(stored)
     }
 
-    /// The same rows, and those of what nobody needs, where the tables that nothing fills have none.
+    /// The same rows, where the tables that nothing fills have none.
     fn read_fourth<S: Store>(alloc: Global, store: &mut S) -> Result<Stored, Failure>
         ensures keeps { OnOk result (KeepsTrees (S.view store.old) (S.view store.new)) }
         ensures stored { IfOk result (λ it. IsClean (S.view store.new) → AreStoredIn (seen Fourth (S.view store.old).trees) it) }
         ensures fit { OnOk result (IsClean (S.view store.new) → AreAllFit (seen Fourth (S.view store.old).trees)) }
     {
-        let mut stored = Stored::read_third(alloc, store)?;
-        stored.garbage = fit_rows(alloc, store, 43, &GARBAGE)?;
+        let stored = Stored::read_third(alloc, store)?;
         none_filled(alloc, store)?;
+        Ok(stored)
+    }
+
+    /// The same rows, and those of the table of what nobody needs.
+    fn read_fifth<S: Store>(alloc: Global, store: &mut S) -> Result<Stored, Failure>
+        ensures keeps { OnOk result (KeepsTrees (S.view store.old) (S.view store.new)) }
+        ensures stored { IfOk result (λ it. IsClean (S.view store.new) → AreStoredIn (seen Fifth (S.view store.old).trees) it) }
+        ensures fit { OnOk result (IsClean (S.view store.new) → AreAllFit (seen Fifth (S.view store.old).trees)) }
+    {
+        let mut stored = Stored::read_fourth(alloc, store)?;
+        stored.garbage = fit_rows(alloc, store, 44, &GARBAGE)?;
         Ok(stored)
     }
 
@@ -204,6 +217,7 @@ impl Stored {
             Edition::Second => Stored::read_second(alloc, store),
             Edition::Third => Stored::read_third(alloc, store),
             Edition::Fourth => Stored::read_fourth(alloc, store),
+            Edition::Fifth => Stored::read_fifth(alloc, store),
         }
     }
 }

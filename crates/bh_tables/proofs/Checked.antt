@@ -17,7 +17,7 @@ use Rattle.sqlite.specs.Term.{Term, eval}
 use Rattle.sqlite_rules.specs.Lists.{Has}
 use Rattle.sqlite_rules.proofs.ListLemmas.{test_has}
 use Rattle.sqlite_schema.specs.Rules.{passes_checks}
-use Rattle.bh_tables.specs.Schema.{Octets, is_natural, is_small, host_table, tenants_table, buckets_table, versions_table, blocks_table, refs_table, uploads_table, parts_table, uses_table, retains_table, tallies_table, garbage_table}
+use Rattle.bh_tables.specs.Schema.{Octets, is_natural, is_small, host_table, tenants_table, buckets_table, versions_table, blocks_table, refs_table, uploads_table, parts_table, uses_table, retains_table, tallies_table, unneeded_table}
 use Rattle.bh_tables.specs.Typed.{HostRow, host_columns, TenantRow, tenant_columns, BucketRow, bucket_columns, VersionColumns, version_columns, BlockRow, block_columns, use_columns, RefRow, ref_columns, UploadRow, upload_columns, PartColumns, part_columns, RetainRow, retain_columns, tally_columns, GarbageRow, garbage_columns, weight, number}
 use Rattle.bh_tables.specs.Bodies.{bare}
 use Rattle.bh_tables.specs.Shown.{is_marked_right}
@@ -93,11 +93,11 @@ tally_checked id tenant versions markers objects few fewer fewest =
     both_true (natural versions) (both_true (small versions few) (both_true (natural markers) (both_true (small markers fewer) (both_true (natural objects) (both_true (small objects fewest) refl)))))
 
 -- the row number of what nobody needs is 1
-pub garbage_checked : (n : ℕ) → n ≤ 4611686018427387904 → passes_checks garbage_table (number 1 ∷ garbage_columns (weight n)) ≡ true
+pub garbage_checked : (n : ℕ) → n ≤ 4611686018427387904 → passes_checks unneeded_table (number 1 ∷ garbage_columns (weight n)) ≡ true
 garbage_checked n low = both_true (twice _ (at_ints true Eq (pos 1) (pos 1))) (both_true (natural n) (both_true (small n low) refl))
 
 -- and stays so under another number of bytes
-pub garbage_checked_still : (id : ℤ) (g : GarbageRow) (n : ℕ) → n ≤ 4611686018427387904 → passes_checks garbage_table (Int id ∷ garbage_columns g) ≡ true → passes_checks garbage_table (Int id ∷ garbage_columns (weight n)) ≡ true
+pub garbage_checked_still : (id : ℤ) (g : GarbageRow) (n : ℕ) → n ≤ 4611686018427387904 → passes_checks unneeded_table (Int id ∷ garbage_columns g) ≡ true → passes_checks unneeded_table (Int id ∷ garbage_columns (weight n)) ≡ true
 garbage_checked_still id g n low was = both_true (and_parts _ _ was).0 (both_true (natural n) (both_true (small n low) refl))
 
 -- the row number of the host is 1

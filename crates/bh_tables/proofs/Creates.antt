@@ -9,8 +9,8 @@ use Rattle.bh_rows.proofs.CreateLemmas.{Makes}
 use Rattle.bh_rows.proofs.CreateErrors.{IsFree}
 use Rattle.bh_rows.specs.Index.{Indexes}
 use Rattle.bh_rows.proofs.IndexErrors.{IsFreeIndex}
-use Rattle.bh_tables.specs.Schema.{Octets, no_schema, host_schema, host_table, tenants_table, keys_table, buckets_table, versions_table, blocks_table, refs_table, uploads_table, parts_table, at, newest, refs_by_block, uploads_by_key, uploads_by_moment, uses_table, uses_by_count, first_schema, second_schema, third_schema, locks_table, retains_table, tallies_table, packs_table, placed_table, notes_table, upload_notes_table, rights_table, garbage_table}
-use Rattle.bh_tables.specs.Made.{with_host, with_tenants, with_keys, with_buckets, with_versions, with_blocks, with_refs, with_newest, with_refs_by_block, with_uploads, with_parts, with_uploads_by_key, with_uploads_by_moment, with_uses, with_uses_by_count, with_locks, with_retains, with_tallies, with_packs, with_placed, with_notes, with_upload_notes, with_rights, with_garbage}
+use Rattle.bh_tables.specs.Schema.{Octets, no_schema, host_schema, host_table, tenants_table, keys_table, buckets_table, versions_table, blocks_table, refs_table, uploads_table, parts_table, at, newest, refs_by_block, uploads_by_key, uploads_by_moment, uses_table, uses_by_count, first_schema, second_schema, third_schema, locks_table, retains_table, tallies_table, packs_table, placed_table, notes_table, upload_notes_table, rights_table, garbage_table, fourth_schema, unneeded_table}
+use Rattle.bh_tables.specs.Made.{with_host, with_tenants, with_keys, with_buckets, with_versions, with_blocks, with_refs, with_newest, with_refs_by_block, with_uploads, with_parts, with_uploads_by_key, with_uploads_by_moment, with_uses, with_uses_by_count, with_locks, with_retains, with_tallies, with_packs, with_placed, with_notes, with_upload_notes, with_rights, with_garbage, with_unneeded}
 
 abbrev host_text : Octets
 host_text = codes "CREATE TABLE host (id INTEGER PRIMARY KEY CHECK (id = 1), version INTEGER NOT NULL CHECK (version >= 0), latest INTEGER NOT NULL CHECK (latest >= 0), min_part INTEGER NOT NULL CHECK (min_part >= 0), max_body INTEGER NOT NULL CHECK (max_body >= 0), digest INTEGER NOT NULL CHECK (digest >= 0)) STRICT"
@@ -292,6 +292,22 @@ unfolding everything fits_kind is_free_name begins same_name value_cmp Ieee.lt I
 free_garbage = record { text = refl; name = refl; own = refl; free = refl; keys_free = refl; few = refl; narrow = refl; keys_narrow = refl; formed = refl; fit = refl }
 
 -- and these of the fourth
-pub all_made : with_garbage ≡ host_schema
+pub fourth_made : with_garbage ≡ fourth_schema
+unfolding everything
+fourth_made = refl
+
+abbrev pub unneeded_text : Octets
+unneeded_text = codes "CREATE TABLE unneeded (id INTEGER PRIMARY KEY CHECK (id = 1), bytes INTEGER NOT NULL CHECK (bytes >= 0) CHECK (bytes <= 4611686018427387904)) STRICT"
+
+pub makes_unneeded : Makes fourth_schema unneeded_text unneeded_table
+unfolding understood everything
+makes_unneeded = record { means = record { is = refl; plain = (refl, refl); unlisted = refl; whole = refl; given = refl }; text = refl; defined = refl; uncounted = refl }
+
+pub free_unneeded : IsFree fourth_schema unneeded_text unneeded_table
+unfolding everything fits_kind is_free_name begins same_name value_cmp Ieee.lt Ieee.is_nan
+free_unneeded = record { text = refl; name = refl; own = refl; free = refl; keys_free = refl; few = refl; narrow = refl; keys_narrow = refl; formed = refl; fit = refl }
+
+-- and these of the fifth
+pub all_made : with_unneeded ≡ host_schema
 unfolding everything
 all_made = refl

@@ -13,7 +13,7 @@ use Rattle.sqlite_schema.specs.Rules.{passes_checks}
 use Rattle.bh_rows.specs.Form.{Form, typed}
 use Rattle.bh_rows.specs.Scan.{no_limit}
 use Rattle.bh_rows.specs.Texts.{MayAdd, MayChange, InsertText, UpdateText, SelectText}
-use Rattle.bh_tables.specs.Schema.{host_schema, garbage_table, at}
+use Rattle.bh_tables.specs.Schema.{host_schema, unneeded_table, at}
 use Rattle.bh_tables.specs.Bodies.{Name}
 use Rattle.bh_tables.specs.Garbage.{shown_uses}
 use Rattle.bh_tables.specs.Typed.{garbage_columns, garbage_form, weight, use_form, is_named, number}
@@ -27,17 +27,17 @@ none_stored : {T : Type 0} (form : Form T) (rows : List Row) → typed form rows
 none_stored form [] h = refl
 none_stored form (r ∷ rows) h = absurd (cc)
 
-first_checked : (rows : List Row) (n : ℕ) → n ≤ 4611686018427387904 → typed garbage_form rows ≡ [] → passes_checks (at 43 garbage_table) (Int (next_rowid rows) ∷ garbage_columns (weight n)) ≡ true
-first_checked rows n low none = subst (λ l. passes_checks garbage_table (Int (next_rowid l) ∷ garbage_columns (weight n)) ≡ true) (sym (none_stored garbage_form rows none)) (garbage_checked n low)
+first_checked : (rows : List Row) (n : ℕ) → n ≤ 4611686018427387904 → typed garbage_form rows ≡ [] → passes_checks (at 44 unneeded_table) (Int (next_rowid rows) ∷ garbage_columns (weight n)) ≡ true
+first_checked rows n low none = subst (λ l. passes_checks unneeded_table (Int (next_rowid l) ∷ garbage_columns (weight n)) ≡ true) (sym (none_stored garbage_form rows none)) (garbage_checked n low)
 
 -- no key has columns of it
-pub first_garbage : (db : Database) (n : ℕ) → n ≤ 4611686018427387904 → typed garbage_form (db.trees 43) ≡ [] → MayAdd garbage_form host_schema (at 43 garbage_table) db.trees (weight n)
+pub first_garbage : (db : Database) (n : ℕ) → n ≤ 4611686018427387904 → typed garbage_form (db.trees 44) ≡ [] → MayAdd garbage_form host_schema (at 44 unneeded_table) db.trees (weight n)
 unfolding everything
-first_garbage db n low none = record { suits = record { typed = refl; present = refl; checked = first_checked (db.trees 43) n low none }; free = tt; parents = refl }
+first_garbage db n low none = record { suits = record { typed = refl; present = refl; checked = first_checked (db.trees 44) n low none }; free = tt; parents = refl }
 
 -- ---- the texts
 
-pub garbage_inserted : (n : ℕ) → InsertText garbage_form host_schema 18 (at 43 garbage_table) (codes "INSERT INTO garbage (bytes) VALUES (?1)") (number n ∷ []) (weight n)
+pub garbage_inserted : (n : ℕ) → InsertText garbage_form host_schema 19 (at 44 unneeded_table) (codes "INSERT INTO unneeded (bytes) VALUES (?1)") (number n ∷ []) (weight n)
 unfolding understood everything
 garbage_inserted n = record {
   terms = lit Null ∷ lit Null ∷ col 0 0 ∷ [];
@@ -47,7 +47,7 @@ garbage_inserted n = record {
   accepts = refl;
 }
 
-pub garbage_set : (n : ℕ) → UpdateText garbage_form host_schema 18 (at 43 garbage_table) (codes "UPDATE garbage SET bytes = ?1") (number n ∷ []) (λ _. true) (λ _. weight n)
+pub garbage_set : (n : ℕ) → UpdateText garbage_form host_schema 19 (at 44 unneeded_table) (codes "UPDATE unneeded SET bytes = ?1") (number n ∷ []) (λ _. true) (λ _. weight n)
 unfolding understood everything
 garbage_set n = record {
   test = [];
@@ -58,11 +58,11 @@ garbage_set n = record {
   shows = λ id g found was. refl;
 }
 
-pub garbage_may : (n : ℕ) → n ≤ 4611686018427387904 → MayChange garbage_form host_schema (at 43 garbage_table) (λ _. true) (λ _. weight n)
+pub garbage_may : (n : ℕ) → n ≤ 4611686018427387904 → MayChange garbage_form host_schema (at 44 unneeded_table) (λ _. true) (λ _. weight n)
 unfolding everything
 garbage_may n low = record { suits = λ id g found was. record { typed = refl; present = refl; checked = garbage_checked_still id g n low was.checked }; unwatched = λ id g found. refl }
 
-pub garbage_shown : SelectText garbage_form host_schema 43 (codes "SELECT bytes FROM garbage ORDER BY rowid") [] (λ _. true) shown_garbage no_limit
+pub garbage_shown : SelectText garbage_form host_schema 44 (codes "SELECT bytes FROM unneeded ORDER BY rowid") [] (λ _. true) shown_garbage no_limit
 unfolding understood everything
 garbage_shown = record {
   test = [];

@@ -12,9 +12,9 @@ use Rattle.sqlite.specs.Schema.{Schema}
 use Rattle.sqlite_tied.specs.Compute.{everything}
 use Rattle.sqlite_schema.specs.contracts.schema.Schema as schema
 use Rattle.bh_rows.specs.Form.{Form, AreRows, typed}
-use Rattle.bh_tables.specs.Schema.{first_schema, second_schema, third_schema, host_schema}
-use Rattle.bh_tables.specs.Typed.{Totals, totals_of, unweighed, untallied, HostRow, Tables, Raw, raw, first_raw, second_raw, third_raw, tables_in, first_tables_in, no_rows, AreHeld, IsHost, IsFirstHost, IsSecondHost, IsThirdHost, lock_form, retain_form, tally_form, garbage_form, host_form, tenant_form, key_form, bucket_form, version_form, block_form, ref_form, upload_form, part_form, use_form}
-use Rattle.bh_tables.specs.Hosts.{same_code, same, ascends, coded_row, are_rows, are_these, are_held, is_host, is_first_host, is_second_host, is_third_host, is_of_version, brought_over, earlier_shown, IsOfVersion1, IsOfVersion2, IsOfVersion3, tables_shown, tables_opened}
+use Rattle.bh_tables.specs.Schema.{first_schema, second_schema, third_schema, fourth_schema, host_schema}
+use Rattle.bh_tables.specs.Typed.{Totals, totals_of, unweighed, untallied, HostRow, Tables, Raw, raw, first_raw, second_raw, third_raw, fourth_raw, tables_in, first_tables_in, no_rows, AreHeld, IsHost, IsFirstHost, IsSecondHost, IsThirdHost, IsFourthHost, lock_form, retain_form, tally_form, garbage_form, host_form, tenant_form, key_form, bucket_form, version_form, block_form, ref_form, upload_form, part_form, use_form}
+use Rattle.bh_tables.specs.Hosts.{same_code, same, ascends, coded_row, are_rows, are_these, are_held, is_host, is_first_host, is_second_host, is_third_host, is_fourth_host, is_of_version, brought_over, earlier_shown, IsOfVersion1, IsOfVersion2, IsOfVersion3, IsOfVersion4, tables_shown, tables_opened}
 
 -- ---- codes
 
@@ -166,6 +166,14 @@ of_third : (db : Database) → IsThirdHost db → is_third_host db ≡ true
 unfolding is_third_host
 of_third db h = and_from _ _ (value_same schema.the_row.coded db.schema third_schema h.schema) (of_held (unweighed (totals_of (tables_in db))) (third_raw db.trees) h.held)
 
+fourth_of : (db : Database) → is_fourth_host db ≡ true → IsFourthHost db
+unfolding is_fourth_host
+fourth_of db h = let parts = and_parts _ _ h in record { schema = same_value schema.the_row.coded db.schema fourth_schema parts.0; held = held_of (unweighed (totals_of (tables_in db))) (fourth_raw db.trees) parts.1 }
+
+of_fourth : (db : Database) → IsFourthHost db → is_fourth_host db ≡ true
+unfolding is_fourth_host
+of_fourth db h = and_from _ _ (value_same schema.the_row.coded db.schema fourth_schema h.schema) (of_held (unweighed (totals_of (tables_in db))) (fourth_raw db.trees) h.held)
+
 -- a host's database shows its tables
 pub host_shows : (db : Database) → IsHost db → tables_shown db ≡ tables_in db
 unfolding tables_shown
@@ -197,6 +205,10 @@ pub unlike_third : (db : Database) → db.schema ≡ host_schema → db.schema �
 unfolding everything
 unlike_third db = other_schemas db host_schema third_schema (λ same. omega (arith, same))
 
+pub unlike_fourth : (db : Database) → db.schema ≡ host_schema → db.schema ≡ fourth_schema → ⊥
+unfolding everything
+unlike_fourth db = other_schemas db host_schema fourth_schema (λ same. omega (arith, same))
+
 pub second_unlike_first : (db : Database) → db.schema ≡ second_schema → db.schema ≡ first_schema → ⊥
 unfolding everything
 second_unlike_first db = other_schemas db second_schema first_schema (λ same. omega (arith, same))
@@ -209,15 +221,30 @@ pub third_unlike_second : (db : Database) → db.schema ≡ third_schema → db.
 unfolding everything
 third_unlike_second db = other_schemas db third_schema second_schema (λ same. omega (arith, same))
 
+pub fourth_unlike_first : (db : Database) → db.schema ≡ fourth_schema → db.schema ≡ first_schema → ⊥
+unfolding everything
+fourth_unlike_first db = other_schemas db fourth_schema first_schema (λ same. omega (arith, same))
+
+pub fourth_unlike_second : (db : Database) → db.schema ≡ fourth_schema → db.schema ≡ second_schema → ⊥
+unfolding everything
+fourth_unlike_second db = other_schemas db fourth_schema second_schema (λ same. omega (arith, same))
+
+pub fourth_unlike_third : (db : Database) → db.schema ≡ fourth_schema → db.schema ≡ third_schema → ⊥
+unfolding everything
+fourth_unlike_third db = other_schemas db fourth_schema third_schema (λ same. omega (arith, same))
+
 -- what a database shows, past each earlier version that it isn't of
+from_fourth : Database → Tables
+from_fourth db = cond (is_fourth_host db) (earlier_shown 4 (tables_in db)) (tables_shown db)
+
 from_third : Database → Tables
-from_third db = cond (is_third_host db) (earlier_shown 3 (tables_in db)) (tables_shown db)
+from_third db = cond (is_third_host db) (earlier_shown 3 (tables_in db)) (from_fourth db)
 
 from_second : Database → Tables
 from_second db = cond (is_second_host db) (earlier_shown 2 (tables_in db)) (from_third db)
 
 past_first : (db : Database) → (db.schema ≡ first_schema → ⊥) → tables_opened db ≡ from_second db
-unfolding tables_opened from_second from_third
+unfolding tables_opened from_second from_third from_fourth
 past_first db unlike = elim (cases_Bool (is_first_host db)) [
   | inl is ↦ absurd (unlike (first_of db is).schema)
   | inr none ↦ ap (λ b. cond b (earlier_shown 1 (first_tables_in db)) (from_second db)) none
@@ -230,24 +257,31 @@ past_second db unlike = elim (cases_Bool (is_second_host db)) [
   | inr none ↦ ap (λ b. cond b (earlier_shown 2 (tables_in db)) (from_third db)) none
 ]
 
-past_third : (db : Database) → (db.schema ≡ third_schema → ⊥) → from_third db ≡ tables_shown db
+past_third : (db : Database) → (db.schema ≡ third_schema → ⊥) → from_third db ≡ from_fourth db
 unfolding from_third
 past_third db unlike = elim (cases_Bool (is_third_host db)) [
   | inl is ↦ absurd (unlike (third_of db is).schema)
-  | inr none ↦ ap (λ b. cond b (earlier_shown 3 (tables_in db)) (tables_shown db)) none
+  | inr none ↦ ap (λ b. cond b (earlier_shown 3 (tables_in db)) (from_fourth db)) none
 ]
 
--- a database of another schema than the first three shows what it shows
-pub others_open : (db : Database) → (db.schema ≡ first_schema → ⊥) → (db.schema ≡ second_schema → ⊥) → (db.schema ≡ third_schema → ⊥) → tables_opened db ≡ tables_shown db
-others_open db one two three = past_first db one ∙ past_second db two ∙ past_third db three
+past_fourth : (db : Database) → (db.schema ≡ fourth_schema → ⊥) → from_fourth db ≡ tables_shown db
+unfolding from_fourth
+past_fourth db unlike = elim (cases_Bool (is_fourth_host db)) [
+  | inl is ↦ absurd (unlike (fourth_of db is).schema)
+  | inr none ↦ ap (λ b. cond b (earlier_shown 4 (tables_in db)) (tables_shown db)) none
+]
+
+-- a database of another schema than the first four shows what it shows
+pub others_open : (db : Database) → (db.schema ≡ first_schema → ⊥) → (db.schema ≡ second_schema → ⊥) → (db.schema ≡ third_schema → ⊥) → (db.schema ≡ fourth_schema → ⊥) → tables_opened db ≡ tables_shown db
+others_open db one two three four = past_first db one ∙ past_second db two ∙ past_third db three ∙ past_fourth db four
 
 -- so a host's shows its tables
 pub host_opens : (db : Database) → IsHost db → tables_opened db ≡ tables_in db
-host_opens db h = others_open db (other_schema db h.schema) (unlike_second db h.schema) (unlike_third db h.schema) ∙ host_shows db h
+host_opens db h = others_open db (other_schema db h.schema) (unlike_second db h.schema) (unlike_third db h.schema) (unlike_fourth db h.schema) ∙ host_shows db h
 
 -- one of a host of version 1 shows them as they are once it is brought over
 pub first_opens : (db : Database) → IsOfVersion1 db → tables_opened db ≡ brought_over (first_tables_in db)
-unfolding tables_opened from_second from_third
+unfolding tables_opened from_second from_third from_fourth
 first_opens db h = ap (λ b. cond b (earlier_shown 1 (first_tables_in db)) (from_second db)) (of_first db h.first)
     ∙ ap (λ b. cond b (brought_over (first_tables_in db)) no_rows) h.version
 
@@ -261,7 +295,13 @@ second_opens db h = past_first db (second_unlike_first db h.second.schema)
 pub third_opens : (db : Database) → IsOfVersion3 db → tables_opened db ≡ brought_over (tables_in db)
 unfolding from_third
 third_opens db h = past_first db (third_unlike_first db h.third.schema) ∙ past_second db (third_unlike_second db h.third.schema)
-    ∙ ap (λ b. cond b (earlier_shown 3 (tables_in db)) (tables_shown db)) (of_third db h.third) ∙ ap (λ b. cond b (brought_over (tables_in db)) no_rows) h.version
+    ∙ ap (λ b. cond b (earlier_shown 3 (tables_in db)) (from_fourth db)) (of_third db h.third) ∙ ap (λ b. cond b (brought_over (tables_in db)) no_rows) h.version
+
+-- and of version 4
+pub fourth_opens : (db : Database) → IsOfVersion4 db → tables_opened db ≡ brought_over (tables_in db)
+unfolding from_fourth
+fourth_opens db h = past_first db (fourth_unlike_first db h.fourth.schema) ∙ past_second db (fourth_unlike_second db h.fourth.schema) ∙ past_third db (fourth_unlike_third db h.fourth.schema)
+    ∙ ap (λ b. cond b (earlier_shown 4 (tables_in db)) (tables_shown db)) (of_fourth db h.fourth) ∙ ap (λ b. cond b (brought_over (tables_in db)) no_rows) h.version
 
 -- only tables whose row tells the version are shown once they are brought over
 earlier_told : (n : ℕ) (t : Tables) (row : HostRow) → (earlier_shown n t).host ≡ row ∷ [] → list_all (is_of_version n) t.host ≡ true
@@ -270,16 +310,19 @@ earlier_told n t row there = elim (cases_Bool (list_all (is_of_version n) t.host
   | inr other ↦ let none : [] ≡ row ∷ [] = sym (ap (λ b. (cond b (brought_over t) no_rows).host) other) ∙ there in absurd (cc)
 ]
 
--- and only a database of one of the four shows a row of the host
-pub opened_host : (db : Database) (row : HostRow) → (tables_opened db).host ≡ row ∷ [] → IsHost db ⊎ (IsOfVersion1 db ⊎ (IsOfVersion2 db ⊎ IsOfVersion3 db))
-unfolding tables_opened from_second from_third
+-- and only a database of one of the five shows a row of the host
+pub opened_host : (db : Database) (row : HostRow) → (tables_opened db).host ≡ row ∷ [] → IsHost db ⊎ (IsOfVersion1 db ⊎ (IsOfVersion2 db ⊎ (IsOfVersion3 db ⊎ IsOfVersion4 db)))
+unfolding tables_opened from_second from_third from_fourth
 opened_host db row there = elim (cases_Bool (is_first_host db)) [
   | inl is ↦ inr (inl (record { first = first_of db is; version = earlier_told 1 (first_tables_in db) row (sym (ap (λ b. (cond b (earlier_shown 1 (first_tables_in db)) (from_second db)).host) is) ∙ there) }))
   | inr none ↦ elim (cases_Bool (is_second_host db)) [
     | inl is ↦ inr (inr (inl (record { second = second_of db is; version = earlier_told 2 (tables_in db) row (sym (ap (λ b. (cond b (earlier_shown 2 (tables_in db)) (from_third db)).host) is) ∙ past_one none) })))
     | inr neither ↦ elim (cases_Bool (is_third_host db)) [
-      | inl is ↦ inr (inr (inr (record { third = third_of db is; version = earlier_told 3 (tables_in db) row (sym (ap (λ b. (cond b (earlier_shown 3 (tables_in db)) (tables_shown db)).host) is) ∙ past_two none neither) })))
-      | inr other ↦ inl (shown_host db row (sym (ap (λ b. (cond b (earlier_shown 3 (tables_in db)) (tables_shown db)).host) other) ∙ past_two none neither))
+      | inl is ↦ inr (inr (inr (inl (record { third = third_of db is; version = earlier_told 3 (tables_in db) row (sym (ap (λ b. (cond b (earlier_shown 3 (tables_in db)) (from_fourth db)).host) is) ∙ past_two none neither) }))))
+      | inr nor ↦ elim (cases_Bool (is_fourth_host db)) [
+        | inl is ↦ inr (inr (inr (inr (record { fourth = fourth_of db is; version = earlier_told 4 (tables_in db) row (sym (ap (λ b. (cond b (earlier_shown 4 (tables_in db)) (tables_shown db)).host) is) ∙ past_three none neither nor) }))))
+        | inr other ↦ inl (shown_host db row (sym (ap (λ b. (cond b (earlier_shown 4 (tables_in db)) (tables_shown db)).host) other) ∙ past_three none neither nor))
+      ]
     ]
   ]
 ]
@@ -289,3 +332,6 @@ opened_host db row there = elim (cases_Bool (is_first_host db)) [
 
     past_two : is_first_host db ≡ false → is_second_host db ≡ false → (from_third db).host ≡ row ∷ []
     past_two none neither = sym (ap (λ b. (cond b (earlier_shown 2 (tables_in db)) (from_third db)).host) neither) ∙ past_one none
+
+    past_three : is_first_host db ≡ false → is_second_host db ≡ false → is_third_host db ≡ false → (from_fourth db).host ≡ row ∷ []
+    past_three none neither nor = sym (ap (λ b. (cond b (earlier_shown 3 (tables_in db)) (from_fourth db)).host) nor) ∙ past_two none neither

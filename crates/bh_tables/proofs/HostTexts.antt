@@ -61,12 +61,12 @@ pub latest_may : (n : ℕ) → MayChange host_form host_schema (at 0 host_table)
 unfolding everything
 latest_may n = record { suits = λ id h found was. record { typed = refl; present = refl; checked = host_checked_still id h n was.checked }; unwatched = λ id h found. refl }
 
--- of version 4
-pub host_inserted : (min_part max_body digest : ℕ) → InsertText host_form host_schema 0 (at 0 host_table) (codes "INSERT INTO host (version, latest, min_part, max_body, digest) VALUES (4, 0, ?1, ?2, ?3)") (number min_part ∷ number max_body ∷ number digest ∷ [])
-    (record { version = 4; latest = 0; min_part = min_part; max_body = max_body; digest = digest })
+-- of version 5
+pub host_inserted : (min_part max_body digest : ℕ) → InsertText host_form host_schema 0 (at 0 host_table) (codes "INSERT INTO host (version, latest, min_part, max_body, digest) VALUES (5, 0, ?1, ?2, ?3)") (number min_part ∷ number max_body ∷ number digest ∷ [])
+    (record { version = 5; latest = 0; min_part = min_part; max_body = max_body; digest = digest })
 unfolding understood everything
 host_inserted min_part max_body digest = record {
-  terms = lit Null ∷ lit Null ∷ lit (Int (pos 4)) ∷ lit (Int (pos 0)) ∷ col 0 0 ∷ col 0 1 ∷ col 0 2 ∷ [];
+  terms = lit Null ∷ lit Null ∷ lit (Int (pos 5)) ∷ lit (Int (pos 0)) ∷ col 0 0 ∷ col 0 1 ∷ col 0 2 ∷ [];
   width = 7;
   means = record { is = refl; plain = (refl, refl); unlisted = refl; whole = refl; given = refl };
   gives = refl;
@@ -75,17 +75,17 @@ host_inserted min_part max_body digest = record {
 
 -- ---- the version of a host that is brought over
 
-pub version_set : UpdateText host_form host_schema 0 (at 0 host_table) (codes "UPDATE host SET version = 4") [] (λ _. true) (with_version 4)
+pub version_set : UpdateText host_form host_schema 0 (at 0 host_table) (codes "UPDATE host SET version = 5") [] (λ _. true) (with_version 5)
 unfolding understood everything
 version_set = record {
   test = [];
-  show = col 1 0 ∷ col 1 0 ∷ lit Null ∷ lit (Int (pos 4)) ∷ col 1 3 ∷ col 1 4 ∷ col 1 5 ∷ col 1 6 ∷ [];
+  show = col 1 0 ∷ col 1 0 ∷ lit Null ∷ lit (Int (pos 5)) ∷ col 1 3 ∷ col 1 4 ∷ col 1 5 ∷ col 1 6 ∷ [];
   means = record { is = refl; plain = (refl, refl); unlisted = refl; whole = refl; given = refl };
   accepts = refl;
   tests = λ id h. refl;
   shows = λ id h found was. refl;
 }
 
-pub version_may : MayChange host_form host_schema (at 0 host_table) (λ _. true) (with_version 4)
+pub version_may : MayChange host_form host_schema (at 0 host_table) (λ _. true) (with_version 5)
 unfolding everything
-version_may = record { suits = λ id h found was. record { typed = refl; present = refl; checked = version_checked_still id h 4 was.checked }; unwatched = λ id h found. refl }
+version_may = record { suits = λ id h found was. record { typed = refl; present = refl; checked = version_checked_still id h 5 was.checked }; unwatched = λ id h found. refl }

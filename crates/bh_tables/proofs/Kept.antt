@@ -2,7 +2,7 @@
 use Rattle.std.proofs.Common.{◌≡◌, ℤ, ap, refl, Option, Some, None, ◌∷◌, []}
 use Rattle.sqlite.specs.Cast.{cast_all}
 use Rattle.bh_rows.proofs.InsertLemmas.{cast_int, cast_null}
-use Rattle.bh_tables.specs.Schema.{host_table, tenants_table, keys_table, buckets_table, versions_table, blocks_table, refs_table, uploads_table, parts_table, uses_table, locks_table, retains_table, tallies_table, garbage_table}
+use Rattle.bh_tables.specs.Schema.{host_table, tenants_table, keys_table, buckets_table, versions_table, blocks_table, refs_table, uploads_table, parts_table, uses_table, locks_table, retains_table, tallies_table, unneeded_table}
 use Rattle.bh_tables.specs.Typed.{HostRow, host_columns, TenantRow, tenant_columns, KeyRow, key_columns, BucketRow, bucket_columns, VersionColumns, version_columns, BlockRow, block_columns, UseRow, use_columns, RefRow, ref_columns, UploadRow, upload_columns, PartColumns, part_columns, LockRow, lock_columns, RetainRow, retain_columns, TallyRow, tally_columns, GarbageRow, garbage_columns}
 
 pub host_kept : (h : HostRow) → cast_all host_table.columns (host_columns h) ≡ host_columns h
@@ -41,7 +41,7 @@ retain_kept r = simp cast_int
 pub tally_kept : (t : TallyRow) → cast_all tallies_table.columns (tally_columns t) ≡ tally_columns t
 tally_kept t = simp cast_int
 
-pub garbage_kept : (g : GarbageRow) → cast_all garbage_table.columns (garbage_columns g) ≡ garbage_columns g
+pub garbage_kept : (g : GarbageRow) → cast_all unneeded_table.columns (garbage_columns g) ≡ garbage_columns g
 garbage_kept g = rw cast_null (simp cast_int)
 
 pub bucket_kept : (b : BucketRow) → cast_all buckets_table.columns (bucket_columns b) ≡ bucket_columns b

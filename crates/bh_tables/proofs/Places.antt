@@ -10,7 +10,7 @@ use Rattle.sqlite_trees.specs.Tree.{with_tree}
 use Rattle.bh_rows.specs.Form.{Form, AreRows, Entry, put, entries, typed}
 use Rattle.bh_rows.specs.Keys.{AreUnused}
 use Rattle.bh_rows.specs.Texts.{IsOrderly, IsTableOf, Leaves}
-use Rattle.bh_tables.specs.Schema.{host_schema, host_table, tenants_table, keys_table, buckets_table, versions_table, blocks_table, refs_table, uploads_table, parts_table, uses_table, locks_table, retains_table, tallies_table, garbage_table, at}
+use Rattle.bh_tables.specs.Schema.{host_schema, host_table, tenants_table, keys_table, buckets_table, versions_table, blocks_table, refs_table, uploads_table, parts_table, uses_table, locks_table, retains_table, tallies_table, unneeded_table, at}
 use Rattle.bh_tables.specs.Typed.{LockRow, lock_form, RetainRow, retain_form, HostRow, TenantRow, KeyRow, BucketRow, VersionColumns, BlockRow, RefRow, UploadRow, PartColumns, host_form, tenant_form, key_form, bucket_form, version_form, block_form, ref_form, upload_form, part_form, Tables, tables, tables_in, tables_of, Raw, raw, AreHeld, Totals, IsHostBy, rebodied, use_form, tally_form, garbage_form, stored_tenant_form, stored_upload_form}
 use Rattle.bh_tables.specs.Bodies.{resolved, columns_of, resolved_part, part_columns_of}
 use Rattle.bh_tables.proofs.Kept.{host_kept, tenant_kept, key_kept, bucket_kept, version_kept, block_kept, ref_kept, upload_kept, part_kept, use_kept, lock_kept, retain_kept, tally_kept, garbage_kept}
@@ -299,6 +299,6 @@ pub tallies_is : IsTableOf tally_form host_schema 12 (at 30 tallies_table)
 unfolding everything
 tallies_is = record { is_table = refl; plain = refl; low = refl; kept = tally_kept; fit = refl }
 
-pub garbage_is : IsTableOf garbage_form host_schema 18 (at 43 garbage_table)
+pub garbage_is : IsTableOf garbage_form host_schema 19 (at 44 unneeded_table)
 unfolding everything
 garbage_is = record { is_table = refl; plain = refl; low = refl; kept = garbage_kept; fit = refl }

@@ -219,11 +219,11 @@ tallies_turned sums ts old new host l =
 -- ---- what nobody needs
 
 -- the database keeps this row of it, and else is as it was
-pub garbage_turned : (sums : Totals) (gs : List GarbageRow) (old new : State) → IsHostBy sums old.now → Leaves garbage_form host_schema 43 old new gs → IsHostBy (record sums { garbage = gs }) new.now × (tables new ≡ tables old)
+pub garbage_turned : (sums : Totals) (gs : List GarbageRow) (old new : State) → IsHostBy sums old.now → Leaves garbage_form host_schema 44 old new gs → IsHostBy (record sums { garbage = gs }) new.now × (tables new ≡ tables old)
 garbage_turned sums gs old new host l =
     let was = raw old.now.trees in
-    let now_is : raw new.now.trees ≡ record was { garbage = l.next 43 } = ap (λ (d : Database). raw d.trees) l.now ∙ raw_changed 43 old.now.trees l.next l.others in
-    let held : AreHeld (record sums { garbage = gs }) (record was { garbage = l.next 43 }) = record {
+    let now_is : raw new.now.trees ≡ record was { garbage = l.next 44 } = ap (λ (d : Database). raw d.trees) l.now ∙ raw_changed 44 old.now.trees l.next l.others in
+    let held : AreHeld (record sums { garbage = gs }) (record was { garbage = l.next 44 }) = record {
       host = host.held.host;
       tenants = host.held.tenants;
       keys = host.held.keys;

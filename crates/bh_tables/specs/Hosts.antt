@@ -13,9 +13,10 @@ use Rattle.sqlite.specs.Effect.{Database}
 use Rattle.sqlite_value.specs.contracts.value.Value as value
 use Rattle.sqlite_schema.specs.contracts.schema.Schema as schema
 use Rattle.bh_rows.specs.Form.{Form, typed}
-use Rattle.bh_tables.specs.Schema.{first_schema, second_schema, third_schema, host_schema}
-use Rattle.bh_tables.specs.Typed.{HostRow, Tables, Totals, totals_of, unweighed, untallied, Raw, raw, first_raw, second_raw, third_raw}
-use Rattle.bh_tables.specs.Typed.{tables_in, first_tables_in, IsFirstHost, IsSecondHost, IsThirdHost, no_rows, host_form}
+use Rattle.bh_tables.specs.Schema.{first_schema, second_schema, third_schema, fourth_schema, host_schema}
+use Rattle.bh_tables.specs.Typed.{HostRow, Tables, Totals, totals_of, unweighed, untallied, Raw, raw}
+use Rattle.bh_tables.specs.Typed.{first_raw, second_raw, third_raw, fourth_raw}
+use Rattle.bh_tables.specs.Typed.{tables_in, first_tables_in, IsFirstHost, IsSecondHost, IsThirdHost, IsFourthHost, no_rows, host_form}
 use Rattle.bh_tables.specs.Typed.{tenant_form, key_form, bucket_form}
 use Rattle.bh_tables.specs.Typed.{version_form, block_form, ref_form, upload_form, part_form, use_form, lock_form, retain_form}
 use Rattle.bh_tables.specs.Typed.{tally_form, garbage_form}
@@ -74,7 +75,12 @@ are_held sums r = are_rows host_form r.host && (are_rows (tenant_form sums) r.te
 unfoldable pub is_host : Database → Bool
 is_host db = same schema.the_row.coded db.schema host_schema && are_held (totals_of (tables_in db)) (raw db.trees)
 
--- a host's database under the third schema, which has no count of what nobody needs
+-- a host's database under the fourth schema, which has no count of what nobody needs
+unfoldable pub is_fourth_host : Database → Bool
+is_fourth_host db = same schema.the_row.coded db.schema fourth_schema
+    && are_held (unweighed (totals_of (tables_in db))) (fourth_raw db.trees)
+
+-- under the third schema, which has none of the tables that nothing fills
 unfoldable pub is_third_host : Database → Bool
 is_third_host db = same schema.the_row.coded db.schema third_schema
     && are_held (unweighed (totals_of (tables_in db))) (third_raw db.trees)
@@ -89,7 +95,7 @@ unfoldable pub is_first_host : Database → Bool
 is_first_host db = same schema.the_row.coded db.schema first_schema
     && are_held (untallied (totals_of (first_tables_in db))) (first_raw db.trees)
 
--- the tables of a host of an earlier version as those of a host of version 4
+-- the tables of a host of an earlier version as those of a host of version 5
 abbrev pub with_version : ℕ → HostRow → HostRow
 with_version n h = record h { version = n }
 
@@ -97,14 +103,14 @@ abbrev pub is_of_version : ℕ → HostRow → Bool
 is_of_version n h = h.version == n
 
 abbrev pub brought_over : Tables → Tables
-brought_over tables = record tables { host = map (with_version 4) tables.host }
+brought_over tables = record tables { host = map (with_version 5) tables.host }
 
 -- the tables of a host of an earlier version once it is upgraded, if its row has that version;
 -- otherwise no rows
 abbrev pub earlier_shown : ℕ → Tables → Tables
 earlier_shown n tables = if list_all (is_of_version n) tables.host then brought_over tables else no_rows
 
--- whether a database is a host's of version 1, of version 2, or of version 3
+-- whether a database is a host's of version 1, of version 2, of version 3, or of version 4
 pub record IsOfVersion1 (db : Database) : Type 0 where
   pub first : IsFirstHost db
   pub version : list_all (is_of_version 1) (first_tables_in db).host ≡ true
@@ -117,6 +123,10 @@ pub record IsOfVersion3 (db : Database) : Type 0 where
   pub third : IsThirdHost db
   pub version : list_all (is_of_version 3) (tables_in db).host ≡ true
 
+pub record IsOfVersion4 (db : Database) : Type 0 where
+  pub fourth : IsFourthHost db
+  pub version : list_all (is_of_version 4) (tables_in db).host ≡ true
+
 -- a host's tables; a database that is not a host's has no rows
 unfoldable pub tables_shown : Database → Tables
 tables_shown db = if is_host db then tables_in db else no_rows
@@ -125,4 +135,5 @@ tables_shown db = if is_host db then tables_in db else no_rows
 unfoldable pub tables_opened : Database → Tables
 tables_opened db = if is_first_host db then earlier_shown 1 (first_tables_in db)
     else (if is_second_host db then earlier_shown 2 (tables_in db)
-    else (if is_third_host db then earlier_shown 3 (tables_in db) else tables_shown db))
+    else (if is_third_host db then earlier_shown 3 (tables_in db)
+    else (if is_fourth_host db then earlier_shown 4 (tables_in db) else tables_shown db)))

@@ -5,6 +5,7 @@ use Rattle.bh_tables.specs.Schema.{no_schema, host_table, tenants_table, keys_ta
 use Rattle.bh_tables.specs.Schema.{refs_table, uploads_table, parts_table, at, newest, refs_by_block, uploads_by_key, uploads_by_moment}
 use Rattle.bh_tables.specs.Schema.{uses_table, uses_by_count, first_schema, locks_table, retains_table, second_schema, tallies_table}
 use Rattle.bh_tables.specs.Schema.{third_schema, packs_table, placed_table, notes_table, upload_notes_table, rights_table, garbage_table}
+use Rattle.bh_tables.specs.Schema.{fourth_schema, unneeded_table}
 
 abbrev pub with_host : Schema
 with_host = created no_schema host_table
@@ -80,3 +81,7 @@ with_rights = created with_upload_notes rights_table
 
 abbrev pub with_garbage : Schema
 with_garbage = created with_rights garbage_table
+
+-- over the fourth schema
+abbrev pub with_unneeded : Schema
+with_unneeded = created fourth_schema unneeded_table

@@ -1,6 +1,6 @@
--- The schema of a host as a value: nineteen tables and five indexes, each as its CREATE statement
--- defines it. The third schema, of version 3, lacks the last six tables; the second, of version 2,
--- lacks one more, and the first, of version 1, two more.
+-- The schema of a host as a value: twenty tables and five indexes, each as its CREATE statement
+-- defines it. The fourth schema, of version 4, lacks the last table; the third, of version 3, lacks
+-- six more; the second, of version 2, lacks one more, and the first, of version 1, two more.
 use Rattle.std.specs.Prelude.{ℕ, true, false, [], ◌∷◌, ◌++◌, List, map, Some, None, codes, pos}
 use Rattle.sqlite.specs.Collation.TheVariants.{Binary}
 use Rattle.sqlite.specs.declared.types.Value.TheVariants.{Null, Int, Text as Words}
@@ -149,8 +149,7 @@ tallies_table = table (codes "tallies") (given (codes "tenant") Text ∷ given (
     ∷ given (codes "objects") Integer ∷ []) (1 ∷ []) [] (refers (1 ∷ []) (codes "tenants") ∷ [])
     (is_natural 2 ∷ is_small 2 ∷ is_natural 3 ∷ is_small 3 ∷ is_natural 4 ∷ is_small 4 ∷ [])
 
--- the tables that follow, but the last, have no row yet. They are here, since the store can't add a column, and so
--- that files change their version once for all of them
+-- the tables that follow, but the last, have no row yet. Version 4 added them, since the store can't add a column
 
 -- the packs of bytes of blocks, by their numbers: how many bytes of each are committed, and how many
 -- of these a row of placed names. INT, since INTEGER would make the number that of the row
@@ -183,7 +182,8 @@ abbrev pub rights_table : Table
 rights_table = table (codes "rights") (given (codes "tenant") Text ∷ given (codes "name") Text ∷ given (codes "rights") Text ∷ [])
     (1 ∷ 2 ∷ []) [] (refers (1 ∷ 2 ∷ []) (codes "keys") ∷ []) []
 
--- how many bytes of blocks no reference names, in one row
+-- it never has a row: a program that makes files of version 4 keeps no count in it, and opens such files
+-- without looking into it
 abbrev pub garbage_table : Table
 garbage_table = record (table (codes "garbage") (maybe (codes "id") Integer ∷ given (codes "bytes") Integer ∷ []) (0 ∷ []) [] []
     (op2 (Compare Eq Binary) (col 1 0) (lit (Int (pos 1))) ∷ is_natural 2 ∷ is_small 2 ∷ [])) {
@@ -191,6 +191,10 @@ garbage_table = record (table (codes "garbage") (maybe (codes "id") Integer ∷ 
       uniques = [];
       orders = [];
     }
+
+-- how many bytes of blocks no reference names, in one row
+abbrev pub unneeded_table : Table
+unneeded_table = record garbage_table { name = codes "unneeded" }
 
 -- ---- the schema of all tables
 
@@ -296,13 +300,21 @@ third_schema = record {
 }
 
 -- of version 4
-abbrev pub host_schema : Schema
-host_schema = record {
+abbrev pub fourth_schema : Schema
+fourth_schema = record {
   tables = third_schema.tables ++ at 32 packs_table ∷ at 34 placed_table ∷ at 37 notes_table ∷ at 39 upload_notes_table
       ∷ at 41 rights_table ∷ at 43 garbage_table ∷ [];
   indexes = third_schema.indexes ++ auto (codes "sqlite_autoindex_packs_1") 33 32 (1 ∷ [])
       ∷ auto (codes "sqlite_autoindex_placed_1") 35 34 (1 ∷ 2 ∷ []) ∷ auto (codes "sqlite_autoindex_placed_2") 36 34 (3 ∷ 4 ∷ [])
       ∷ auto (codes "sqlite_autoindex_notes_1") 38 37 (1 ∷ 2 ∷ []) ∷ auto (codes "sqlite_autoindex_upload_notes_1") 40 39 (1 ∷ 2 ∷ [])
       ∷ auto (codes "sqlite_autoindex_rights_1") 42 41 (1 ∷ 2 ∷ []) ∷ [];
+  views = [];
+}
+
+-- of version 5
+abbrev pub host_schema : Schema
+host_schema = record {
+  tables = fourth_schema.tables ++ at 44 unneeded_table ∷ [];
+  indexes = fourth_schema.indexes;
   views = [];
 }

@@ -10,7 +10,7 @@ use Rattle.sqlite.specs.Tree.{Trees}
 use Rattle.sqlite.specs.Effect.{Database}
 use Rattle.sqlite.specs.State.{State, HasCleanDisk}
 use Rattle.bh_rows.specs.Form.{AreRows, typed}
-use Rattle.bh_tables.specs.Schema.{Octets, first_schema, second_schema, third_schema, host_schema}
+use Rattle.bh_tables.specs.Schema.{Octets, first_schema, second_schema, third_schema, fourth_schema, host_schema}
 use Rattle.bh_tables.specs.Bodies.{Name, same_name, block_name, ref_name, has_size, unneeded}
 use Rattle.bh_tables.specs.Bodies.{resolved, resolved_again, resolved_part, resolved_part_again}
 use Rattle.bh_tables.specs.Entries.{has_marker, current_versions}
@@ -73,9 +73,9 @@ pub record Raw : Type 0 where
   -- of the tables that nothing fills yet
   pub unfilled : List Row
 
--- the trees of these tables: of packs, of places in them, of notes, and of rights
+-- the trees of these tables: of packs, of places in them, of notes, of rights, and of garbage
 abbrev pub unfilled_trees : List ℕ
-unfilled_trees = 32 ∷ 34 ∷ 37 ∷ 39 ∷ 41 ∷ []
+unfilled_trees = 32 ∷ 34 ∷ 37 ∷ 39 ∷ 41 ∷ 43 ∷ []
 
 abbrev pub raw : Trees → Raw
 raw db = record {
@@ -92,14 +92,17 @@ raw db = record {
   locks = db 26;
   retains = db 28;
   tallies = db 30;
-  garbage = db 43;
+  garbage = db 44;
   unfilled = flat_map db unfilled_trees;
 }
 
--- under the third schema, which has neither a table of what nobody needs nor those that nothing fills, under the second,
--- which has no table of tallies either, and under the first, which has none of locks and of dates either
+-- under earlier schemas, each of which lacks some more tables: the fourth that of what nobody needs, the third those that
+-- nothing fills, the second that of tallies, and the first those of locks and of dates
+abbrev pub fourth_raw : Trees → Raw
+fourth_raw db = record (raw db) { garbage = [] }
+
 abbrev pub third_raw : Trees → Raw
-third_raw db = record (raw db) { garbage = []; unfilled = [] }
+third_raw db = record (fourth_raw db) { unfilled = [] }
 
 abbrev pub second_raw : Trees → Raw
 second_raw db = record (third_raw db) { tallies = [] }
@@ -160,8 +163,8 @@ tables_in db = tables_of (raw db.trees)
 abbrev pub tables : State → Tables
 tables s = tables_in s.now
 
--- and those under the first schema; under the second and the third it has those that it has under a
--- host's
+-- and those under the first schema; under the second, the third and the fourth it has those that it
+-- has under a host's
 abbrev pub first_tables_in : Database → Tables
 first_tables_in db = tables_of (first_raw db.trees)
 
@@ -276,7 +279,7 @@ pub record IsHostBy (sums : Totals) (db : Database) : Type 0 where
 abbrev pub IsHost : Database → Type 0
 IsHost db = IsHostBy (totals_of (tables_in db)) db
 
--- the database is a host's of the first schema, of the second or of the third
+-- the database is a host's of the first schema, of the second, of the third or of the fourth
 pub record IsFirstHost (db : Database) : Type 0 where
   pub schema : db.schema ≡ first_schema
   pub held : AreHeld (untallied (totals_of (first_tables_in db))) (first_raw db.trees)
@@ -288,6 +291,10 @@ pub record IsSecondHost (db : Database) : Type 0 where
 pub record IsThirdHost (db : Database) : Type 0 where
   pub schema : db.schema ≡ third_schema
   pub held : AreHeld (unweighed (totals_of (tables_in db))) (third_raw db.trees)
+
+pub record IsFourthHost (db : Database) : Type 0 where
+  pub schema : db.schema ≡ fourth_schema
+  pub held : AreHeld (unweighed (totals_of (tables_in db))) (fourth_raw db.trees)
 
 -- if the store returned what was written and the connection is open, the database is a host's
 abbrev pub IsReadyBy : Totals → State → Type 0

@@ -32,7 +32,7 @@ use Rattle.bh_task.specs.declared.places.Environment.{Environment}
 use Rattle.bh_task.specs.declared.places.Place.{Place}
 use Rattle.bh_task.specs.declared.places.Place.TheVariants.{File, Server}
 use Rattle.bh_task.specs.declared.misfit.Misfit.{Misfit}
-use Rattle.bh_task.specs.declared.misfit.Misfit.TheVariants.{NoDoor, TwoDoors, NoSocket, NoOperatorDoor, TwoOperatorDoors, NoClock}
+use Rattle.bh_task.specs.declared.misfit.Misfit.TheVariants.{NoDoor, TwoDoors, NoSocket, NoOperatorDoor, TwoOperatorDoors, NoSweeps, NoClock}
 
 -- ---- doors
 
@@ -68,11 +68,18 @@ operators_from (Some port) (Some path) secret_file = Err TwoOperatorDoors
 abbrev pub operators_of : DoorGiven → Option (String Global) → Result (Option OperatorGiven) Misfit
 operators_of given secret_file = operators_from given.port given.socket secret_file
 
+-- only a server with a door for operators sweeps by itself
+abbrev pub garbage_of : Option OperatorGiven → Option ℕ → Result (Option ℕ) Misfit
+garbage_of (Some operator) given = Ok given
+garbage_of None None = Ok None
+garbage_of None (Some bytes) = Err NoSweeps
+
 abbrev pub serving_of : ServeGiven → Result ServeTask Misfit
 serving_of given = do
   door ← door_of given.doors.clients
   socket_group ← group_of door given.doors.socket_group
   operator ← operators_of given.doors.operators given.doors.operator_secret_file
+  keep_garbage ← garbage_of operator given.keep_garbage
   Ok (record {
     door = door;
     socket_group = socket_group;
@@ -83,6 +90,7 @@ serving_of given = do
     connections = given.connections;
     spool = given.spool;
     clock_step = given.clock_step;
+    keep_garbage = keep_garbage;
   })
 
 -- ---- orders

@@ -81,6 +81,8 @@ pub struct ServeTask {
     pub spool: Option<String>,
     /// By how many seconds the clock may jump.
     pub clock_step: u64,
+    /// How many bytes that nobody needs may stay before a sweep begins.
+    pub keep_garbage: Option<u64>,
     pub operator: Option<OperatorGiven>,
 }
 

@@ -193,6 +193,17 @@ fn operators_of(
     Ok(Some(OperatorGiven { door, secret_file }))
 }
 
+/// How many bytes that nobody needs may stay: only a server with a door for operators sweeps by itself.
+fn garbage_of(operator: &Option<OperatorGiven>, given: Option<u64>) -> Result<Option<u64>, Misfit>
+    ensures { result ≡ spec.garbage_of operator.now given }
+{
+    match (operator, given) {
+        (None, Some(_)) => Err(Misfit::NoSweeps),
+        (None, None) => Ok(None),
+        (Some(_), given) => Ok(given),
+    }
+}
+
 /// How a host is to be served, if the doors that are given fit together.
 fn serving_of(given: ServeGiven) -> Result<ServeTask, Misfit>
     ensures { result ≡ spec.serving_of given }
@@ -206,6 +217,7 @@ fn serving_of(given: ServeGiven) -> Result<ServeTask, Misfit>
     let door = door_of(clients)?;
     let socket_group = group_of(&door, socket_group)?;
     let operator = operators_of(operators, operator_secret_file)?;
+    let keep_garbage = garbage_of(&operator, given.keep_garbage)?;
     Ok(ServeTask {
         door,
         socket_group,
@@ -216,6 +228,7 @@ fn serving_of(given: ServeGiven) -> Result<ServeTask, Misfit>
         connections: given.connections,
         spool: given.spool,
         clock_step: given.clock_step,
+        keep_garbage,
     })
 }
 

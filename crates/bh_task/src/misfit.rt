@@ -13,6 +13,8 @@ pub enum Misfit {
     NoSocket,
     /// A file of an operators' secret without a door for operators.
     NoOperatorDoor,
+    /// What starts sweeps without a door for operators: such a server has none of its own.
+    NoSweeps,
     /// Neither a file nor a server.
     NoPlace,
     /// No server.
@@ -51,6 +53,9 @@ impl Misfit {
             Misfit::NoSocket => { "'--socket-group <socket-group>' needs '--socket <socket>'" }
             Misfit::NoOperatorDoor => {
                 "'--operator-secret-file <operator-secret-file>' needs '--operator-port <operator-port>' or '--operator-socket <operator-socket>'"
+            }
+            Misfit::NoSweeps => {
+                "'--keep-garbage <keep-garbage>' needs '--operator-port <operator-port>' or '--operator-socket <operator-socket>'"
             }
         }
     }

@@ -83,7 +83,7 @@ stamped_again tables sound =
 pub created : (tables : Tables) (min_part max_body digest : ℕ) → AreLimits min_part max_body → digest ≤ 1 → tables ≡ new_host min_part max_body digest
     → IsSound tables × (latest_of tables ≡ 0) × ((t : Octets) → view tables t ≡ None) × (limits_in tables ≡ record { min_part = min_part; max_body = max_body })
 created tables min_part max_body digest limits known e =
-    let row : HostRow = record { version = 4; latest = 0; min_part = min_part; max_body = max_body; digest = digest } in
+    let row : HostRow = record { version = 5; latest = 0; min_part = min_part; max_body = max_body; digest = digest } in
     subst (λ (x : Tables). IsSound x × (latest_of x ≡ 0) × ((t : Octets) → view x t ≡ None) × (limits_in x ≡ record { min_part = min_part; max_body = max_body })) (sym e) (
       record {
         host = record { row = row; alone = refl; good = record { version = refl; digest = known; latest = omega arith; limits = limits } };

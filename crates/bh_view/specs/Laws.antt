@@ -28,7 +28,7 @@ ViewsAreNumbered = (tables : Tables) (t : Octets) → IsSound tables → IsNumbe
 -- the tables of a new host, with blocks named by the function of this number
 abbrev pub new_host : ℕ → ℕ → ℕ → Tables
 new_host min_part max_body digest = record {
-  host = record { version = 4; latest = 0; min_part = min_part; max_body = max_body; digest = digest } ∷ [];
+  host = record { version = 5; latest = 0; min_part = min_part; max_body = max_body; digest = digest } ∷ [];
   tenants = [];
   keys = [];
   buckets = [];

@@ -16,9 +16,9 @@ use Rattle.bh_view.specs.View.{TenantRows, rows_of, in_bucket, at_key, of_upload
 
 -- ---- the row of the host
 
--- of version 4, with blocks named by a function that has a number; the last stamp is in seconds since 1970
+-- of version 5, with blocks named by a function that has a number; the last stamp is in seconds since 1970
 pub record IsHostRow (r : HostRow) : Type 0 where
-  pub version : r.version ≡ 4
+  pub version : r.version ≡ 5
   pub digest : r.digest ≤ 1
   pub latest : r.latest ≤ last_reading
   pub limits : AreLimits r.min_part r.max_body

@@ -16,7 +16,7 @@ use Rattle.bh_words.specs.declared.options.OptionName.TheVariants.{File, HostFil
 use Rattle.bh_words.specs.declared.options.OptionName.TheVariants.{SocketGroup, Count, Log, Timeout, Connections, Spool, ClockStep}
 use Rattle.bh_words.specs.declared.options.OptionName.TheVariants.{MinPart, MaxBody, BlockSize, CacheBlocks, CacheBytes, Digest}
 use Rattle.bh_words.specs.declared.options.OptionName.TheVariants.{OperatorPort, OperatorSocket, OperatorSecretFile, SecretFile}
-use Rattle.bh_words.specs.declared.options.OptionName.TheVariants.{Order}
+use Rattle.bh_words.specs.declared.options.OptionName.TheVariants.{KeepGarbage, Order}
 use Rattle.bh_words.specs.declared.subcommands.Subcommand.{Subcommand}
 use Rattle.bh_words.specs.declared.subcommands.Subcommand.TheVariants as subcommand
 
@@ -56,7 +56,7 @@ options subcommand.Check = File ∷ []
 options subcommand.Export = File ∷ Tenant ∷ To ∷ []
 options subcommand.Import = File ∷ From ∷ ClockLeap ∷ Force ∷ []
 options subcommand.Serve = File ∷ Port ∷ Socket ∷ SocketGroup ∷ Count ∷ Log ∷ Timeout ∷ Connections ∷ Spool ∷ ClockLeap ∷ ClockStep
-    ∷ Force ∷ BlockSize ∷ CacheBlocks ∷ CacheBytes ∷ OperatorPort ∷ OperatorSocket ∷ OperatorSecretFile ∷ []
+    ∷ Force ∷ BlockSize ∷ CacheBlocks ∷ CacheBytes ∷ KeepGarbage ∷ OperatorPort ∷ OperatorSocket ∷ OperatorSecretFile ∷ []
 options subcommand.Tell = Port ∷ Socket ∷ SecretFile ∷ Order ∷ []
 
 -- ---- names

@@ -37,6 +37,7 @@ pub record Serving : Type 0 where
   pub connections : ℕ
   pub spool : Option Octets
   pub clock_step : ℕ
+  pub keep_garbage : Option ℕ
 
 -- where an order is carried out, as far as it is given
 pub record Place : Type 0 where
@@ -75,6 +76,7 @@ serving given = record {
   connections = given.connections;
   spool = option_map string_bytes given.spool;
   clock_step = given.clock_step;
+  keep_garbage = given.keep_garbage;
 }
 
 abbrev pub place : PlaceGiven → Place

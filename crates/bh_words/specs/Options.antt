@@ -10,7 +10,7 @@ use Rattle.bh_words.specs.declared.options.OptionName.{OptionName}
 use Rattle.bh_words.specs.declared.options.OptionName.TheVariants.{File, HostFile, To, From, Tenant, Name, Secret, Quota, WithObjects, At}
 use Rattle.bh_words.specs.declared.options.OptionName.TheVariants.{ClockLeap, Force, Limit, Port, Socket, SocketGroup, Count, Log}
 use Rattle.bh_words.specs.declared.options.OptionName.TheVariants.{Timeout, Connections, Spool, ClockStep, MinPart, MaxBody}
-use Rattle.bh_words.specs.declared.options.OptionName.TheVariants.{BlockSize, CacheBlocks, CacheBytes, Digest, OperatorPort}
+use Rattle.bh_words.specs.declared.options.OptionName.TheVariants.{BlockSize, CacheBlocks, CacheBytes, KeepGarbage, Digest, OperatorPort}
 use Rattle.bh_words.specs.declared.options.OptionName.TheVariants.{OperatorSocket, OperatorSecretFile, SecretFile, Order}
 
 -- an option is written `--word value` or `--word=value`
@@ -42,6 +42,7 @@ word MaxBody = codes "max-body"
 word BlockSize = codes "block-size"
 word CacheBlocks = codes "cache-blocks"
 word CacheBytes = codes "cache-bytes"
+word KeepGarbage = codes "keep-garbage"
 word Digest = codes "digest"
 word OperatorPort = codes "operator-port"
 word OperatorSocket = codes "operator-socket"
@@ -122,6 +123,7 @@ rule MaxBody = preset default_limits.max_body (number MaxBody 1 (2 ^ 30))
 rule BlockSize = preset default_tuning.block_size (number BlockSize 1 1_048_576)
 rule CacheBlocks = preset default_tuning.cache_blocks (number CacheBlocks 0 65_536)
 rule CacheBytes = number CacheBytes 0 (65_536 * 1_048_576)
+rule KeepGarbage = number KeepGarbage 0 greatest
 rule Digest = worded (codes "sha256") (described Digest)
 rule OperatorPort = number OperatorPort 0 65_535
 rule OperatorSocket = described OperatorSocket

@@ -74,6 +74,7 @@ serving_at rows = do
     connections = connections;
     spool = text_at option.Spool rows;
     clock_step = clock_step;
+    keep_garbage = number_at 64 option.KeepGarbage rows;
   })
 
 -- however far the clock is ahead of the last stamp, or at most some days, or one

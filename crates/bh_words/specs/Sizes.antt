@@ -9,7 +9,7 @@ use Rattle.clap.specs.Words.{Text}
 use Rattle.bh_words.specs.Numbers.{◌>>=◌, number_of}
 use Rattle.bh_words.specs.Options.{word}
 use Rattle.bh_words.specs.declared.options.OptionName.{OptionName}
-use Rattle.bh_words.specs.declared.options.OptionName.TheVariants.{Quota, MinPart, MaxBody, BlockSize, CacheBytes}
+use Rattle.bh_words.specs.declared.options.OptionName.TheVariants.{Quota, MinPart, MaxBody, BlockSize, CacheBytes, KeepGarbage}
 
 -- the units, with how many bytes each is
 abbrev pub units : List (Text × ℕ)
@@ -45,7 +45,7 @@ in_bytes text = option_map_or decimal (bytes_of text) text
 
 -- the options whose values are sizes
 abbrev pub sizes : List OptionName
-sizes = Quota ∷ MinPart ∷ MaxBody ∷ BlockSize ∷ CacheBytes ∷ []
+sizes = Quota ∷ MinPart ∷ MaxBody ∷ BlockSize ∷ CacheBytes ∷ KeepGarbage ∷ []
 
 abbrev pub is_size : Text → Bool
 is_size text = list_any (λ o. bytes_eq (codes "--" ++ word o) text) sizes

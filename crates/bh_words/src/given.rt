@@ -219,6 +219,7 @@ pub(crate) fn serving(alloc: Global, given: &ArgMatches<'_>) -> Result<ServeGive
         connections,
         spool,
         clock_step,
+        keep_garbage: number(given, OptionName::KeepGarbage),
     })
 }
 

@@ -79,6 +79,8 @@ pub struct ServeGiven {
     pub spool: Option<String>,
     /// By how many seconds the clock may jump.
     pub clock_step: u64,
+    /// How many bytes that nobody needs may stay before a sweep begins.
+    pub keep_garbage: Option<u64>,
 }
 
 /// What was given of where an order is carried out: on the host of a file, or by a server that

@@ -38,6 +38,7 @@ pub(crate) enum OptionName {
     BlockSize,
     CacheBlocks,
     CacheBytes,
+    KeepGarbage,
     Digest,
     OperatorPort,
     OperatorSocket,
@@ -93,6 +94,7 @@ impl OptionName {
             OptionName::BlockSize => "block-size",
             OptionName::CacheBlocks => "cache-blocks",
             OptionName::CacheBytes => "cache-bytes",
+            OptionName::KeepGarbage => "keep-garbage",
             OptionName::Digest => "digest",
             OptionName::OperatorPort => "operator-port",
             OptionName::OperatorSocket => "operator-socket",
@@ -146,6 +148,8 @@ impl OptionName {
             OptionName::CacheBlocks => "Maximum number of cached blocks: 0 to 65,536",
             OptionName::CacheBytes =>
                 "Maximum size of cached blocks, in bytes, or with a unit as in 10GB or 10GiB; overrides --cache-blocks: 0 to 2^36",
+            OptionName::KeepGarbage =>
+                "Unneeded bytes above which sweeps begin, or with a unit as in 10GB or 10GiB [default: 64 MiB, or a tenth of the rest of the file if more]",
             OptionName::Digest => "Block digest, fixed when the host is created: sha256 or fast",
             OptionName::OperatorPort =>
                 "Port on 127.0.0.1 for operators' orders; with 0 the system chooses one",
@@ -188,6 +192,7 @@ impl OptionName {
             OptionName::BlockSize => self.number(alloc, 1, 1_048_576).default_value("65536"),
             OptionName::CacheBlocks => self.number(alloc, 0, 65_536).default_value("0"),
             OptionName::CacheBytes => self.number(alloc, 0, 1 << 36),
+            OptionName::KeepGarbage => self.number(alloc, 0, u64::MAX),
             OptionName::Digest => self.described(alloc).default_value("sha256"),
             OptionName::OperatorPort => self.number(alloc, 0, 65_535),
             OptionName::HostFile

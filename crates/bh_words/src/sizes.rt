@@ -53,7 +53,12 @@ fn is_size(word: &str) -> bool
     ensures { result ≡ spec.is_size word.now }
 {
     match word {
-        "--quota" | "--min-part" | "--max-body" | "--block-size" | "--cache-bytes" => true,
+        "--quota"
+        | "--min-part"
+        | "--max-body"
+        | "--block-size"
+        | "--cache-bytes"
+        | "--keep-garbage" => true,
         _ => false,
     }
 }

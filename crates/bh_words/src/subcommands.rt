@@ -5,8 +5,8 @@ ghost use Rattle.bh_words.specs.Options.{option_of};
 
 use crate::options::OptionName::{
     At, BlockSize, CacheBlocks, CacheBytes, ClockLeap, ClockStep, Connections, Count, Digest, File,
-    Force, HostFile, Log, MaxBody, MinPart, OperatorPort, OperatorSecretFile, OperatorSocket,
-    Order, Port, SecretFile, Socket, SocketGroup, Spool, Tenant, Timeout, To,
+    Force, HostFile, KeepGarbage, Log, MaxBody, MinPart, OperatorPort, OperatorSecretFile,
+    OperatorSocket, Order, Port, SecretFile, Socket, SocketGroup, Spool, Tenant, Timeout, To,
 };
 use crate::options::{OptionName, option_of};
 use bh_event::name::{Field, OrderName, Reach};
@@ -50,7 +50,7 @@ static EXPORT: [OptionName; 3] = [File, Tenant, To];
 
 static IMPORT: [OptionName; 4] = [File, OptionName::From, ClockLeap, Force];
 
-static SERVE: [OptionName; 18] = [
+static SERVE: [OptionName; 19] = [
     File,
     Port,
     Socket,
@@ -66,6 +66,7 @@ static SERVE: [OptionName; 18] = [
     BlockSize,
     CacheBlocks,
     CacheBytes,
+    KeepGarbage,
     OperatorPort,
     OperatorSocket,
     OperatorSecretFile,
@@ -166,11 +167,7 @@ fn order_options(alloc: Global, name: OrderName) -> Result<Vec<OptionName>, Allo
 fn field_options(alloc: Global, fields: &[Field]) -> Result<Vec<OptionName>, AllocError>
     ensures { IfOk result (λ options. options.items ≡ map option_of fields.now) }
 {
-    fields
-        .iter()
-        .copied()
-        .map(|field| option_of(field))
-        .collect(alloc)
+    fields.iter().copied().map(option_of).collect(alloc)
 }
 
 /// The options of where an order is carried out, and by which clock.

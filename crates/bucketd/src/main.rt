@@ -1,7 +1,7 @@
 //! bucketd: an S3-style object store for many tenants in one file.
 #![tactic(auto)]
 
-use bh_command_line::{Failure, carry_out};
+use bh_command_line::{Failure, carry_out, environment_of};
 use bh_maintenance::printed::Printed;
 use std::io::Write;
 use std::process::ExitCode;
@@ -27,7 +27,7 @@ fn end_fault(rt: &(impl Print + Eprint), failure: &Failure) -> io::Result<ExitCo
 
 fn main(rt: HostRuntime) -> io::Result<ExitCode> {
     let words: Vec<String> = env::args(&rt)?.collect(rt.alloc())?;
-    match carry_out(&rt, words.as_slice()) {
+    match carry_out(&rt, environment_of(&rt), words.as_slice()) {
         Ok(printed) => end(&rt, &printed),
         Err(version) if version.is_version() => {
             print!(rt; "{version}")?;

@@ -13,3 +13,6 @@ returns-in-Second-clause-holds g c = on_ok_weaker c.tally_tenants-in-Second.resu
 
 pub returns-in-Third-clause-holds : goal.returns-in-Third-clause-holds
 returns-in-Third-clause-holds g c clean t it = subst (λ v. HoldsUntallied v t (standing (state g.S.Store c.args.connection.now))) c.in-Third.is it
+
+pub returns-in-Fourth-clause-holds : goal.returns-in-Fourth-clause-holds
+returns-in-Fourth-clause-holds g c clean t it = subst (λ v. HoldsUntallied v t (standing (state g.S.Store c.args.connection.now))) c.in-Fourth.is it

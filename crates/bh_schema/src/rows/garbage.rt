@@ -22,7 +22,7 @@ fn find_garbage<S: Alter>(connection: &mut Connection<S>) -> Result<Option<u64>,
         → found ≡ Some (garbage_in (tables S.Store connection.old))) }
     ensures trouble { IfErr result (IsTrouble S.Store connection.old connection.new) }
 {
-    let rows = connection.query_all("SELECT bytes FROM garbage ORDER BY rowid", &[])?;
+    let rows = connection.query_all("SELECT bytes FROM unneeded ORDER BY rowid", &[])?;
     first_of(&rows)
 }
 
@@ -50,7 +50,7 @@ pub fn insert_garbage<S: Alter>(connection: &mut Connection<S>, bytes: u64) -> R
 {
     write(
         connection,
-        "INSERT INTO garbage (bytes) VALUES (?1)",
+        "INSERT INTO unneeded (bytes) VALUES (?1)",
         &[number(bytes)],
     )
 }
@@ -65,7 +65,7 @@ fn set_garbage<S: Alter>(connection: &mut Connection<S>, bytes: u64) -> Result<u
 {
     write(
         connection,
-        "UPDATE garbage SET bytes = ?1",
+        "UPDATE unneeded SET bytes = ?1",
         &[number(bytes)],
     )
 }

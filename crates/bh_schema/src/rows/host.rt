@@ -32,7 +32,7 @@ pub fn set_latest<S: Alter>(connection: &mut Connection<S>, stamp: u64) -> Resul
     write(connection, "UPDATE host SET latest = ?1", &[number(stamp)])
 }
 
-/// Adds the row of a new host of version 4, with the last stamp 0 and the number of its block
+/// Adds the row of a new host of version 5, with the last stamp 0 and the number of its block
 /// digest.
 pub fn insert_host<S: Alter>(
     connection: &mut Connection<S>,
@@ -48,7 +48,7 @@ pub fn insert_host<S: Alter>(
     ensures holds { OnOk result (Becomes S.Store connection.old connection.new
         (λ rows. record rows {
           host = rows.host ++ record {
-            version = 4;
+            version = 5;
             latest = 0;
             min_part = min_part;
             max_body = max_body;
@@ -60,7 +60,7 @@ pub fn insert_host<S: Alter>(
 {
     write(
         connection,
-        "INSERT INTO host (version, latest, min_part, max_body, digest) VALUES (4, 0, ?1, ?2, ?3)",
+        "INSERT INTO host (version, latest, min_part, max_body, digest) VALUES (5, 0, ?1, ?2, ?3)",
         &[number(min_part), number(max_body), number(digest)],
     )
 }

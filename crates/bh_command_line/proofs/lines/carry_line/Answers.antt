@@ -9,4 +9,4 @@ pub carry_task-requires-clause-other : goal.carry_task-requires-clause-other
 carry_task-requires-clause-other c = nothing_is_sound
 
 pub returns : goal.returns
-returns c = (c.in_ok-environment.environment, rw (sym c.in_ok-task.ensures) c.in_ok-printed.ensures)
+returns c = rw (sym c.in_ok-task.ensures) c.in_ok-printed.ensures

@@ -33,14 +33,25 @@ pub returns-in-Third-clause-opens : goal.returns-in-Third-clause-opens
 returns-in-Third-clause-opens g c = on_ok_weaker c.bring_over-in-Third.result (λ settles clean.
     let old = standing (state g.S.Store c.args.connection.now) in
     let schema = c.requires.schema (c.bring_over-in-Third.ensures.follows.clean clean) in
-    opens_brought c.args.version old (standing (state g.S.Store c.bring_over-in-Third.new.connection)) schema (inr (inr (subst (λ v. old.now.schema ≡ schema_of v) c.in-Third.is schema))) (settles clean)) c.bring_over-in-Third.ensures.settles
+    opens_brought c.args.version old (standing (state g.S.Store c.bring_over-in-Third.new.connection)) schema (inr (inr (inl (subst (λ v. old.now.schema ≡ schema_of v) c.in-Third.is schema)))) (settles clean)) c.bring_over-in-Third.ensures.settles
 
 pub returns-in-Third-clause-crash : goal.returns-in-Third-clause-crash
 returns-in-Third-clause-crash g c =
     let old = state g.S.Store c.args.connection.now in
-    left_over old (state g.S.Store c.bring_over-in-Third.new.connection) c.bring_over-in-Third.ensures.follows (λ clean. inr (inr (subst (λ v. (standing old).now.schema ≡ schema_of v) c.in-Third.is (c.requires.schema clean)))) c.bring_over-in-Third.ensures.crash
+    left_over old (state g.S.Store c.bring_over-in-Third.new.connection) c.bring_over-in-Third.ensures.follows (λ clean. inr (inr (inl (subst (λ v. (standing old).now.schema ≡ schema_of v) c.in-Third.is (c.requires.schema clean))))) c.bring_over-in-Third.ensures.crash
 
 pub returns-in-Fourth-clause-opens : goal.returns-in-Fourth-clause-opens
-returns-in-Fourth-clause-opens g c clean =
+returns-in-Fourth-clause-opens g c = on_ok_weaker c.bring_over-in-Fourth.result (λ settles clean.
     let old = standing (state g.S.Store c.args.connection.now) in
-    subst (λ v. Opens v old old) (sym c.in-Fourth.is) (opens_same old (subst (λ v. old.now.schema ≡ schema_of v) c.in-Fourth.is (c.requires.schema clean)) (c.requires.outside clean) (c.requires.committed clean))
+    let schema = c.requires.schema (c.bring_over-in-Fourth.ensures.follows.clean clean) in
+    opens_brought c.args.version old (standing (state g.S.Store c.bring_over-in-Fourth.new.connection)) schema (inr (inr (inr (subst (λ v. old.now.schema ≡ schema_of v) c.in-Fourth.is schema)))) (settles clean)) c.bring_over-in-Fourth.ensures.settles
+
+pub returns-in-Fourth-clause-crash : goal.returns-in-Fourth-clause-crash
+returns-in-Fourth-clause-crash g c =
+    let old = state g.S.Store c.args.connection.now in
+    left_over old (state g.S.Store c.bring_over-in-Fourth.new.connection) c.bring_over-in-Fourth.ensures.follows (λ clean. inr (inr (inr (subst (λ v. (standing old).now.schema ≡ schema_of v) c.in-Fourth.is (c.requires.schema clean))))) c.bring_over-in-Fourth.ensures.crash
+
+pub returns-in-Fifth-clause-opens : goal.returns-in-Fifth-clause-opens
+returns-in-Fifth-clause-opens g c clean =
+    let old = standing (state g.S.Store c.args.connection.now) in
+    subst (λ v. Opens v old old) (sym c.in-Fifth.is) (opens_same old (subst (λ v. old.now.schema ≡ schema_of v) c.in-Fifth.is (c.requires.schema clean)) (c.requires.outside clean) (c.requires.committed clean))

@@ -75,3 +75,6 @@ returns-in-Rights c = rw c.in-Rights.is (table_text item.Rights refl creates.mak
 
 pub returns-in-Garbage : goal.returns-in-Garbage
 returns-in-Garbage c = rw c.in-Garbage.is (table_text item.Garbage refl creates.makes_garbage creates.free_garbage)
+
+pub returns-in-Unneeded : goal.returns-in-Unneeded
+returns-in-Unneeded c = rw c.in-Unneeded.is (table_text item.Unneeded refl creates.makes_unneeded creates.free_unneeded)

@@ -29,4 +29,7 @@ pub returns-in-Rights : goal.returns-in-Rights
 returns-in-Rights c = rw c.in-Rights.is (text_of added.Rights refl creates.makes_rights creates.free_rights)
 
 pub returns-in-Garbage : goal.returns-in-Garbage
-returns-in-Garbage c = rw c.in-Garbage.is (text_of added.Garbage creates.all_made creates.makes_garbage creates.free_garbage)
+returns-in-Garbage c = rw c.in-Garbage.is (text_of added.Garbage creates.fourth_made creates.makes_garbage creates.free_garbage)
+
+pub returns-in-Unneeded : goal.returns-in-Unneeded
+returns-in-Unneeded c = rw c.in-Unneeded.is (text_of added.Unneeded creates.all_made creates.makes_unneeded creates.free_unneeded)
