@@ -27,10 +27,17 @@ BROKEN = [
     ("a note", "INSERT INTO notes SELECT tenant, seq, x'00' FROM versions", "notes: a row, and this program fills no such table, row 1"),
     ("a note of an upload", "INSERT INTO upload_notes SELECT tenant, upload, x'00' FROM uploads", "upload_notes: a row, and this program fills no such table, row 1"),
     ("rights", "INSERT INTO rights SELECT tenant, name, 'all' FROM keys", "rights: a row, and this program fills no such table, row 1"),
-    ("the bytes that nobody needs", "UPDATE garbage SET bytes = bytes + 1", "garbage: not the bytes of the blocks that no reference names"),
-    ("their number that is missing", "DELETE FROM garbage", "garbage: not the bytes of the blocks that no reference names"),
+    ("a count in the table that version 4 has for it", "INSERT INTO garbage VALUES (1, 0)", "garbage: a row, and this program fills no such table, row 1"),
+    ("a count in a file of version 4", "DROP TABLE unneeded; UPDATE host SET version = 4; INSERT INTO garbage VALUES (1, 0)",
+     "garbage: a row, and this program fills no such table, row 1"),
+    ("the bytes that nobody needs", "UPDATE unneeded SET bytes = bytes + 1", "unneeded: not the bytes of the blocks that no reference names"),
+    ("their number that is missing", "DELETE FROM unneeded", "unneeded: not the bytes of the blocks that no reference names"),
+    ("a block that nobody needs and that isn't counted",
+     "INSERT INTO blocks SELECT digest, 1, bytes FROM blocks WHERE rowid = 1; INSERT INTO uses SELECT digest, 1, 0 FROM blocks WHERE rowid = 1",
+     "unneeded: not the bytes of the blocks that no reference names"),
     ("a byte of a block", "UPDATE blocks SET bytes = x'61616162' WHERE rowid = 1", "blocks: another digest than that of its bytes, row 1"),
-    ("a block once more", "INSERT INTO blocks SELECT digest, 1, bytes FROM blocks WHERE rowid = 1; INSERT INTO uses SELECT digest, 1, 0 FROM blocks WHERE rowid = 1",
+    ("a block once more", "INSERT INTO blocks SELECT digest, 1, bytes FROM blocks WHERE rowid = 1; INSERT INTO uses SELECT digest, 1, 0 FROM blocks WHERE rowid = 1; "
+     "UPDATE unneeded SET bytes = (SELECT length(bytes) FROM blocks WHERE rowid = 6)",
      "blocks: the bytes of another block, row 6"),
 ]
 
@@ -53,11 +60,12 @@ BROKEN_LOCKS = [
      "versions: a date, and its bucket is not locked, row 1"),
     ("a date after the last moment", "UPDATE retains SET until = 251000000001", "retains: a date after the last moment, row 1"),
 ]
-# What the store finds as it opens a file: a row whose parent isn't there.
+# What the store finds as it opens a file: a row whose parent isn't there, or that its table doesn't allow.
 WITHOUT_PARENT = [
     ("a block that is missing", "checked", "DELETE FROM blocks WHERE rowid = 2; DELETE FROM uses WHERE rowid = 2"),
     ("a lock of no bucket", "locked", "INSERT INTO locks VALUES ('green', 'none')"),
     ("a date of no version", "locked", "UPDATE retains SET seq = 77"),
     ("a place in no pack", "checked", "INSERT INTO placed SELECT digest, ord, 1, 0, 4, 7 FROM blocks WHERE rowid = 1"),
     ("rights of no key", "checked", "INSERT INTO rights VALUES ('green', 'none', 'all')"),
+    ("a second count of what nobody needs", "checked", "PRAGMA ignore_check_constraints = 1; INSERT INTO unneeded VALUES (2, 0)"),
 ]

@@ -301,7 +301,7 @@ class Drawn:
 
 def faults_of(file):
     """What SQLite itself finds wrong in a host's file: pages, references without a block, blocks that aren't their digest's,
-    places of a body that are left out."""
+    places of a body that are left out, and how many bytes nobody needs, where the file counts them (from version 5 on)."""
     it = sqlite3.connect(file)
     it.text_factory = bytes
     faults = [f"integrity: {row[0]!r}" for row in it.execute("PRAGMA integrity_check") if row[0] != b"ok"]
@@ -312,5 +312,14 @@ def faults_of(file):
     faults += [f"a reference of nobody: {row}" for row in it.execute(
         "SELECT DISTINCT tenant, body FROM refs WHERE NOT EXISTS (SELECT 1 FROM versions WHERE versions.tenant = refs.tenant AND seq = refs.body)"
         " AND NOT EXISTS (SELECT 1 FROM parts WHERE parts.tenant = refs.tenant AND parts.body = refs.body)")]
+    if it.execute("SELECT count(*) FROM sqlite_master WHERE name = 'unneeded'").fetchone()[0]:
+        counts, found = it.execute("SELECT bytes FROM unneeded").fetchall(), unneeded_in(it)
+        faults += [] if counts == [(found,)] else [f"nobody needs {found} bytes, and it counts {counts}"]
     it.close()
     return faults
+
+
+def unneeded_in(database):
+    """The bytes of blocks that no reference names."""
+    return database.execute("SELECT coalesce(sum(length(bytes)), 0) FROM blocks WHERE NOT EXISTS"
+                            " (SELECT 1 FROM refs WHERE refs.digest = blocks.digest AND refs.ord = blocks.ord)").fetchone()[0]

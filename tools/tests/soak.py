@@ -1,5 +1,5 @@
 """What a long run is made of (test_soak.py): a server that its clients know to end, a clock that jumps, tenants that change and read what
-they have, an operator, and what was done so far."""
+they have, and now and then go with all of it, an operator, and what was done so far."""
 import json
 import os
 import random
@@ -12,7 +12,7 @@ from array import array
 from collections import Counter
 
 from host import COUNT, PATIENCE, Clock, Server, all_of, command, is_quick, removed
-from model import BUCKETS, KEYS, Drawn, delete
+from model import BUCKETS, KEYS, Drawn, Refused, delete
 
 # What an answer says of a request: it was carried out, or refused for the clock, or nobody knows.
 TOLD, REFUSED, OPEN = "told", "refused by the clock", "not answered"
@@ -21,6 +21,11 @@ STEP, AHEAD = 600, 500
 # The share of a tenant's requests that change something.
 CHANGES = 0.4
 SPARE, QUOTA = "spare", 1 << 40
+# The share of what a tenant does by which it goes with all it has; of a program without a proof, which does little.
+REMOVALS, SLOW_REMOVALS = 0.004, 0.02
+# What a server may keep that nobody needs. None: what it keeps where nothing is said.
+MUCH = "1TiB"
+KEEPS = [None, None, "0", "100kB", "5MB", MUCH]
 # The seconds between two backups, during which all others wait.
 RESTS = (1, 20)
 
@@ -109,14 +114,16 @@ class Jumping(Clock):
 
 
 class Life(Server):
-    """A server from its start to its end. `failing`: the first sync fails from that call on, after which it comes to its end."""
+    """A server from its start to its end. `failing`: the first sync fails from that call on, after which it comes to its end; `keep`: what
+    it keeps that nobody needs."""
 
-    def __init__(self, program, file, door, clock, library, failing=None):
+    def __init__(self, program, file, door, clock, library, failing=None, keep=None):
         env = {"LD_PRELOAD": f"{clock.env['LD_PRELOAD']}:{library}", "CLOCK_FILE": clock.file}
         if failing:
             env |= {"CALL_DOES": "refuse-sync", "CALL_NUMBER": str(failing)}
         self.file, self.door, self.clock, self.fails, self.ending = file, door, clock, bool(failing), threading.Event()
-        super().__init__(program, file, "--operator-socket", door, "--clock-step", str(STEP), "--timeout", "60", "--force", count=COUNT, **env)
+        words = ["--operator-socket", door, "--clock-step", str(STEP), "--timeout", "60", "--force", *(["--keep-garbage", keep] if keep else [])]
+        super().__init__(program, file, *words, count=COUNT, **env)
 
     def is_over(self):
         """Whether it is ended, or ends since a sync failed."""
@@ -156,6 +163,24 @@ class Life(Server):
         if reply.endswith("\n") and not (self.fails and reply in ("48 Unavailable\n", "fault\n")):
             return TOLD
         return OPEN if reply and self.fails else self.unanswered(reply)
+
+    def ordered(self, wanted, **members):
+        """What is said of an order whose reply is to be this."""
+        begun = time.monotonic()
+        reply = self.order(**members)
+        outcome = self.replied(reply, begun)
+        if outcome == TOLD and reply != wanted:
+            raise Wrong(f"{members} is answered {reply!r}")
+        return outcome
+
+    def asked(self, tenant, target, body=b""):
+        """What is said of a tenant's PUT, which is to be done."""
+        begun = time.monotonic()
+        answer = self.ask(tenant, "PUT", target, body)
+        outcome = self.outcome(answer, begun)
+        if outcome == TOLD and answer.status != 200:
+            raise Wrong(f"PUT {target} of {tenant} is answered {answer}")
+        return outcome
 
 
 class Client(threading.Thread):
@@ -253,12 +278,51 @@ def kind_of(step):
     return step.method.lower()
 
 
-class Tenant(Client):
-    """A tenant's steps and questions, each answered as the model says. `waiting`: a step that was not answered."""
+class Removal:
+    """An order by which a tenant goes, and after which it wasn't made anew. `is_sure`: it was answered."""
 
-    def __init__(self, life, tally, tenant, chance, sizes, most):
+    def __init__(self, is_sure):
+        self.is_sure = is_sure
+
+
+def made_anew(life, tenant):
+    """Makes a tenant that is gone anew, with its key and its buckets, as far as there is a server: what is said of the last of it."""
+    name = tenant.name
+    tenant.__init__(name)
+    making = [lambda: life.ordered(f"tenant {name}\n", op="tenant-add", tenant=name, quota=QUOTA),
+              lambda: life.ordered(f"key {name}$k1\n", op="key-add", tenant=name, name="k1", secret=name + "secret")]
+    for bucket, is_enabled in BUCKETS.items():
+        making.append(lambda bucket=bucket: life.asked(name, f"/{bucket}"))
+        making += [lambda bucket=bucket: life.asked(name, f"/{bucket}?versioning", b'{"Status":"Enabled"}')] if is_enabled else []
+    for make in making:
+        while (outcome := make()) == REFUSED:
+            time.sleep(0.05)
+        if outcome == OPEN:
+            break
+    return outcome
+
+
+def settle_removal(life, tenant, waiting):
+    """Reads whether a tenant is gone; then it is made anew, from the start. Else it is as it was, which is left to be read."""
+    name, removal = tenant.name, waiting[tenant.name]
+    told = life.order(op="usage", tenant=name)
+    removal.is_sure = removal.is_sure or told == "42 NoSuchTenant\n"
+    if removal.is_sure:
+        told = life.order(op="tenant-remove", tenant=name, with_objects=True)
+        if told not in (f"removed {name}\n", "42 NoSuchTenant\n") or made_anew(life, tenant) != TOLD:
+            raise Refused(f"tenant-remove of {name} is answered {told!r}, and it isn't there again")
+    elif not told.startswith(f"usage {name} bytes "):
+        raise Refused(f"usage of {name} is answered {told!r}")
+    waiting.pop(name)
+
+
+class Tenant(Client):
+    """A tenant's steps and questions, each answered as the model says. `waiting`: a step, or a removal, that was not answered."""
+
+    def __init__(self, life, tally, tenant, chance, sizes, most, removals):
         super().__init__(life, tally)
-        self.tenant, self.chance, self.drawn, self.most, self.waiting = tenant, chance, Drawn(random.Random(chance.random()), sizes), most, None
+        self.tenant, self.chance, self.drawn, self.most, self.removals = tenant, chance, Drawn(random.Random(chance.random()), sizes), most, removals
+        self.waiting = None
 
     def step(self):
         """The next one: where there are more versions than there are to be, one of them goes."""
@@ -266,6 +330,8 @@ class Tenant(Client):
         return delete(self.tenant, *self.chance.choice(found)) if len(found) > self.most else self.drawn.step(self.tenant)
 
     def take(self):
+        if self.chance.random() < self.removals:
+            return self.remove()
         if self.chance.random() < CHANGES:
             return self.change(self.step())
         question, = self.chance.choices([*QUESTIONS], QUESTIONS.values())
@@ -281,6 +347,20 @@ class Tenant(Client):
                 raise Wrong(f"{step.told()} is answered {answer}")
             step.change(self.tenant)
             self.tally.add(kind_of(step))
+        return outcome
+
+    def remove(self):
+        """The tenant goes with all it has, once it was refused to go without, and is made anew."""
+        name = self.tenant.name
+        outcome = self.life.ordered("49 TenantNotEmpty\n", op="tenant-remove", tenant=name, with_objects=False)
+        if outcome != TOLD:
+            return outcome
+        outcome = self.life.ordered(f"removed {name}\n", op="tenant-remove", tenant=name, with_objects=True)
+        self.waiting = None if outcome == REFUSED else Removal(outcome == TOLD)
+        if outcome == TOLD:
+            self.tally.add("tenants that went")
+            outcome = made_anew(self.life, self.tenant)
+            self.waiting = None if outcome == TOLD else self.waiting
         return outcome
 
     def ask(self, it):
@@ -427,8 +507,9 @@ class Operator(Client):
 
 
 def measures_of(program):
-    """The sizes of bodies that are drawn, and how many versions a tenant has at most, all of which are read when a server begins."""
-    return ([0, 10, 3_000, 70_000, 200_000, 1_000_000, 3_000_000], 40) if is_quick(program) else ([0, 10, 3_000, 10_000], 8)
+    """The sizes of bodies that are drawn, how many versions a tenant has at most, all of which are read when a server begins, and how
+    often it goes."""
+    return ([0, 10, 3_000, 70_000, 200_000, 1_000_000, 3_000_000], 40, REMOVALS) if is_quick(program) else ([0, 10, 3_000, 10_000], 8, SLOW_REMOVALS)
 
 
 def bytes_of(file):

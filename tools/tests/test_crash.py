@@ -36,7 +36,7 @@ import model
 from faults import FAULTS, Budget, calls_of, series
 from host import EIO, PATIENCE, Clock, Server, command, copied, make_host, quick_folder, removed, request, small_disk
 from host import fill as fill_disk
-from kept_hosts import HOSTS, reads_of, told_by, versions_of
+from kept_hosts import HOSTS, UNNEEDED, reads_of, told_by, versions_of
 from model import Host
 
 pytestmark = pytest.mark.proved
@@ -523,11 +523,12 @@ def test_commands(expect, program, folder, library, ordered, full, name, at):
 
 # What each kept file is as it stands, and once it is brought over, which is one commit.
 STEPS = {
-    "version-1": [(1, None, None, None, None), (4, 0, 0, 1, 0)],
-    "version-2": [(2, 1, 1, None, None), (4, 1, 1, 1, 0)],
-    "version-3": [(3, 1, 1, 1, None), (4, 1, 1, 1, 0)],
+    "version-1": [(1, None, None, None, None, None), (5, 0, 0, 1, 0, UNNEEDED)],
+    "version-2": [(2, 1, 1, None, None, None), (5, 1, 1, 1, 0, UNNEEDED)],
+    "version-3": [(3, 1, 1, 1, None, None), (5, 1, 1, 1, 0, UNNEEDED)],
+    "version-4": [(4, 1, 1, 1, 0, None), (5, 1, 1, 1, 0, UNNEEDED)],
 }
-USED = {"version-1": 41, "version-2": 50, "version-3": 50}
+USED = {"version-1": 41, "version-2": 50, "version-3": 50, "version-4": 50}
 OPENING = ("usage", "--tenant", "green", "--force")
 
 

@@ -18,7 +18,7 @@ from broken_rows import BROKEN, BROKEN_LOCKS, LOCKED, WITHOUT_PARENT
 from faults import holding
 from host import PATIENCE, SCRIPTS, TOP, Server, copied, fill, is_quick, make_host, program_of, quick_folder, read, small_disk
 from host import request as request_of
-from kept_hosts import HOSTS, kept_names, reads_of, told_by, versions_of
+from kept_hosts import HOSTS, UNNEEDED, kept_names, reads_of, told_by, versions_of
 from siphash import DIGESTS
 
 NOBODY = 65534
@@ -319,7 +319,7 @@ def test_files_of_earlier_programs(on, name):
         on.note(f"{name} {turn}", answers == told_by(name), [it for it in zip(reads, answers, told_by(name)) if it[1] != it[2]])
         found = versions_of(opened(on, name)), texts_of(on, name)
         dated = 0 if name == "version-1" else 1
-        on.note(f"{name} {turn}: its version and its tables", found == ((4, dated, dated, 1, 0), wanted_tables), found)
+        on.note(f"{name} {turn}: its version and its tables", found == ((5, dated, dated, 1, 0, UNNEEDED), wanted_tables), found)
     dates = ask(on, name, *(request("green$k1", "GET", f"/kept/a?retention&versionId={n:016x}") for n in (1, 2)))
     on.note(f"{name}: no version of an open bucket has a date", [it.split(b"\r\n\r\n")[1] for it in dates] == [b"{}"] * 2, dates)
     on.expect(f"a sweep of {name}", sweep(name, 100, "--force"), 0, "sweep uploads 0 blocks 2 complete\n")
@@ -330,7 +330,7 @@ def test_file_of_an_earlier_program_opened_by_a_command(on):
     shutil.copy(os.path.join(HOSTS, "version-1"), on.path("by-command"))
     on.expect("version-1 opened by a command that asks", usage("by-command", "green") + ["--force"], 0, "usage green bytes 41 quota 1000000\n")
     found = versions_of(opened(on, "by-command"))
-    on.note("which makes it of this version", found == (4, 0, 0, 1, 0), found)
+    on.note("which makes it of this version", found == (5, 0, 0, 1, 0, UNNEEDED), found)
 
 
 def copy_kept(on):
@@ -363,9 +363,15 @@ def test_files_of_no_earlier_program(on):
         ("version 2 without dates", "DROP TABLE retains"),
         ("version 3 told as 2", "UPDATE host SET version = 2"),
         ("version 3 told as 4", "UPDATE host SET version = 4"),
+        ("version 3 told as 5", "UPDATE host SET version = 5"),
         ("version 3 without its row", "DELETE FROM host"),
         ("version 3 with packs", "CREATE TABLE packs (pack INT NOT NULL PRIMARY KEY) STRICT"),
         ("version 3 without tallies", "DROP TABLE tallies"),
+        ("version 4 told as 3", "UPDATE host SET version = 3"),
+        ("version 4 told as 5", "UPDATE host SET version = 5"),
+        ("version 4 without its row", "DELETE FROM host"),
+        ("version 4 with another count", "CREATE TABLE unneeded (bytes INT NOT NULL) STRICT"),
+        ("version 4 without rights", "DROP TABLE rights"),
     ):
         rebuilt(on, name, name[: len("version 1")].replace(" ", "-") + "-kept", change)
         on.expect(name, tenant_add(name, "blue", "--force"), 1, "47 NotAHostFile\n", same=name, says=f"bucketd: {name}: ")
@@ -376,7 +382,7 @@ def test_files_of_no_earlier_program(on):
     ):
         rebuilt(on, name, "version-1-kept", texts=change)
         on.expect(name, tenant_add(name, "blue", "--force"), 1, "47 NotAHostFile\n", same=name, says=f"bucketd: {name}: ")
-    for name in ("version 1", "version 2", "version 3"):
+    for name in ("version 1", "version 2", "version 3", "version 4"):
         rebuilt(on, f"{name} written by SQLite", name.replace(" ", "-") + "-kept")
         on.expect(f"the tables of {name}, written by SQLite", tenant_add(f"{name} written by SQLite", "blue", "--force"), 0, "tenant blue\n")
 
@@ -413,7 +419,7 @@ def test_check_of_no_file(on):
 @pytest.mark.cost(60)
 def test_check_of_rows(on, every, checked):
     """A check of a file in which something isn't so."""
-    on.expect("check of a host to break", check("checked"), 0, "sound\n", alone="checked", says="bucketd: checked: reading 19 tables\n")
+    on.expect("check of a host to break", check("checked"), 0, "sound\n", alone="checked", says="bucketd: checked: reading 20 tables\n")
     check_broken(on, "checked", some(on, every, BROKEN))
 
 
@@ -455,14 +461,15 @@ def test_check_of_rows_without_a_parent(on, checked, locked):
 @pytest.mark.proved
 def test_check_of_earlier_files(on):
     copy_kept(on)
-    for version, tables, stays in ((1, 10, (1, None, None, None, None)), (2, 12, (2, 1, 1, None, None)), (3, 13, (3, 1, 1, 1, None))):
+    for version, tables, stays in ((1, 10, (1, None, None, None, None, None)), (2, 12, (2, 1, 1, None, None, None)), (3, 13, (3, 1, 1, 1, None, None)),
+                                   (4, 19, (4, 1, 1, 1, 0, None))):
         kept = f"version-{version}-kept"
         on.expect(f"check of a host of version {version}", check(kept), 0, "sound\n", same=kept, says=f"bucketd: {kept}: reading {tables} tables\n")
         found = versions_of(opened(on, kept))
         on.note("which stays one", found == stays, found)
         name, change, told = BROKEN[0]
         check_broken(on, kept, [(f"{name}, in version {version}", change, told)])
-        new = broken(on, f"another number, in version {version}", kept, "UPDATE host SET version = 4")
+        new = broken(on, f"another number, in version {version}", kept, "UPDATE host SET version = 5")
         on.expect(f"check of {new}", check(new), 1, "47 NotAHostFile\n", same=new)
 
 

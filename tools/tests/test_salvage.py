@@ -366,7 +366,7 @@ def test_refusals(expect, program, folder):
     later = sqlite3.connect(path("later"))
     for (text,) in sqlite3.connect(copied(path("host"), folder, "copy")).execute("SELECT sql FROM sqlite_master WHERE sql IS NOT NULL ORDER BY rowid"):
         later.execute(text)
-    later.execute("INSERT INTO host VALUES (1, 5, 0, 5, 5, 0)")
+    later.execute("INSERT INTO host VALUES (1, 6, 0, 5, 5, 0)")
     later.commit()
     later.close()
     for name, it in (("empty", b""), ("random", os.urandom(20000)), ("text", b"a text " * 3000), ("taken", b"t")):
@@ -379,7 +379,7 @@ def test_refusals(expect, program, folder):
         ("random bytes", "random", "new", (), "random: no host's file"),
         ("a text", "text", "new", (), "text: no host's file"),
         ("another program's database", "other", "new", (), "no host's file: it is a database of another program"),
-        ("a later version", "later", "new", (), "the host has version 5"),
+        ("a later version", "later", "new", (), "the host has version 6"),
         ("a name that is taken", "host", "taken", (), "taken: it is there already"),
         ("the file's own name", "host", "host", (), "host: it is there already"),
         ("a name of a log", "host", "a-wal", (), "a-wal: no name for a host"),

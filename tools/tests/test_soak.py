@@ -1,9 +1,11 @@
-"""A long run of `bucketd serve` on one file: tenants that change and read all the time, an operator, the server's own sweeps, a clock that
-jumps, kills, syncs that fail, and restarts. Each answer is that of a model in plain Python (model.py).
+"""A long run of `bucketd serve` on one file: tenants that change and read all the time, and now and then go with all they have, an operator,
+the server's own sweeps, above another number of bytes for each server, a clock that jumps, kills, syncs that fail, and restarts. Each
+answer is that of a model in plain Python (model.py).
 
-A request at a kill, or at a sync that fails, may have been done or not: the model has both until the next server shows which. At the end
-each tenant has the model's keys, versions and bytes, a report counts them, SQLite finds no fault, and `check` says `sound`. A line each 10
-seconds tells what was done so far. It ends with the numbers.
+A request at a kill, or at a sync that fails, may have been done or not: the model has both until the next server shows which. So may the
+removal of a tenant, which is then made anew. At the end each tenant has the model's keys, versions and bytes, a report counts them, the
+server tells how many bytes nobody needs, SQLite finds no fault, and `check` says `sound`. A line each 10 seconds tells what was done so
+far. It ends with the numbers.
 
 SOAK_MINUTES: how long; else 1, with --full 60. SOAK_SEED: another number draws other requests.
 """
@@ -18,17 +20,27 @@ import pytest
 from conftest import amount
 from host import PATIENCE, command, copied, is_quick, removed
 from model import Refused
-from soak import OPEN, REFUSED, SPARE, Jumping, Life, Operator, Spare, Tally, Tenant, Wrong, bytes_of, measures_of
+from soak import KEEPS, MUCH, OPEN, REFUSED, SPARE, Jumping, Life, Operator, Removal, Spare, Tally, Tenant, Wrong, bytes_of, measures_of, settle_removal
 from test_crash import ENDS, SWEEP, faults, made, settle
+from test_operators import figures
 
 NAMES = ["green", "blue", "red", "grey", "pink", "teal"]
 # Of a program without a proof, which takes seconds to open a file and tenths of a second for a request.
 SLOW_NAMES = NAMES[:2]
 LINE = 10
 REQUESTS = ["put", "copy", "delete", "begin", "part", "complete", "abort", "get", "get of nothing", "range", "head", "list", "usage"]
-EVENTS = ["kills", "stops", "failed syncs", "jumps of the clock", REFUSED, OPEN, "orders", "sweeps that were ordered", "own sweeps that were seen", "backups"]
-# How long servers live, in seconds: one that lives for more than a minute sweeps by itself, however little came.
+EVENTS = ["kills", "stops", "failed syncs", "jumps of the clock", REFUSED, OPEN, "orders", "tenants that went", "sweeps that were ordered", "own sweeps that were seen",
+          "backups"]
+# How long servers live, in seconds.
 LIVES, SLOW_LIVES = [2, 2, 5, 5, 10, 20, 90], [15, 25, 90]
+
+
+def garbage_of(life):
+    """How many bytes nobody needs by a server's first count."""
+    ends = time.monotonic() + PATIENCE
+    while (found := figures(life.order(op="metrics")).get("bucketd_server_garbage_bytes")) is None and life.is_up() and time.monotonic() < ends:
+        time.sleep(0.1)
+    return found
 
 
 class Soak:
@@ -67,7 +79,7 @@ class Soak:
         self.clock.rest()
         self.tell()
         removed(self.file + "-copy")
-        with Life(self.program, self.file, self.door, self.clock, self.library, failing) as life:
+        with Life(self.program, self.file, self.door, self.clock, self.library, failing, self.chance.choice(KEEPS)) as life:
             try:
                 if life.is_up() and self.settle(life):
                     self.load(life, seconds, signal.SIGTERM if end == "stop" else signal.SIGKILL)
@@ -80,7 +92,9 @@ class Soak:
 
     def settle(self, life):
         """Reads all that there is, by which what was not answered is settled. Whether the server still lives then."""
-        for name in [*self.host.tenants]:
+        for name, tenant in [*self.host.tenants.items()]:
+            if isinstance(self.waiting.get(name), Removal):
+                settle_removal(life, tenant, self.waiting)
             settle(life, self.host, name, self.waiting)
             self.tell()
         self.spare = self.spare.settle(life)
@@ -120,8 +134,8 @@ class Soak:
         self.most, self.largest, self.longest = max(self.most, size / max(needed, 1 << 20)), max(self.largest, size), max(self.longest, log)
 
     def has_all(self):
-        """Whether tenants, the operator and the end of a server have been there."""
-        return all(sum(self.tally.of(kinds).values()) for kinds in (REQUESTS, ["orders"], ["kills", "stops", "failed syncs"]))
+        """Whether tenants, one that went, the operator and the end of a server have been there."""
+        return all(sum(self.tally.of(kinds).values()) for kinds in (REQUESTS, ["orders"], ["tenants that went"], ["kills", "stops", "failed syncs"]))
 
     def run(self, seconds):
         """Servers one after another for so long, or on a busy machine until each kind of thing was done. Whether all was well."""
@@ -136,12 +150,15 @@ class Soak:
 
     def compare(self, folder):
         """The file against the model, once all is over."""
-        with Life(self.program, self.file, self.door, self.clock, self.library) as life:
+        with Life(self.program, self.file, self.door, self.clock, self.library, keep=MUCH) as life:
             try:
                 found = None if life.is_up() and self.settle(life) else f"the file isn't opened: {life.end()}"
             except (Wrong, ValueError, RuntimeError) as error:
                 found = f"{type(error).__name__}: {error}"
+            stored, garbage = life.order(op="report"), garbage_of(life)
         self.expect("at the end each tenant has the model's keys, versions and bytes", found is None, found)
+        is_counted = garbage is not None and garbage == int(stored.split()[3]) - sum(self.host.needed().values())
+        self.expect("the server tells how many bytes nobody needs", is_counted, f"{garbage}, where {stored!r}")
         swept = command(self.program, self.file, "sweep", *SWEEP, "--force")
         self.host.stored = self.host.needed()
         report = command(self.program, self.file, "report", "--force")
@@ -179,7 +196,7 @@ def test_soak(expect, soak, folder, full):
         soak.compare(folder)
     for line in soak.numbers():
         expect.note(line)
-    expect("tenants, an operator and ends of servers were there", soak.has_all(), "some were not")
+    expect("tenants, one that went, an operator and ends of servers were there", soak.has_all(), "some were not")
 
 
 @pytest.mark.cost(40)

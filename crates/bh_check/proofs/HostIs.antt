@@ -17,7 +17,7 @@ use Rattle.bh_stored.specs.Cells.{is_fit}
 use Rattle.bh_stored.specs.Fits.{AreFit, tenant_kinds, upload_kinds, use_kinds, tally_kinds, garbage_kinds}
 use Rattle.bh_stored.specs.Stored.{seen}
 use Rattle.bh_stored.specs.declared.stored.Edition.{Edition}
-use Rattle.bh_stored.specs.declared.stored.Edition.TheVariants.{First, Second, Third, Fourth}
+use Rattle.bh_stored.specs.declared.stored.Edition.TheVariants.{First, Second, Third, Fourth, Fifth}
 use Rattle.bh_check.specs.Checked.{IsChecked}
 use Rattle.bh_check.specs.Holds.{owner, first_two, number_at, version_bytes, part_bytes, upload_bytes, block_refs, Holds}
 use Rattle.bh_check.specs.Blocks.{AreUses}
@@ -42,14 +42,16 @@ tallies_kept First trees tallied fit = refl
 tallies_kept Second trees tallied fit = refl
 tallies_kept Third trees tallied fit = tallies_counted (seen Third trees) (trees 30) (trees 1) (all_from_test (is_fit tally_kinds) (trees 30) fit.fit) tallied
 tallies_kept Fourth trees tallied fit = tallies_counted (seen Fourth trees) (trees 30) (trees 1) (all_from_test (is_fit tally_kinds) (trees 30) fit.fit) tallied
+tallies_kept Fifth trees tallied fit = tallies_counted (seen Fifth trees) (trees 30) (trees 1) (all_from_test (is_fit tally_kinds) (trees 30) fit.fit) tallied
 
 -- where the bytes that nobody needs are counted
-garbage_kept : (edition : Edition) (trees : Trees) → AreWeighed edition (seen edition trees) → AreFit garbage_kinds (seen edition trees 43) → AreUses (block_refs (seen edition trees)) (seen edition trees 23) (seen edition trees 10)
-    → typed garbage_form (seen edition trees 43) ≡ (kept edition (totals_of (tables_in (of_trees (seen edition trees))))).garbage
+garbage_kept : (edition : Edition) (trees : Trees) → AreWeighed edition (seen edition trees) → AreFit garbage_kinds (seen edition trees 44) → AreUses (block_refs (seen edition trees)) (seen edition trees 23) (seen edition trees 10)
+    → typed garbage_form (seen edition trees 44) ≡ (kept edition (totals_of (tables_in (of_trees (seen edition trees))))).garbage
 garbage_kept First trees weighed fit uses = refl
 garbage_kept Second trees weighed fit uses = refl
 garbage_kept Third trees weighed fit uses = refl
-garbage_kept Fourth trees weighed fit uses = weighed_is (block_refs (seen Fourth trees)) (typed ref_form (trees 12)) (refs_counted (seen Fourth trees)) (trees 43) (trees 23) (trees 10) (all_from_test (is_fit garbage_kinds) (trees 43) fit.fit) uses weighed
+garbage_kept Fourth trees weighed fit uses = refl
+garbage_kept Fifth trees weighed fit uses = weighed_is (block_refs (seen Fifth trees)) (typed ref_form (trees 12)) (refs_counted (seen Fifth trees)) (trees 44) (trees 23) (trees 10) (all_from_test (is_fit garbage_kinds) (trees 44) fit.fit) uses weighed
 
 -- no table has a row that nothing fills
 none_filled : (d : Trees) (ts : List ℕ) → AllByRecursion (λ t. d t ≡ []) ts → flat_map d ts ≡ []
@@ -106,7 +108,7 @@ module _ (edition : Edition) (digest : Octets → Octets) (trees : Trees) (c : I
     retains = retains_are (d 28) c.fits.retains;
     tallies = tallies_are (d 30) c.fits.tallies;
     tallied = tallies_kept edition trees c.tallies c.fits.tallies;
-    garbage = garbage_are (d 43) c.fits.garbage;
+    garbage = garbage_are (d 44) c.fits.garbage;
     weighed = garbage_kept edition trees c.garbage c.fits.garbage c.counts;
     measured = refl;
     unfilled = none_filled d unfilled_trees c.fits.unfilled;

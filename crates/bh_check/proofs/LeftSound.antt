@@ -8,7 +8,7 @@ use Rattle.sqlite_schema.specs.declared.schema.Schema.{Schema}
 use Rattle.sqlite_trees.specs.View.{IsClean, IsRolledBack, doubt}
 use Rattle.sqlite_trees.specs.declared.store.Store.{Ghosts}
 use Rattle.bh_tables.specs.Hosts.{tables_opened}
-use Rattle.bh_tables.specs.Schema.{Octets, first_schema, second_schema, third_schema, host_schema}
+use Rattle.bh_tables.specs.Schema.{Octets, first_schema, second_schema, third_schema, fourth_schema, host_schema}
 use Rattle.bh_view.specs.Bodies.{IsSoundHost}
 use Rattle.bh_schema.specs.Layer.{IsStateClean, IsIntact, IsOpen}
 use Rattle.bh_stored.specs.Stored.{seen}
@@ -23,7 +23,7 @@ pub ok_both : {T E : Type 0} (r : Result T E) (P Q R : T → Type 0) → ((x : T
 ok_both (Ok x) P Q R f p q = f x p q
 ok_both (Err e) P Q R f p q = tt
 
-module _ {S : Type 0} (g : Ghosts S) (connection : Held S) (bare last : S) (edition : Edition) (digest : Octets → Octets) (schema : IsStateClean (state g connection) → ((state g connection).now.schema ≡ first_schema) ⊎ (((state g connection).now.schema ≡ second_schema) ⊎ (((state g connection).now.schema ≡ third_schema) ⊎ ((state g connection).now.schema ≡ host_schema))))
+module _ {S : Type 0} (g : Ghosts S) (connection : Held S) (bare last : S) (edition : Edition) (digest : Octets → Octets) (schema : IsStateClean (state g connection) → ((state g connection).now.schema ≡ first_schema) ⊎ (((state g connection).now.schema ≡ second_schema) ⊎ (((state g connection).now.schema ≡ third_schema) ⊎ (((state g connection).now.schema ≡ fourth_schema) ⊎ ((state g connection).now.schema ≡ host_schema)))))
     (tells : edition ≡ edition_with (length (state g connection).now.schema.tables)) (live : IsLive (state g connection))
     (settled : IsTrue (state g connection).is_open → (state g connection).now ≡ (state g connection).committed) (undone : IsRolledBack (g.view connection.store) (g.view bare))
     (less : doubt (g.view connection.store).is_clean ≤ doubt (g.view bare).is_clean) (keeps : KeepsTrees (g.view bare) (g.view last)) (checked : IsClean (g.view last) → IsChecked edition digest (seen edition (g.view bare).trees))

@@ -20,7 +20,7 @@ use Rattle.bh_tables.specs.Typed.{Totals, TenantRow, KeyRow, BucketRow, VersionC
 use Rattle.bh_tables.proofs.TotalLemmas.{bytes_Decides}
 use Rattle.bh_stored.specs.Stored.{seen}
 use Rattle.bh_stored.specs.declared.stored.Edition.{Edition}
-use Rattle.bh_stored.specs.declared.stored.Edition.TheVariants.{First, Second, Third, Fourth}
+use Rattle.bh_stored.specs.declared.stored.Edition.TheVariants.{First, Second, Third, Fourth, Fifth}
 use Rattle.bh_check.proofs.Schemas.{over}
 
 same_texts : (a b t : Octets) → bytes_eq a t ≡ true → bytes_eq b t ≡ true → bytes_eq a b ≡ true
@@ -117,6 +117,9 @@ module _ (sums : Totals) (trees : Trees) where
   one_lock Fourth sound held t bucket = at_most_one (λ (x : LockRow). bytes_eq x.tenant t && bytes_eq x.bucket bucket) (typed lock_form (trees 26))
       (one_passes lock_form (over Fourth) (at 26 locks_table) trees (sound.obeys.rules Unique) (inr (inr (inr (inr (inr (inr (inr (inr (inr (inr (inl refl))))))))))) (auto (codes "sqlite_autoindex_locks_1") 27 26 (1 ∷ 2 ∷ [])) (inr (inr (inr (inr (inr (inr (inr (inr (inr (inr (inr (inr (inr (inr (inr (inr (inl refl))))))))))))))))) refl held.locks (λ (x : LockRow). bytes_eq x.tenant t && bytes_eq x.bucket bucket)
       (λ a b x y h k. (then_term (at_texts false Eq x.tenant y.tenant) (last_term (at_texts false Eq x.bucket y.bucket))) ∙ (let h0 = and_parts _ _ h in let k0 = and_parts _ _ k in both_true (same_texts x.tenant y.tenant t h0.0 k0.0) (same_texts x.bucket y.bucket bucket h0.1 k0.1))))
+  one_lock Fifth sound held t bucket = at_most_one (λ (x : LockRow). bytes_eq x.tenant t && bytes_eq x.bucket bucket) (typed lock_form (trees 26))
+      (one_passes lock_form (over Fifth) (at 26 locks_table) trees (sound.obeys.rules Unique) (inr (inr (inr (inr (inr (inr (inr (inr (inr (inr (inl refl))))))))))) (auto (codes "sqlite_autoindex_locks_1") 27 26 (1 ∷ 2 ∷ [])) (inr (inr (inr (inr (inr (inr (inr (inr (inr (inr (inr (inr (inr (inr (inr (inr (inl refl))))))))))))))))) refl held.locks (λ (x : LockRow). bytes_eq x.tenant t && bytes_eq x.bucket bucket)
+      (λ a b x y h k. (then_term (at_texts false Eq x.tenant y.tenant) (last_term (at_texts false Eq x.bucket y.bucket))) ∙ (let h0 = and_parts _ _ h in let k0 = and_parts _ _ k in both_true (same_texts x.tenant y.tenant t h0.0 k0.0) (same_texts x.bucket y.bucket bucket h0.1 k0.1))))
 
   pub one_retain : (edition : Edition) → IsDatabase (record { schema = over edition; trees = trees }) → AreHeld sums (raw (seen edition trees)) → (t : Octets) (seq : ℕ) → length (filter (λ (x : RetainRow). bytes_eq x.tenant t && int_eq (pos x.seq) (pos seq)) (typed retain_form (seen edition trees 28))) ≤ 1
   unfolding everything first_key
@@ -129,4 +132,7 @@ module _ (sums : Totals) (trees : Trees) where
       (λ a b x y h k. (then_term (at_texts false Eq x.tenant y.tenant) (last_term (at_ints false Eq (pos x.seq) (pos y.seq)))) ∙ (let h0 = and_parts _ _ h in let k0 = and_parts _ _ k in both_true (same_texts x.tenant y.tenant t h0.0 k0.0) (same_numbers x.seq y.seq seq h0.1 k0.1))))
   one_retain Fourth sound held t seq = at_most_one (λ (x : RetainRow). bytes_eq x.tenant t && int_eq (pos x.seq) (pos seq)) (typed retain_form (trees 28))
       (one_passes retain_form (over Fourth) (at 28 retains_table) trees (sound.obeys.rules Unique) (inr (inr (inr (inr (inr (inr (inr (inr (inr (inr (inr (inl refl)))))))))))) (auto (codes "sqlite_autoindex_retains_1") 29 28 (1 ∷ 2 ∷ [])) (inr (inr (inr (inr (inr (inr (inr (inr (inr (inr (inr (inr (inr (inr (inr (inr (inr (inl refl)))))))))))))))))) refl held.retains (λ (x : RetainRow). bytes_eq x.tenant t && int_eq (pos x.seq) (pos seq))
+      (λ a b x y h k. (then_term (at_texts false Eq x.tenant y.tenant) (last_term (at_ints false Eq (pos x.seq) (pos y.seq)))) ∙ (let h0 = and_parts _ _ h in let k0 = and_parts _ _ k in both_true (same_texts x.tenant y.tenant t h0.0 k0.0) (same_numbers x.seq y.seq seq h0.1 k0.1))))
+  one_retain Fifth sound held t seq = at_most_one (λ (x : RetainRow). bytes_eq x.tenant t && int_eq (pos x.seq) (pos seq)) (typed retain_form (trees 28))
+      (one_passes retain_form (over Fifth) (at 28 retains_table) trees (sound.obeys.rules Unique) (inr (inr (inr (inr (inr (inr (inr (inr (inr (inr (inr (inl refl)))))))))))) (auto (codes "sqlite_autoindex_retains_1") 29 28 (1 ∷ 2 ∷ [])) (inr (inr (inr (inr (inr (inr (inr (inr (inr (inr (inr (inr (inr (inr (inr (inr (inr (inl refl)))))))))))))))))) refl held.retains (λ (x : RetainRow). bytes_eq x.tenant t && int_eq (pos x.seq) (pos seq))
       (λ a b x y h k. (then_term (at_texts false Eq x.tenant y.tenant) (last_term (at_ints false Eq (pos x.seq) (pos y.seq)))) ∙ (let h0 = and_parts _ _ h in let k0 = and_parts _ _ k in both_true (same_texts x.tenant y.tenant t h0.0 k0.0) (same_numbers x.seq y.seq seq h0.1 k0.1))))

@@ -24,7 +24,7 @@ use Rattle.bh_tables.specs.Shown.{is_tenant, is_bucket, is_upload, is_block}
 use Rattle.bh_tables.proofs.TotalLemmas.{name_Decides}
 use Rattle.bh_stored.specs.Stored.{seen}
 use Rattle.bh_stored.specs.declared.stored.Edition.{Edition}
-use Rattle.bh_stored.specs.declared.stored.Edition.TheVariants.{First, Second, Third, Fourth}
+use Rattle.bh_stored.specs.declared.stored.Edition.TheVariants.{First, Second, Third, Fourth, Fifth}
 use Rattle.bh_check.proofs.Schemas.{over}
 
 first_none : {P : Type 0} (m : P → Bool) (ps : List P) → first (filter m ps) ≡ None → list_any m ps ≡ false
@@ -117,6 +117,10 @@ module _ (sums : Totals) (trees : Trees) where
       (has_parents bucket_form lock_form (over Fourth) trees sound (at 26 locks_table) (inr (inr (inr (inr (inr (inr (inr (inr (inr (inr (inl refl))))))))))) (refers (1 ∷ 2 ∷ []) (codes "buckets")) (inl refl) (5, 1 ∷ 2 ∷ [], plain) refl (λ id l. refl)
       (λ l b. is_bucket l.tenant l.bucket b) (λ i l j b. then_term (at_texts false Eq b.tenant l.tenant) (last_term (at_texts false Eq b.bucket l.bucket))) held.buckets held.locks)
       (λ l b its is. let x = and_parts _ _ its in let y = and_parts _ _ is in both_true (same_owner l.tenant b.tenant t x.0 y.0) (same_owner l.bucket b.bucket bucket x.1 y.1))
+  locks_owned Fifth sound held t bucket = none_named (λ (l : LockRow). bytes_eq l.tenant t && bytes_eq l.bucket bucket) (λ l b. is_bucket l.tenant l.bucket b) (is_bucket t bucket) (typed lock_form (trees 26)) (typed bucket_form (trees 5))
+      (has_parents bucket_form lock_form (over Fifth) trees sound (at 26 locks_table) (inr (inr (inr (inr (inr (inr (inr (inr (inr (inr (inl refl))))))))))) (refers (1 ∷ 2 ∷ []) (codes "buckets")) (inl refl) (5, 1 ∷ 2 ∷ [], plain) refl (λ id l. refl)
+      (λ l b. is_bucket l.tenant l.bucket b) (λ i l j b. then_term (at_texts false Eq b.tenant l.tenant) (last_term (at_texts false Eq b.bucket l.bucket))) held.buckets held.locks)
+      (λ l b its is. let x = and_parts _ _ its in let y = and_parts _ _ is in both_true (same_owner l.tenant b.tenant t x.0 y.0) (same_owner l.bucket b.bucket bucket x.1 y.1))
 
   pub retains_owned : (edition : Edition) → IsDatabase (record { schema = over edition; trees = trees }) → AreHeld sums (raw (seen edition trees)) → (t : Octets) (seq : ℕ)
       → first (filter (λ (v : VersionColumns). bytes_eq v.tenant t && int_eq (pos v.seq) (pos seq)) (typed version_form (trees 7))) ≡ None → filter (λ (r : RetainRow). bytes_eq r.tenant t && int_eq (pos r.seq) (pos seq)) (typed retain_form (seen edition trees 28)) ≡ []
@@ -135,5 +139,10 @@ module _ (sums : Totals) (trees : Trees) where
   retains_owned Fourth sound held t seq = none_named (λ (r : RetainRow). bytes_eq r.tenant t && int_eq (pos r.seq) (pos seq)) (λ r (v : VersionColumns). bytes_eq v.tenant r.tenant && int_eq (pos v.seq) (pos r.seq)) (λ (v : VersionColumns). bytes_eq v.tenant t && int_eq (pos v.seq) (pos seq))
       (typed retain_form (trees 28)) (typed version_form (trees 7))
       (has_parents version_form retain_form (over Fourth) trees sound (at 28 retains_table) (inr (inr (inr (inr (inr (inr (inr (inr (inr (inr (inr (inl refl)))))))))))) (refers (1 ∷ 2 ∷ []) (codes "versions")) (inl refl) (7, 1 ∷ 2 ∷ [], plain) refl (λ id r. refl)
+      (λ r v. bytes_eq v.tenant r.tenant && int_eq (pos v.seq) (pos r.seq)) (λ i r j v. then_term (at_texts false Eq v.tenant r.tenant) (last_term (at_ints false Eq (pos v.seq) (pos r.seq)))) held.versions held.retains)
+      (λ r v its is. let x = and_parts _ _ its in let y = and_parts _ _ is in both_true (same_owner r.tenant v.tenant t x.0 y.0) (same_count r.seq v.seq seq x.1 y.1))
+  retains_owned Fifth sound held t seq = none_named (λ (r : RetainRow). bytes_eq r.tenant t && int_eq (pos r.seq) (pos seq)) (λ r (v : VersionColumns). bytes_eq v.tenant r.tenant && int_eq (pos v.seq) (pos r.seq)) (λ (v : VersionColumns). bytes_eq v.tenant t && int_eq (pos v.seq) (pos seq))
+      (typed retain_form (trees 28)) (typed version_form (trees 7))
+      (has_parents version_form retain_form (over Fifth) trees sound (at 28 retains_table) (inr (inr (inr (inr (inr (inr (inr (inr (inr (inr (inr (inl refl)))))))))))) (refers (1 ∷ 2 ∷ []) (codes "versions")) (inl refl) (7, 1 ∷ 2 ∷ [], plain) refl (λ id r. refl)
       (λ r v. bytes_eq v.tenant r.tenant && int_eq (pos v.seq) (pos r.seq)) (λ i r j v. then_term (at_texts false Eq v.tenant r.tenant) (last_term (at_ints false Eq (pos v.seq) (pos r.seq)))) held.versions held.retains)
       (λ r v its is. let x = and_parts _ _ its in let y = and_parts _ _ is in both_true (same_owner r.tenant v.tenant t x.0 y.0) (same_count r.seq v.seq seq x.1 y.1))

@@ -1,7 +1,8 @@
 -- The tables of a database that was checked are those of a sound host.
-use Rattle.std.proofs.Common.{◌≡◌, ℕ, ◌+◌, ◌≤◌, ◌^◌, true, ◌==◌, ◌&&◌, List, [], ◌∷◌, map, filter, Option, Some, None, refl, sym, ap, ◌∙◌, subst}
+use Rattle.std.proofs.Common.{◌≡◌, ℕ, ◌+◌, ◌≤◌, ◌^◌, true, ◌==◌, ◌&&◌, List, [], ◌∷◌, length, map, filter, Option, Some, None, refl, sym, ap, ◌∙◌, subst}
 use Rattle.std.specs.List.{AllByRecursion, list_all}
 use Rattle.std.specs.Option.{option_map_or}
+use Rattle.std.proofs.lemmas.Bool.{and_from, eq-eqb}
 use Rattle.sqlite.specs.Effect.{Database, IsDatabase}
 use Rattle.sqlite.specs.Order.{Row, column}
 use Rattle.sqlite.specs.Schema.{Schema}
@@ -12,12 +13,11 @@ use Rattle.sqlite_typed.specs.Tests.{bytes_eq}
 use Rattle.sqlite_typed.proofs.TestLemmas.{same_bytes}
 use Rattle.bh_model.specs.QuotaLaws.{IsBounded}
 use Rattle.bh_model.specs.State.{State, used}
-use Rattle.bh_tables.specs.Schema.{Octets, first_schema, second_schema, third_schema, host_schema}
-use Rattle.bh_tables.specs.Bodies.{first}
+use Rattle.bh_tables.specs.Schema.{Octets, first_schema, second_schema, third_schema, fourth_schema, host_schema}
+use Rattle.bh_tables.specs.Bodies.{first, ref_name, block_at, has_size}
 use Rattle.bh_tables.specs.Hosts.{with_version, is_of_version, brought_over, tables_opened}
 use Rattle.bh_tables.specs.Typed.{Tables, totals_of, tables_in, raw, AreHeld, HostRow, TenantRow, BlockRow, RefRow, tenant_of, block_of}
-use Rattle.bh_tables.specs.Bodies.{ref_name, block_at, has_size}
-use Rattle.bh_tables.proofs.HostTests.{host_opens, first_opens, second_opens, third_opens}
+use Rattle.bh_tables.proofs.HostTests.{host_opens, first_opens, second_opens, third_opens, fourth_opens}
 use Rattle.bh_view.specs.Blocks.{AreDigests}
 use Rattle.bh_view.specs.Bodies.{AreBounded, IsSoundHost}
 use Rattle.bh_view.specs.Sound.{IsTenantRow, AreSound, IsSound}
@@ -27,7 +27,7 @@ use Rattle.bh_view.proofs.UsedLemmas.{used_is}
 use Rattle.bh_view.proofs.ViewLemmas.{own_row}
 use Rattle.bh_stored.specs.Stored.{seen}
 use Rattle.bh_stored.specs.declared.stored.Edition.{Edition}
-use Rattle.bh_stored.specs.declared.stored.Edition.TheVariants.{First, Second, Third, Fourth}
+use Rattle.bh_stored.specs.declared.stored.Edition.TheVariants.{First, Second, Third, Fourth, Fifth}
 use Rattle.bh_check.specs.Checked.{IsChecked, MakesSound}
 use Rattle.bh_check.specs.Holds.{version_bytes, part_bytes, Holds}
 use Rattle.bh_check.specs.declared.rows.Table.TheVariants as table
@@ -52,8 +52,8 @@ module _ (edition : Edition) (digest : Octets → Octets) (trees : Trees) (c : I
   abbrev host : HostRow
   host = c.host.host
 
-  alone : shown.host ≡ with_version 4 host ∷ []
-  alone = ap (map (with_version 4)) c.host.alone
+  alone : shown.host ≡ with_version 5 host ∷ []
+  alone = ap (map (with_version 5)) c.host.alone
 
   latest_is : latest_of shown ≡ c.latest
   unfolding latest_of
@@ -75,7 +75,7 @@ module _ (edition : Edition) (digest : Octets → Octets) (trees : Trees) (c : I
   are_sound t = subst (λ n. AreSound n (rows_of t shown)) (sym latest_is) (rows_sound t)
 
   is_sound : IsSound shown
-  is_sound = record { host = record { row = with_version 4 host; alone = alone; good = c.host.good.good }; tenants = are_sound; stored = stored_are edition digest trees c sound }
+  is_sound = record { host = record { row = with_version 5 host; alone = alone; good = c.host.good.good }; tenants = are_sound; stored = stored_are edition digest trees c sound }
 
   -- ---- what a tenant uses is at most 2^60 bytes
 
@@ -125,38 +125,51 @@ held_so edition digest trees c sound =
 -- ---- of each edition
 
 module _ (digest : Octets → Octets) (d : Trees) where
-  fourth_sound : IsDatabase (record { schema = host_schema; trees = d }) → IsChecked Fourth digest (seen Fourth d) → IsSoundHost digest (tables_opened (record { schema = host_schema; trees = d }))
-  fourth_sound sound c =
+  fifth_sound : IsDatabase (record { schema = host_schema; trees = d }) → IsChecked Fifth digest (seen Fifth d) → IsSoundHost digest (tables_opened (record { schema = host_schema; trees = d }))
+  fifth_sound sound c =
       let db : Database = record { schema = host_schema; trees = d } in
+      let joined = subst (λ (s : Schema). IsDatabase (record { schema = s; trees = d })) (over_is Fifth) sound in
       let host = c.host.host in
-      let hosts : map (with_version 4) (tables_in db).host ≡ (tables_in db).host =
-      ap (map (with_version 4)) c.host.alone ∙ ap (λ n. with_version n host ∷ []) (sym c.host.good.version_is) ∙ sym c.host.alone in
-      subst (IsSoundHost digest) (ap (λ rows. record (tables_in db) { host = rows }) hosts ∙ sym (host_opens db (record { schema = refl; held = held_so Fourth digest d c (subst (λ (x : Schema). IsDatabase (record { schema = x; trees = d })) (over_is Fourth) sound) })))
-      (sound_tables Fourth digest d c (subst (λ (s : Schema). IsDatabase (record { schema = s; trees = d })) (over_is Fourth) sound))
+      let hosts : map (with_version 5) (tables_in db).host ≡ (tables_in db).host =
+      ap (map (with_version 5)) c.host.alone ∙ ap (λ n. with_version n host ∷ []) (sym c.host.good.version_is) ∙ sym c.host.alone in
+      subst (IsSoundHost digest) (ap (λ rows. record (tables_in db) { host = rows }) hosts ∙ sym (host_opens db (record { schema = refl; held = held_so Fifth digest d c joined })))
+      (sound_tables Fifth digest d c joined)
+
+  fourth_sound : IsDatabase (record { schema = fourth_schema; trees = d }) → IsChecked Fourth digest (seen Fourth d) → IsSoundHost digest (tables_opened (record { schema = fourth_schema; trees = d }))
+  fourth_sound sound c =
+      let db : Database = record { schema = fourth_schema; trees = d } in
+      let joined = subst (λ (s : Schema). IsDatabase (record { schema = s; trees = d })) (over_is Fourth) sound in
+      subst (IsSoundHost digest)
+      (sym (fourth_opens db (record { fourth = record { schema = refl; held = held_so Fourth digest d c joined }; version = ap (list_all (is_of_version 4)) c.host.alone ∙ ap (λ n. (n == 4) && true) c.host.good.version_is })))
+      (sound_tables Fourth digest d c joined)
 
   third_sound : IsDatabase (record { schema = third_schema; trees = d }) → IsChecked Third digest (seen Third d) → IsSoundHost digest (tables_opened (record { schema = third_schema; trees = d }))
   third_sound sound c =
       let db : Database = record { schema = third_schema; trees = d } in
+      let joined = subst (λ (s : Schema). IsDatabase (record { schema = s; trees = d })) (over_is Third) sound in
       subst (IsSoundHost digest)
-      (sym (third_opens db (record { third = record { schema = refl; held = held_so Third digest d c (subst (λ (x : Schema). IsDatabase (record { schema = x; trees = d })) (over_is Third) sound) }; version = ap (list_all (is_of_version 3)) c.host.alone ∙ ap (λ n. (n == 3) && true) c.host.good.version_is })))
-      (sound_tables Third digest d c (subst (λ (s : Schema). IsDatabase (record { schema = s; trees = d })) (over_is Third) sound))
+      (sym (third_opens db (record { third = record { schema = refl; held = held_so Third digest d c joined }; version = ap (list_all (is_of_version 3)) c.host.alone ∙ ap (λ n. (n == 3) && true) c.host.good.version_is })))
+      (sound_tables Third digest d c joined)
 
   second_sound : IsDatabase (record { schema = second_schema; trees = d }) → IsChecked Second digest (seen Second d) → IsSoundHost digest (tables_opened (record { schema = second_schema; trees = d }))
   second_sound sound c =
       let db : Database = record { schema = second_schema; trees = d } in
+      let joined = subst (λ (s : Schema). IsDatabase (record { schema = s; trees = d })) (over_is Second) sound in
       subst (IsSoundHost digest)
-      (sym (second_opens db (record { second = record { schema = refl; held = held_so Second digest d c (subst (λ (x : Schema). IsDatabase (record { schema = x; trees = d })) (over_is Second) sound) }; version = ap (list_all (is_of_version 2)) c.host.alone ∙ ap (λ n. (n == 2) && true) c.host.good.version_is })))
-      (sound_tables Second digest d c (subst (λ (s : Schema). IsDatabase (record { schema = s; trees = d })) (over_is Second) sound))
+      (sym (second_opens db (record { second = record { schema = refl; held = held_so Second digest d c joined }; version = ap (list_all (is_of_version 2)) c.host.alone ∙ ap (λ n. (n == 2) && true) c.host.good.version_is })))
+      (sound_tables Second digest d c joined)
 
   first_sound : IsDatabase (record { schema = first_schema; trees = d }) → IsChecked First digest (seen First d) → IsSoundHost digest (tables_opened (record { schema = first_schema; trees = d }))
   first_sound sound c =
       let db : Database = record { schema = first_schema; trees = d } in
+      let joined = subst (λ (s : Schema). IsDatabase (record { schema = s; trees = d })) (over_is First) sound in
       subst (IsSoundHost digest)
-      (sym (first_opens db (record { first = record { schema = refl; held = held_so First digest d c (subst (λ (x : Schema). IsDatabase (record { schema = x; trees = d })) (over_is First) sound) }; version = ap (list_all (is_of_version 1)) c.host.alone ∙ ap (λ n. (n == 1) && true) c.host.good.version_is })))
-      (sound_tables First digest d c (subst (λ (s : Schema). IsDatabase (record { schema = s; trees = d })) (over_is First) sound))
+      (sym (first_opens db (record { first = record { schema = refl; held = held_so First digest d c joined }; version = ap (list_all (is_of_version 1)) c.host.alone ∙ ap (λ n. (n == 1) && true) c.host.good.version_is })))
+      (sound_tables First digest d c joined)
 
 pub makes_sound : MakesSound
 makes_sound First digest d sound c = first_sound digest d sound c
 makes_sound Second digest d sound c = second_sound digest d sound c
 makes_sound Third digest d sound c = third_sound digest d sound c
 makes_sound Fourth digest d sound c = fourth_sound digest d sound c
+makes_sound Fifth digest d sound c = fifth_sound digest d sound c

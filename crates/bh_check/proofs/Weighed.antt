@@ -1,12 +1,12 @@
 -- The row of what nobody needs has the bytes of the blocks that no reference names.
-use Rattle.std.proofs.Common.{arith, ◌≡◌, ℕ, zero, suc, ◌+◌, ◌==◌, pos, true, List, [], ◌∷◌, length, map, filter, cond, refl, sym, ap, ap₂, ◌∙◌}
+use Rattle.std.proofs.Common.{arith, ◌≡◌, ℕ, zero, suc, ◌==◌, pos, true, List, [], ◌∷◌, length, filter, cond, refl, ap, ◌∙◌}
 use Rattle.std.specs.List.{AllByRecursion, AllZip}
 use Rattle.std.specs.Ordering.{int_eq}
 use Rattle.std.proofs.lemmas.Int.{ints}
-use Rattle.sqlite.specs.Order.{Row, column}
+use Rattle.sqlite.specs.Order.{Row}
 use Rattle.bh_rows.specs.Form.{typed}
 use Rattle.bh_tables.specs.Bodies.{Name, same_name, ref_name, is_unreferenced, unneeded}
-use Rattle.bh_tables.specs.Typed.{RefRow, garbage_form, garbage_of, weight, block_of, block_form}
+use Rattle.bh_tables.specs.Typed.{RefRow, garbage_form, weight, block_of, block_form}
 use Rattle.bh_tables.proofs.TotalLemmas.{total_cons, unused_is}
 use Rattle.bh_tables.proofs.GarbageLemmas.{size_of}
 use Rattle.bh_stored.specs.Cells.{is_fit}

@@ -6,7 +6,7 @@ use Rattle.sqlite.specs.Order.{Row}
 use Rattle.sqlite.specs.Schema.{Schema}
 use Rattle.sqlite.specs.Tree.{Trees}
 use Rattle.bh_rows.specs.Form.{typed}
-use Rattle.bh_tables.specs.Schema.{Octets, first_schema, second_schema, third_schema, host_schema}
+use Rattle.bh_tables.specs.Schema.{Octets, first_schema, second_schema, third_schema, fourth_schema, host_schema}
 use Rattle.bh_tables.specs.Hosts.{with_version, tables_opened}
 use Rattle.bh_tables.specs.Typed.{HostRow, host_form}
 use Rattle.bh_view.specs.Bodies.{IsSoundHost}
@@ -14,7 +14,7 @@ use Rattle.bh_view.specs.Sound.{IsHostRow}
 use Rattle.bh_stored.specs.Fits.{AreAllFit}
 use Rattle.bh_stored.specs.Stored.{seen}
 use Rattle.bh_stored.specs.declared.stored.Edition.{Edition}
-use Rattle.bh_stored.specs.declared.stored.Edition.TheVariants.{First, Second, Third, Fourth}
+use Rattle.bh_stored.specs.declared.stored.Edition.TheVariants.{First, Second, Third, Fourth, Fifth}
 use Rattle.bh_check.specs.Blocks.{HasDigest, AreOnce, AreNamed, AreUses, HasChecksum}
 use Rattle.bh_check.specs.Holds.{block_refs, Holds}
 use Rattle.bh_check.specs.Placed.{IsPlaced}
@@ -29,24 +29,26 @@ version_of First = 1
 version_of Second = 2
 version_of Third = 3
 version_of Fourth = 4
+version_of Fifth = 5
 
 abbrev pub schema_of : Edition → Schema
 schema_of First = first_schema
 schema_of Second = second_schema
 schema_of Third = third_schema
-schema_of Fourth = host_schema
+schema_of Fourth = fourth_schema
+schema_of Fifth = host_schema
 
 -- the edition with this number of tables
 abbrev pub edition_with : ℕ → Edition
-edition_with tables = if nat_lt 13 tables then Fourth
-    else (if nat_lt 12 tables then Third else (if nat_lt 10 tables then Second else First))
+edition_with tables = if nat_lt 19 tables then Fifth
+    else (if nat_lt 13 tables then Fourth else (if nat_lt 12 tables then Third else (if nat_lt 10 tables then Second else First)))
 
 -- ---- the result
 
 -- a row of a host of this version, which otherwise is like one of the present version
 pub record IsHostBy (version : ℕ) (row : HostRow) : Type 0 where
   pub version_is : row.version ≡ version
-  pub good : IsHostRow (with_version 4 row)
+  pub good : IsHostRow (with_version 5 row)
 
 -- there is one such row, with this last stamp
 pub record IsHostRowIn (version : ℕ) (rows : List Row) (latest : ℕ) : Type 0 where

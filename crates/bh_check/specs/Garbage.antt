@@ -3,7 +3,7 @@ use Rattle.std.specs.Prelude.{◌≡◌, ℕ, ◌+◌, ◌==◌, if◌then◌els
 use Rattle.sqlite.specs.Order.{Row}
 use Rattle.sqlite.specs.Tree.{Trees}
 use Rattle.bh_stored.specs.declared.stored.Edition.{Edition}
-use Rattle.bh_stored.specs.declared.stored.Edition.TheVariants.{First, Second, Third, Fourth}
+use Rattle.bh_stored.specs.declared.stored.Edition.TheVariants.{First, Second, Third, Fourth, Fifth}
 use Rattle.bh_check.specs.Blocks.{block_octets}
 use Rattle.bh_check.specs.Holds.{number_at}
 
@@ -26,4 +26,5 @@ abbrev pub AreWeighed : Edition → Trees → Type 0
 AreWeighed First d = Unit {0}
 AreWeighed Second d = Unit {0}
 AreWeighed Third d = Unit {0}
-AreWeighed Fourth d = IsGarbage (d 43) (d 23) (d 10)
+AreWeighed Fourth d = Unit {0}
+AreWeighed Fifth d = IsGarbage (d 44) (d 23) (d 10)

@@ -8,7 +8,7 @@ use Rattle.sqlite_typed.specs.Columns.{bytes_of}
 use Rattle.bh_tables.specs.Schema.{Octets}
 use Rattle.bh_tables.specs.Bodies.{Name, same_name}
 use Rattle.bh_stored.specs.declared.stored.Edition.{Edition}
-use Rattle.bh_stored.specs.declared.stored.Edition.TheVariants.{First, Second, Third, Fourth}
+use Rattle.bh_stored.specs.declared.stored.Edition.TheVariants.{First, Second, Third, Fourth, Fifth}
 use Rattle.bh_check.specs.Holds.{owner, number_at}
 use Rattle.bh_check.specs.Sums.{total, Keeps}
 use Rattle.bh_check.specs.declared.sums.Sums.{Sums}
@@ -76,3 +76,4 @@ AreTallied First d = Unit {0}
 AreTallied Second d = Unit {0}
 AreTallied Third d = AreTalliesOf (d 7) (d 30) (d 1)
 AreTallied Fourth d = AreTalliesOf (d 7) (d 30) (d 1)
+AreTallied Fifth d = AreTalliesOf (d 7) (d 30) (d 1)

@@ -6,7 +6,7 @@ ghost use Rattle.sqlite.specs.Tree.{Trees};
 ghost use Rattle.sqlite.specs.Held.{state};
 ghost use Rattle.sqlite_trees.specs.View.{IsClean};
 ghost use Rattle.bh_tables.specs.Hosts.{tables_opened};
-ghost use Rattle.bh_tables.specs.Schema.{Octets, first_schema, second_schema, third_schema, host_schema};
+ghost use Rattle.bh_tables.specs.Schema.{Octets, first_schema, second_schema, third_schema, fourth_schema, host_schema};
 ghost use Rattle.bh_view.specs.Bodies.{IsSoundHost};
 ghost use Rattle.bh_schema.specs.Layer.{IsStateClean};
 ghost use Rattle.bh_stored.specs.Fits.{AreAllFit};
@@ -49,11 +49,16 @@ const SECOND_TABLES: usize = 12;
 /// The number of tables of a host of version 3.
 const THIRD_TABLES: usize = 13;
 
+/// The number of tables of a host of version 4.
+const FOURTH_TABLES: usize = 19;
+
 /// The edition of a host with this number of tables.
 fn edition_with(tables: usize) -> Edition
     ensures { result ≡ edition_with tables }
 {
-    if THIRD_TABLES < tables {
+    if FOURTH_TABLES < tables {
+        Edition::Fifth
+    } else if THIRD_TABLES < tables {
         Edition::Fourth
     } else if SECOND_TABLES < tables {
         Edition::Third
@@ -73,6 +78,7 @@ fn version_of(edition: Edition) -> u64
         Edition::Second => 2,
         Edition::Third => 3,
         Edition::Fourth => 4,
+        Edition::Fifth => 5,
     }
 }
 
@@ -178,16 +184,14 @@ fn check_tallies(alloc: Global, stored: &Stored, edition: Edition) -> Result<(),
         Edition::Second => Ok(()),
         Edition::Third => check_each_tally(alloc, stored),
         Edition::Fourth => check_each_tally(alloc, stored),
+        Edition::Fifth => check_each_tally(alloc, stored),
     }
 }
 
 /// Checks the number of bytes of the blocks that no reference names.
 fn check_weight(stored: &Stored) -> Result<(), Stop>
-    ensures { OnOk result ((d : Trees) → AreStoredIn d stored.now → IsGarbage (d 43) (d 23) (d 10)) }
+    ensures { OnOk result ((d : Trees) → AreStoredIn d stored.now → IsGarbage (d 44) (d 23) (d 10)) }
 {
-    if stored.uses.len() != stored.blocks.len() {
-        return Err(Stop::Flaw(Flaw::OtherUses));
-    }
     let bytes = unused_bytes(&stored.uses, &stored.blocks)?;
     if has_bytes(&stored.garbage, bytes) {
         Ok(())
@@ -204,7 +208,8 @@ fn check_garbage(stored: &Stored, edition: Edition) -> Result<(), Stop>
         Edition::First => Ok(()),
         Edition::Second => Ok(()),
         Edition::Third => Ok(()),
-        Edition::Fourth => check_weight(stored),
+        Edition::Fourth => Ok(()),
+        Edition::Fifth => check_weight(stored),
     }
 }
 
@@ -335,7 +340,8 @@ pub fn check_connection<S: Alter + Drop, D: Digester, W: Watch>(
     requires schema { IsStateClean (state S.Store connection)
         → ((state S.Store connection).now.schema ≡ first_schema)
         ⊎ (((state S.Store connection).now.schema ≡ second_schema)
-        ⊎ (((state S.Store connection).now.schema ≡ third_schema) ⊎ ((state S.Store connection).now.schema ≡ host_schema))) }
+        ⊎ (((state S.Store connection).now.schema ≡ third_schema)
+        ⊎ (((state S.Store connection).now.schema ≡ fourth_schema) ⊎ ((state S.Store connection).now.schema ≡ host_schema)))) }
     ensures sound { IfOk result.0 (λ found. found ≡ None → IsClean (S.Store.view result.1) → IsTrue (S.Store.view result.1).is_open
         → IsStateClean (state S.Store connection) × IsSoundHost D.digest_of (tables_opened (state S.Store connection).now)) }
 {

@@ -84,7 +84,8 @@ fn table_in<'a>(tree: u32) -> &'a str {
         37 => "notes",
         39 => "upload_notes",
         41 => "rights",
-        _ => "garbage",
+        43 => "garbage",
+        _ => "unneeded",
     }
 }
 
@@ -146,7 +147,7 @@ impl fmt::Display for Flaw {
             ),
             Flaw::OtherTallies => f.write_str("tallies: not as many rows as tenants"),
             Flaw::Garbage => {
-                f.write_str("garbage: not the bytes of the blocks that no reference names")
+                f.write_str("unneeded: not the bytes of the blocks that no reference names")
             }
             Flaw::TooMuch => f.write_str("sizes: a sum passes 2^64 - 1"),
         }

@@ -1,6 +1,6 @@
 //! The bytes of the blocks that no reference names.
 
-ghost use Rattle.std.specs.Prelude.{◌≡◌, ◌+◌, ◌∷◌, [], length, map, IsTrue, IfOk};
+ghost use Rattle.std.specs.Prelude.{◌≡◌, ◌+◌, ◌∷◌, [], map, IsTrue, IfOk};
 ghost use Rattle.bh_check.specs.Garbage.{unused_in, unused_size};
 ghost use Rattle.bh_check.specs.Holds.{number_at};
 
@@ -21,16 +21,13 @@ fn with_unused(bytes: u64, used: &Row, block: &Row) -> Result<u64, Failure>
     }
 }
 
-/// The bytes of the blocks whose counts of uses, in the rows at their places, are 0, given as many
-/// counts as blocks.
+/// The bytes of the blocks whose counts of uses, in the rows at their places, are 0.
 pub fn unused_bytes(uses: &[Row], blocks: &[Row]) -> Result<u64, Failure>
-    requires { length uses.now ≡ length blocks.now }
     ensures { IfOk result (λ n. n ≡ unused_size uses.now blocks.now) }
 {
     let mut bytes: u64 = 0;
-    for at in 0..blocks.len() {
-        let more = with_unused(bytes, &uses[at], &blocks[at])?;
-        bytes = more;
+    for (used, block) in uses.iter().zip(blocks) {
+        bytes = with_unused(bytes, used, block)?;
     }
     Ok(bytes)
 }

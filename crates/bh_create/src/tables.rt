@@ -58,7 +58,17 @@ const FIRST: [Item; 15] = [
     Item::UsesByCount,
 ];
 
-/// The SQL of the tables that version 4 added.
+/// The SQL of the tables that versions 2 and 3 added.
+const LOCKS: &str =
+    "CREATE TABLE locks (tenant TEXT NOT NULL, bucket TEXT NOT NULL, PRIMARY KEY (tenant, bucket), FOREIGN KEY (tenant, bucket) REFERENCES buckets ON DELETE RESTRICT) STRICT";
+
+const RETAINS: &str =
+    "CREATE TABLE retains (tenant TEXT NOT NULL, seq INTEGER NOT NULL CHECK (seq >= 0), until INTEGER NOT NULL CHECK (until >= 0), PRIMARY KEY (tenant, seq), FOREIGN KEY (tenant, seq) REFERENCES versions ON DELETE RESTRICT) STRICT";
+
+const TALLIES: &str =
+    "CREATE TABLE tallies (tenant TEXT NOT NULL PRIMARY KEY REFERENCES tenants ON DELETE RESTRICT, versions INTEGER NOT NULL CHECK (versions >= 0) CHECK (versions <= 4611686018427387904), markers INTEGER NOT NULL CHECK (markers >= 0) CHECK (markers <= 4611686018427387904), objects INTEGER NOT NULL CHECK (objects >= 0) CHECK (objects <= 4611686018427387904)) STRICT";
+
+/// Of those that version 4 added.
 const PACKS: &str =
     "CREATE TABLE packs (pack INT NOT NULL PRIMARY KEY CHECK (pack >= 0), length INTEGER NOT NULL CHECK (length >= 0) CHECK (length <= 4611686018427387904), live INTEGER NOT NULL CHECK (live >= 0) CHECK (live <= 4611686018427387904)) STRICT";
 
@@ -114,12 +124,9 @@ impl Item {
             Item::Uses =>
                 "CREATE TABLE uses (digest BLOB NOT NULL, ord INTEGER NOT NULL CHECK (ord >= 0), uses INTEGER NOT NULL CHECK (uses >= 0) CHECK (uses <= 4611686018427387904), PRIMARY KEY (digest, ord)) STRICT",
             Item::UsesByCount => "CREATE INDEX uses_by_count ON uses (uses, digest, ord)",
-            Item::Locks =>
-                "CREATE TABLE locks (tenant TEXT NOT NULL, bucket TEXT NOT NULL, PRIMARY KEY (tenant, bucket), FOREIGN KEY (tenant, bucket) REFERENCES buckets ON DELETE RESTRICT) STRICT",
-            Item::Retains =>
-                "CREATE TABLE retains (tenant TEXT NOT NULL, seq INTEGER NOT NULL CHECK (seq >= 0), until INTEGER NOT NULL CHECK (until >= 0), PRIMARY KEY (tenant, seq), FOREIGN KEY (tenant, seq) REFERENCES versions ON DELETE RESTRICT) STRICT",
-            Item::Tallies =>
-                "CREATE TABLE tallies (tenant TEXT NOT NULL PRIMARY KEY REFERENCES tenants ON DELETE RESTRICT, versions INTEGER NOT NULL CHECK (versions >= 0) CHECK (versions <= 4611686018427387904), markers INTEGER NOT NULL CHECK (markers >= 0) CHECK (markers <= 4611686018427387904), objects INTEGER NOT NULL CHECK (objects >= 0) CHECK (objects <= 4611686018427387904)) STRICT",
+            Item::Locks => LOCKS,
+            Item::Retains => RETAINS,
+            Item::Tallies => TALLIES,
             Item::Packs => PACKS,
             Item::Placed => PLACED,
             Item::Notes => NOTES,

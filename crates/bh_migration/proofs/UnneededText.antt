@@ -1,5 +1,5 @@
 -- The text that sums the bytes of the blocks that no reference names.
-use Rattle.std.proofs.Common.{◌≡◌, ◌⊎◌, inl, inr, ℕ, false, ◌+◌, ◌≤◌, ◌^◌, min, unwrap_or, pos, ◌+ℤ◌, codes, Bool, true, not, map-id, List, [], ◌∷◌, ◌||◌, length, map, filter, sum_by, unsigned_abs, Some, None, Ok, Err, Result, IfOk, IfErr, refl, sym, ap, ◌∙◌, arith}
+use Rattle.std.proofs.Common.{◌≡◌, ◌⊎◌, inl, inr, ℕ, false, ◌+◌, ◌≤◌, ◌^◌, min, unwrap_or, pos, ◌+ℤ◌, codes, true, map-id, List, [], ◌∷◌, ◌||◌, length, map, filter, sum_by, unsigned_abs, Some, None, Ok, Err, Result, IfOk, IfErr, refl, sym, ap, ◌∙◌, arith}
 use Rattle.std.specs.List.{list_any, list_all}
 use Rattle.std.proofs.lemmas.List.Sums.{sum_by-cons}
 use Rattle.sqlite.specs.declared.types.Value.TheVariants.{Null, Int}
@@ -36,7 +36,7 @@ use Rattle.bh_rows.specs.Scan.{no_limit}
 use Rattle.bh_rows.proofs.CallLemmas.{clean_before, shown_open, query_open}
 use Rattle.bh_rows.proofs.TotalLemmas.{query_cause}
 use Rattle.bh_rows.proofs.FormLemmas.{stored, keyed, picked}
-use Rattle.bh_tables.specs.Schema.{Octets, host_schema}
+use Rattle.bh_tables.specs.Schema.{host_schema}
 use Rattle.bh_tables.specs.Typed.{Totals, BlockRow, RefRow, block_form, ref_form, IsHostBy, IsReadyBy, tables}
 use Rattle.bh_tables.specs.Bodies.{block_name, is_use, is_unreferenced, unneeded}
 use Rattle.bh_tables.proofs.Statements.{Sums, sum_ends, if_narrow}

@@ -32,7 +32,8 @@ use Rattle.bh_task.specs.declared.places.Environment.{Environment}
 use Rattle.bh_task.specs.declared.places.Place.{Place}
 use Rattle.bh_task.specs.declared.places.Place.TheVariants.{File, Server}
 use Rattle.bh_task.specs.declared.misfit.Misfit.{Misfit}
-use Rattle.bh_task.specs.declared.misfit.Misfit.TheVariants.{NoDoor, TwoDoors, NoSocket, NoOperatorDoor, TwoOperatorDoors, NoSweeps, NoClock}
+use Rattle.bh_task.specs.declared.misfit.Misfit.TheVariants.{NoDoor, TwoDoors, NoSocket, NoOperatorDoor, TwoOperatorDoors}
+use Rattle.bh_task.specs.declared.misfit.Misfit.TheVariants.{NoSweeps, NoClock}
 
 -- ---- doors
 

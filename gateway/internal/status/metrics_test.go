@@ -106,6 +106,7 @@ func TestMetrics(t *testing.T) {
 		`bucketd_server_request_seconds_bucket{le="0.001"} 5`,
 		`bucketd_server_request_seconds_bucket{le="+Inf"} 7`,
 		`bucketd_server_request_seconds_sum 0.012`,
+		`bucketd_server_garbage_bytes 4096`,
 	} {
 		if !strings.Contains("\n"+text, "\n"+line+"\n") {
 			t.Errorf("no line is %s", line)
@@ -189,6 +190,12 @@ bucketd_server_request_seconds_bucket{le="0.001"} 5
 bucketd_server_request_seconds_bucket{le="+Inf"} 7
 bucketd_server_request_seconds_sum 0.012
 bucketd_server_request_seconds_count 7
+# HELP bucketd_server_garbage_bytes Bytes of blocks that no reference names, by the last count.
+# TYPE bucketd_server_garbage_bytes gauge
+bucketd_server_garbage_bytes 4096
+# HELP bucketd_server_keep_garbage_bytes Bytes of such blocks that may stay before a sweep begins.
+# TYPE bucketd_server_keep_garbage_bytes gauge
+bucketd_server_keep_garbage_bytes 67108864
 `
 
 // Of a host's page only what begins as it should is told, and nothing of an answer that is no page.
@@ -197,7 +204,7 @@ func TestHostPage(t *testing.T) {
 		name, page string
 		families   int
 	}{
-		{"its own", goodPage, 2},
+		{"its own", goodPage, 4},
 		{"none", "", 0},
 		{"an older host", "bad line\n", 0},
 		{"another's names", "# TYPE go_goroutines gauge\ngo_goroutines 5\n# TYPE bucketd_up gauge\nbucketd_up 0\n", 0},

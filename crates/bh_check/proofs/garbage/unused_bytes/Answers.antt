@@ -1,17 +1,32 @@
-use Rattle.std.proofs.Common.{arith, ap, ◌+◌, sym, ◌∙◌}
+use Rattle.std.proofs.Common.{arith, ◌≡◌, ◌+◌, length, ap, sym, ◌∙◌}
+use Rattle.std.proofs.lemmas.Slice.Zip.{zip_turn, zip_end}
 use Rattle.bh_check.specs.Garbage.{unused_in}
 use Rattle.bh_check.proofs.UnusedSums.{size_more, size_end}
 use Rattle.bh_check.proofs.garbage.unused_bytes.Goals as goal
 
-pub loop-at-preserved : goal.loop-at-preserved
-loop-at-preserved c =
-    let low = c.loop-at-test.true in
-    let same = c.requires in
-    c.in_ok-more.ensures ∙ ap (λ n. n + unused_in c.index-uses-at.result c.index-blocks-at.result) c.loop-at.invariant
-    ∙ sym (size_more c.args.uses.now c.args.blocks.now c.loop-at.at c.index-uses-at.result c.index-blocks-at.result (omega (arith, low, same)) low c.index-uses-at.is c.index-blocks-at.is)
+pub loop-used-preserved : goal.loop-used-preserved
+loop-used-preserved c =
+    let uses = c.args.uses.now in
+    let blocks = c.args.blocks.now in
+    let yielded = c.loop-used.yielded in
+    let used = c.in-Some.used in
+    let block = c.in-Some.block in
+    let gives = c.into_iter-used-iterator.ensures.into_iter_gives in
+    let second : c.zip-used-items.result.b.rest.now ≡ blocks = c.zip-used-items.ensures.second.0 in
+    let turn = zip_turn uses blocks yielded c.into_iter-used-iterator.result c.loop-used.used-iterator c.next.new.self c.next.result
+    (ap (λ s. s.a.rest.now) gives ∙ ap (λ x. x.rest.now) c.zip-used-items.ensures.first ∙ c.iter.ensures.rest) (ap (λ s. s.b.rest.now) gives ∙ second)
+    c.loop-used.yielded_by (used, block) c.in-Some.is c.next.ensures.steps in
+    c.in_ok-bytes.ensures ∙ ap (λ n. n + unused_in used.now block.now) c.loop-used.invariant
+    ∙ sym (size_more uses blocks yielded (used, block) used.now block.now turn.0 turn.1 (turn.2 used.now) (turn.3 block.now))
 
 pub returns : goal.returns
 returns c =
-    let end = c.loop-at-test.false in
-    let same = c.requires in
-    c.loop-at.invariant ∙ size_end c.args.uses.now c.args.blocks.now c.loop-at.at (λ low. omega (arith, low, end, same)) (λ low. omega (arith, low, end))
+    let uses = c.args.uses.now in
+    let blocks = c.args.blocks.now in
+    let yielded = c.loop-used.yielded in
+    let gives = c.into_iter-used-iterator.ensures.into_iter_gives in
+    let second : c.zip-used-items.result.b.rest.now ≡ blocks = c.zip-used-items.ensures.second.0 in
+    let end = zip_end uses blocks yielded c.into_iter-used-iterator.result c.loop-used.used-iterator c.next.new.self c.next.result
+    (ap (λ s. s.a.rest.now) gives ∙ ap (λ x. x.rest.now) c.zip-used-items.ensures.first ∙ c.iter.ensures.rest) (ap (λ s. s.b.rest.now) gives ∙ second)
+    c.loop-used.yielded_by c.in-None.is c.next.ensures.steps in
+    c.loop-used.invariant ∙ size_end uses blocks (length yielded) (λ low below. omega (arith, end, low, below))

@@ -1,7 +1,7 @@
-use Rattle.std.proofs.Common.{◌≡◌, take}
+use Rattle.std.proofs.Common.{◌≡◌, length, take}
 use Rattle.bh_check.specs.Garbage.{unused_size}
 use Rattle.bh_check.proofs.garbage.unused_bytes.Given as goal
 
 -- of the blocks so far
-abbrev pub invariant-loop-at : goal.invariant-loop-at
-invariant-loop-at l = l.bytes ≡ unused_size (take l.at l.uses) (take l.at l.blocks)
+abbrev pub invariant-loop-used : goal.invariant-loop-used
+invariant-loop-used l = l.bytes ≡ unused_size (take (length l.yielded) l.uses) (take (length l.yielded) l.blocks)

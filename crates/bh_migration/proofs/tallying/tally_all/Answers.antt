@@ -2,7 +2,6 @@ use Rattle.std.proofs.Common.{[], map, ap, sym, subst, ◌∙◌}
 use Rattle.std.proofs.lemmas.Result.{on_ok_weaker}
 use Rattle.sqlite.specs.Held.{state}
 use Rattle.bh_tables.specs.Typed.{Tables}
-use Rattle.bh_schema.specs.Layer.{standing}
 use Rattle.bh_migration.specs.Tallying.{shown_name, HoldsTallies}
 use Rattle.bh_migration.proofs.Tallied.{carried}
 use Rattle.bh_migration.proofs.tallying.tally_all.Goals as goal

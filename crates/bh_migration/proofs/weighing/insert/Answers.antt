@@ -1,4 +1,3 @@
-use Rattle.std.proofs.Common.{arith}
 use Rattle.sqlite.specs.Held.{state}
 use Rattle.bh_schema.proofs.Calls.{changes_within, changes_opens}
 use Rattle.bh_migration.proofs.Tallied.{weight_changes, weight_keeps, weight_adds}
