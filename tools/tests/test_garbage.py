@@ -1,7 +1,7 @@
 """What nobody needs: how many bytes of it a server tells (`metrics`), after each kind of request and order; and when it sweeps by itself
 (`--keep-garbage`): as soon as there are more than that, also while nobody asks and what an earlier server left, and never before.
 
-A server counts again within a quarter of a second after a request that may write.
+A server counts again after requests that may write, and after orders.
 """
 import os
 import random
@@ -25,8 +25,6 @@ NAMES = ["green", "blue"]
 MIB, MUCH = 1 << 20, "1TiB"
 # What is kept without the option, if a tenth of what is needed isn't more.
 DEFAULT = 64 * MIB
-# What the log may have that the file hasn't.
-LOGGED = 50_000_000
 # Of a tenant who overwrites one object.
 QUOTA, LARGE = 17 * MIB, 8 * MIB
 # Seconds within which a sweep of a few blocks is over, and what was changed is counted.
@@ -152,6 +150,7 @@ REQUESTS = [
     ("a rule for uploads", "green", ("PUT", "/plans?lifecycle", RULE), 200, 41),
     ("an upload under it", "green", ("POST", "/plans/t?uploads", b""), 200, 41),
     ("with a part of a known and a new block", "green", ("PUT", f"/plans/t{key(3)}&partNumber=1", b"aaaaqqqq"), 200, 41),
+    ("an object that stays", "green", ("PUT", "/plans/k", b"rrrr"), 200, 41),
 ]
 
 
@@ -168,24 +167,25 @@ def test_each_request(expect, program, folder, file):
             ("a tenant that has a bucket stays", {"op": "tenant-remove", "tenant": "blue", "with_objects": False}, "49 TenantNotEmpty\n", 41),
             ("a quota below what is used", {"op": "quota", "tenant": "green", "quota": 1}, "quota green 1\n", 41),
             ("a tenant goes with all it has", {"op": "tenant-remove", "tenant": "blue", "with_objects": True}, "removed blue\n", 53),
-            ("an upload that hasn't expired", {"op": "usage", "tenant": "green"}, "usage green bytes 8 quota 1\n", 53),
+            ("an upload that hasn't expired", {"op": "usage", "tenant": "green"}, "usage green bytes 12 quota 1\n", 53),
         ):
             found = it.order(**members), it.counts(wanted)
             expect(name, found == (told, wanted), f"{found}, not {wanted}")
-        answer, found = it.ask("green", "PUT", "/plans/n", b"nnnn"), it.counts(53)
-        expect("a put above the quota", (answer.status, found) == (403, 53), f"{answer} {found}")
+        for name in ("n", "k"):
+            answer, found = it.ask("green", "PUT", f"/plans/{name}", b"nnnnoooo"), it.counts(53)
+            expect(f"a put of {name} above the quota", (answer.status, found) == (403, 53), f"{answer} {found}")
         clock.set(clock.now + 3 * DAY)
+        answer, found = it.ask("green", "GET", "/plans/k"), (it.report(), it.counts(61))
+        expect("the upload has expired, and goes with a get", (answer.body, found) == (b"rrrr", ((65, 4), 61)), f"{answer} {found}")
         found = it.order(op="usage", tenant="green"), it.counts(61)
-        expect("the upload has expired", found == ("usage green bytes 0 quota 1\n", 61), found)
-        found = it.report(), it.counts(61)
-        expect("a report counts as much", found == ((61, 0), 61), found)
+        expect("and is gone", found == ("usage green bytes 4 quota 1\n", 61), found)
         found = it.order(op="sweep", limit=0), it.counts(61)
         expect("a sweep of nothing", found == ("sweep uploads 0 blocks 0 partial\n", 61), found)
         told, left = it.order(op="sweep", limit=1), it.report()[0]
-        found = it.counts(left)
-        expect("a sweep of one block", told == "sweep uploads 0 blocks 1 partial\n" and found == left in (57, 60), (told, left, found))
+        found = it.counts(left - 4)
+        expect("a sweep of one block", told == "sweep uploads 0 blocks 1 partial\n" and found == left - 4 in (57, 60), (told, left, found))
         found = it.order(op="sweep", limit=1000), it.counts(0), it.report()
-        expect("a sweep of all", found[0].endswith(" complete\n") and found[1:] == (0, (0, 0)), found)
+        expect("a sweep of all", found[0].endswith(" complete\n") and found[1:] == (0, (4, 4)), found)
         expect("the server itself swept nothing", it.steps() == 0, it.steps())
     told = command(program, file, "check")
     expect("check", told == ("sound", 0), told)
@@ -322,7 +322,7 @@ def test_much_is_kept(expect, program, file, full):
 
 @pytest.mark.cost(40)
 def test_default(expect, program, folder, file, full):
-    """64 MiB are kept, or a tenth of what is needed."""
+    """64 MiB are kept, or a tenth of the rest of the file."""
     with Kept(program, file) as it:
         it.get("PUT", "/plans", b"")
         expect("without the option 64 MiB are kept", it.counts(0) == 0 and it.figure("keep_garbage_bytes") == DEFAULT, it.order(op="metrics"))
@@ -338,13 +338,13 @@ def test_default(expect, program, folder, file, full):
         found, took = it.falls(DEFAULT)
         expect("72 MiB don't", found <= DEFAULT and took < SOON, f"{found} after {took:.1f} s")
         if not full:
-            return expect.skip("a tenth of what is needed", "it needs some 800 MB")
+            return expect.skip("a tenth of the rest of the file", "it needs some 800 MB")
         for number in range(98):
             it.put(100 + number, LARGE, f"/plans/y{number}")
         rest(program)
-        needed, keep, has = it.report()[1], it.figure("keep_garbage_bytes"), os.path.getsize(file)
-        # What is in the log and not yet in the file counts later.
-        expect("a tenth of what is needed", DEFAULT < (needed - LOGGED) // 10 <= keep <= has // 10, f"{keep} of {needed}; the file has {has}")
+        it.report()  # (an order, after which it counts by the size that the file has now)
+        keep, wanted = it.figure("keep_garbage_bytes"), (os.path.getsize(file) - it.garbage()) // 10
+        expect("a tenth of the rest of the file", keep == wanted > DEFAULT, f"{keep}, not {wanted}")
 
 
 @pytest.mark.cost(50)
@@ -373,6 +373,26 @@ def test_restart(expect, program, file, number):
         expect("but what is needed", it.report() == (size, size), it.report())
     told = command(program, file, "check")
     expect("check", told == ("sound", 0), told)
+
+
+@pytest.mark.cost(20)
+def test_cache(expect, program, file):
+    """A count takes no block from the cache."""
+    size = 100_000 if is_fast(program) else 5_000
+    with Kept(program, file, MUCH, "--cache-bytes", "1MiB") as it:
+        it.get("PUT", "/plans", b"")
+        it.put(0, size)
+        read = [it.get("GET", "/plans/x")[2] for _ in range(2)]
+        before = it.figure("cache_hits_total"), it.figure("cache_misses_total")
+        if None in before:
+            return expect("it counts what was found in the cache", False, it.order(op="metrics"))
+        for number in range(3):
+            it.put(number, size, "/plans/y")
+            read.append(it.get("GET", "/plans/x")[2])
+        found = it.figure("cache_hits_total"), it.figure("cache_misses_total")
+        blocks = -(-size // model.BLOCK)
+        expect("what was read stays in the cache", found == (before[0] + 3 * blocks, before[1]), f"{found}, before {before}")
+        expect("the same bytes are read", len(set(read)) == 1 and len(read[0]) == size)
 
 
 # ---- words
