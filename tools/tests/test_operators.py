@@ -157,6 +157,11 @@ def test_one_language(program, folder, expect):
     for port in ("", "none", "65536", "-1"):
         told = run(program, None, "tenants", BUCKETD_OPERATOR_PORT=port)
         expect(f"a port of the environment that is none: {port!r}", told[1] == 2, told)
+    foreign = {"BUCKETD_FILE": os.fsdecode(b"\xff")}
+    told = run(program, None, "tenants", **foreign)
+    expect("a file of the environment that is no text", told[:2] == ("fault", 1) and "UTF-8" in told[2], told)
+    told = run(program, None, "tenants", "--quota", "1", **foreign)
+    expect("words that tell no command come before it", told[1] == 2, told)
 
 
 def test_each_line(it, expect):

@@ -17,7 +17,7 @@ use Rattle.bh_host.proofs.Running as running
 use Rattle.bh_host.specs.declared.reply.Caller.{Caller}
 use Rattle.bh_host.specs.declared.reply.Caller.TheVariants.{Request, Operator}
 use Rattle.bh_host.specs.Turns.{request_at}
-use Rattle.bh_connection.specs.Connections.{Ends, Outcome}
+use Rattle.bh_connection.specs.Connections.{Ends, Outcome, IsTakenBack}
 use Rattle.bh_connection.specs.Each as each
 use Rattle.bh_connection.specs.Each.{Row, RunsGoOn, HasServed}
 use Rattle.bh_connection.specs.Groups.{Call, Closed, IsGroup, begins_with, calls_of, in_groups}
@@ -143,6 +143,12 @@ module _ {H C : Type 0} (IsIntact IsOpen : H → Type 0) (seen : H → Seen) (le
       alone = λ intact. run_alone IsIntact IsOpen seen left (filter_map event_of visits) (filter_map told_of visits) old new (ran intact);
     }
 
+    -- visits, and a look that changed nothing
+    pub served_still : (visits : List Visit) (old mid new : H) → (IsIntact new → IsIntact mid) → IsTakenBack IsIntact IsOpen seen left mid new → HasServedAll IsIntact IsOpen seen left secret visits old mid
+        → HasServedAll IsIntact IsOpen seen left secret visits old new
+    served_still visits old mid new still back served =
+        has_served visits old new served.each (λ intact. ran_back IsIntact IsOpen seen left (filter_map event_of visits) (filter_map told_of visits) old mid new intact (served.ran (still intact)) back)
+
     pub nothing_came : (old : H) → HasServedAll IsIntact IsOpen seen left secret [] old old
     nothing_came old = has_served [] old old tt (λ _. running.ran_none IsOpen seen left old)
 
@@ -253,6 +259,16 @@ module _ {H C : Type 0} (IsIntact IsOpen : H → Type 0) (seen : H → Seen) (le
 
   pub none_come : (operated : Bool) (a : Option (List Call)) (old : H) → HasCome operated a a [] old old
   none_come operated a old = record { each = All-nil IsGroup; served = nothing_came IsIntact IsOpen seen left shows secret old; admitted = tt; calls = logs_nothing a }
+
+  -- a look that changed nothing, and no call
+  pub come_still : (operated : Bool) (a b c : Option (List Call)) (groups : List (List Visit)) (old mid new : H) → (IsIntact new → IsIntact mid) → IsTakenBack IsIntact IsOpen seen left mid new → c ≡ b
+      → HasCome operated a b groups old mid → HasCome operated a c groups old new
+  come_still operated a b c groups old mid new still back same come = record {
+    each = come.each;
+    served = served_still IsIntact IsOpen seen left shows secret (in_groups groups) old mid new still back come.served;
+    admitted = come.admitted;
+    calls = subst (λ calls. Logs a calls (flat_map calls_of groups)) (sym same) come.calls;
+  }
 
   pub more_come : (operated op : Bool) (a b c : Option (List Call)) (groups : List (List Visit)) (group : List Visit) (grouped : Grouped) (old mid new : H) → op ≡ operated
       → (IsIntact new → IsIntact mid) → (seen mid).limits ≡ (seen old).limits

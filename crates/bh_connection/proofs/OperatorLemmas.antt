@@ -68,21 +68,21 @@ gives_as a b taken was failed is given = let P : Bool → Type 0 = λ f. Gives a
 
 module _ {H C : Type 0} (IsIntact IsOpen : H → Type 0) (seen : H → Seen) (left : H → Tables → Type 0) (shows : C → Tables → Type 0) (secret : Option (List ℕ)) where
   -- an order was applied
-  pub obeyed : (before after : Ends) (served : Served) (stops : Bool) (taken reply : List ℕ) (event : Event) (stamp : Option ℕ) (old new : H)
-      → event.reading ≡ before.reading → TookOrder secret before.left after.left taken (Some (ToDo event.message)) → Gives before.gave after.gave taken false → after.reader_failed ≡ false
+  pub obeyed : (before after : Ends) (served : Served) (stops : Bool) (taken reply : List ℕ) (order : Option Instruction) (event : Event) (stamp : Option ℕ) (old new : H)
+      → event.reading ≡ before.reading → Some (ToDo event.message) ≡ order → TookOrder secret before.left after.left taken order → Gives before.gave after.gave taken false → after.reader_failed ≡ false
       → IsApplied IsIntact IsOpen seen left event (stamp, reply) old new
       → served.stamp ≡ stamp → Appends before.held after.held (take served.sent (line_text reply))
       → Takes before.took after.took (take served.sent (line_text reply)) after.writer_failed
       → EndsAs served.ended served.sent (line_text reply) after.writer_failed → is_some served.trouble ≡ is_wanting event.reading stamp
       → stops ≡ false → WasOrdered IsIntact IsOpen seen left shows secret before after served stops old new
-  obeyed before after served stops taken reply event stamp old new at took gave going did is out took_out ended noted flag = record {
+  obeyed before after served stops taken reply order event stamp old new at asks took gave going did is out took_out ended noted flag = record {
     heard = Obeyed event (stamp, reply);
     hears = (
       at,
       record {
         taken = taken;
         replied = record { consumed = took.consumed; short = took.short; stamp = is; out = out; ended = ended; gave = gave; took = took_out; reader = going };
-        is = took.is;
+        is = asks ∙ took.is;
       },
     );
     notes = noted;

@@ -1,5 +1,6 @@
--- The effect of a copy of a storage between two events.
+-- What is done with a storage between two events: it is copied, or what nobody needs is counted.
 use Rattle.std.specs.Prelude.{◌≡◌, ◌⊎◌, ℕ, List, codes}
+use Rattle.bh_tables.specs.Bodies.{unneeded}
 use Rattle.bh_tables.specs.Typed.{Tables}
 use Rattle.bh_storage.specs.Calls.{Seen}
 use Rattle.bh_connection.specs.Connections.{IsTakenBack}
@@ -18,3 +19,7 @@ pub record IsBackedUp {H C : Type 0} (IsIntact IsOpen : H → Type 0) (seen : H 
   pub stays : IsTakenBack IsIntact IsOpen seen left old new
   pub replied : (reply ≡ backup_text) ⊎ (reply ≡ fault_text)
   pub copied : reply ≡ backup_text → IsIntact new → (copy : C) × shows copy (seen old).now
+
+-- the bytes of the blocks that no reference names
+abbrev pub unneeded_of : Tables → ℕ
+unneeded_of t = unneeded t.refs t.blocks

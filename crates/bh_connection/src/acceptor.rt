@@ -61,4 +61,14 @@ pub trait Acceptor {
             (Closed (ends Self.Reader.Source.remaining Self.Reader.Source.transfers
             Self.Writer.Sink.contents Self.Writer.Sink.transfers arrival) served ∷ []) }
         ensures operated { operated self.new ≡ operated self.old };
+
+    /// Whether it wants to know how many bytes nobody needs. It is asked before each group.
+    fn wants_count(&mut self) -> bool
+        ensures calls { calls self.new ≡ calls self.old }
+        ensures operated { operated self.new ≡ operated self.old };
+
+    /// Takes how many bytes the blocks have that no reference names.
+    fn take_count(&mut self, bytes: u64)
+        ensures calls { calls self.new ≡ calls self.old }
+        ensures operated { operated self.new ≡ operated self.old };
 }

@@ -3,7 +3,7 @@
 ghost use Rattle.std.specs.Prelude.{◌≡◌, Bool, IfSome};
 ghost use Rattle.bh_tables.specs.Typed.{Tables};
 ghost use Rattle.bh_storage.specs.Calls.{Clean, IsAtRest};
-ghost use Rattle.bh_connection.specs.Backups.{IsBackedUp};
+ghost use Rattle.bh_connection.specs.Backups.{IsBackedUp, unneeded_of};
 ghost use Rattle.bh_connection.specs.Connections.{IsTakenBack};
 
 use bh_storage::storage::Storage;
@@ -14,7 +14,7 @@ const BACKUP: &[u8] = b"backup";
 /// The reply if no backup was made, or if the host was lost over it.
 const FAULT: &[u8] = b"fault";
 
-/// A storage that can be copied to a new file.
+/// A storage that can be copied to a new file, and tells how many bytes nobody needs.
 pub trait BackUp: Storage {
     /// A copy.
     type Copy: Drop;
@@ -37,6 +37,16 @@ pub trait BackUp: Storage {
         ensures ready { Clean Self.IsIntact Self.IsOpen self.new → IsAtRest Self.IsSoundStore (Self.seen self.new) }
         ensures limits { (Self.seen self.new).limits ≡ (Self.seen self.old).limits }
         ensures copied { IfSome result (λ copy. Self.IsIntact self.new → shows copy (Self.seen self.old).now) };
+
+    /// How many bytes the blocks have that no reference names. `None` if memory or the store failed.
+    fn unneeded(&mut self) -> Option<u64>
+        requires { Clean Self.IsIntact Self.IsOpen self.old → IsAtRest Self.IsSoundStore (Self.seen self.old) }
+        ensures intact { Self.IsIntact self.new → Self.IsIntact self.old }
+        ensures stays { IsTakenBack Self.IsIntact Self.IsOpen Self.seen Self.left self.old self.new }
+        ensures ready { Clean Self.IsIntact Self.IsOpen self.new → IsAtRest Self.IsSoundStore (Self.seen self.new) }
+        ensures limits { (Self.seen self.new).limits ≡ (Self.seen self.old).limits }
+        ensures lost { lost self.new ≡ lost self.old }
+        ensures counted { IfSome result (λ n. Clean Self.IsIntact Self.IsOpen self.new → n ≡ unneeded_of (Self.seen self.old).now) };
 }
 
 /// Copies a storage, and returns the reply.

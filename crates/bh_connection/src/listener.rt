@@ -1,6 +1,7 @@
 ghost use Rattle.std.specs.Prelude.{◌≡◌, is_some, option_map};
 ghost use Rattle.bh_storage.specs.Calls.{Clean, IsAtRest};
 ghost use Rattle.bh_host.specs.Resting.{StaysAtRest};
+ghost use Rattle.bh_connection.specs.Connections.{IsTakenBack};
 ghost use Rattle.bh_connection.specs.Listening.{HasListened, WasLost, WasVisited, WereCounted, secret_of};
 ghost use Rattle.bh_connection.specs.Visits.{RanFor, secret_at};
 
@@ -161,7 +162,8 @@ pub fn serve_listener<E: Eprint + AllocGlobal, H: BackUp, C: Clock>(
 /// Serves `count` connections of an acceptor, in groups: one, or up to 64 clients' whose requests
 /// are whole at the same moment and share a transaction. A client's is served as a request, an
 /// operator's as a line, which begins with the secret if there is one. The clock is read after the
-/// first accept of a group, and its connections are closed before the next accept. A fault of an
+/// first accept of a group, and its connections are closed before the next accept. Before each group
+/// the acceptor is told how many bytes nobody needs, if it wants to know. A fault of an
 /// accept or of the clock ends it, and nothing is done after it. So does a backup over which the
 /// host is lost, once it was answered, and the first group with a reply for which the store is
 /// found shut: whoever opens the host again has all that was acknowledged. An operator's stop ends
@@ -183,6 +185,7 @@ pub fn serve_from<H: BackUp, A: Acceptor>(
 {
     let mut served: u64 = 0;
     'groups: while served < count {
+        tell_count(host, acceptor);
         let group = serve_group(alloc, routes, host, acceptor, secret, count - served)?;
         served += group.count;
         if group.stops {
@@ -196,4 +199,21 @@ pub fn serve_from<H: BackUp, A: Acceptor>(
         }
     }
     Ok(())
+}
+
+/// Tells an acceptor how many bytes nobody needs, if it wants to know. It isn't told if memory or the
+/// store failed: a store that is shut ends serving with the next reply.
+fn tell_count<H: BackUp, A: Acceptor>(host: &mut H, acceptor: &mut A)
+    requires { Clean H.IsIntact H.IsOpen host.old → IsAtRest H.IsSoundStore (H.seen host.old) }
+    ensures rest { StaysAtRest H.IsIntact H.IsOpen H.IsSoundStore H.seen H.left host.old host.new }
+    ensures stays { IsTakenBack H.IsIntact H.IsOpen H.seen H.left host.old host.new }
+    ensures lost { H.lost host.new ≡ H.lost host.old }
+    ensures calls { A.calls acceptor.new ≡ A.calls acceptor.old }
+    ensures operated { A.operated acceptor.new ≡ A.operated acceptor.old }
+{
+    if acceptor.wants_count() {
+        if let Some(bytes) = host.unneeded() {
+            acceptor.take_count(bytes);
+        }
+    }
 }

@@ -138,6 +138,13 @@ impl<'a, C: Clock, E: Eprint> Acceptor for Sockets<'a, C, E> {
         }
         let _ = self.current.try_replace(None);
     }
+
+    /// Nothing is swept here.
+    fn wants_count(&mut self) -> bool {
+        false
+    }
+
+    fn take_count(&mut self, bytes: u64) {}
 }
 
 impl<'a, C: Clock, E: Eprint> Sockets<'a, C, E> {

@@ -110,6 +110,10 @@ abbrev pub with_stamp : Figures → Option ℕ → Figures
 with_stamp it None = it
 with_stamp it (Some moment) = record it { stamp = Some moment }
 
+-- the bytes that nobody needs by the last count, and how many of them may stay
+abbrev pub with_garbage : Figures → ℕ → ℕ → Figures
+with_garbage it bytes keep = record it { garbage = Some bytes; keep = Some keep }
+
 -- ---- what was counted
 
 abbrev pub count_of : Figures → Method → Class → ℕ
@@ -138,4 +142,6 @@ none = record {
   steps = 0;
   swept = 0;
   stamp = None;
+  garbage = None;
+  keep = None;
 }

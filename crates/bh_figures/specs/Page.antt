@@ -79,11 +79,16 @@ sweeps it =
     counter (codes "sweep_steps_total") (codes "Steps of the server's own sweeps.") (decimal it.steps)
     ++ counter (codes "sweep_seconds_total") (codes "Time of these steps.") (seconds it.swept)
 
+unfoldable pub garbage : Figures → List ℕ
+garbage it =
+    gauge (codes "garbage_bytes") (codes "Bytes of blocks that no reference names, by the last count.") it.garbage
+    ++ gauge (codes "keep_garbage_bytes") (codes "Bytes of such blocks that may stay before a sweep begins.") it.keep
+
 unfoldable pub state : Figures → Sizes → List ℕ
 state it sizes =
     gauge (codes "last_stamp_seconds") (codes "The last timestamp since the start, in seconds since 1970.") it.stamp
     ++ (gauge (codes "file_bytes") (codes "Bytes of the host's file.") sizes.file
-    ++ gauge (codes "log_bytes") (codes "Bytes of its write-ahead log.") sizes.log)
+    ++ (gauge (codes "log_bytes") (codes "Bytes of its write-ahead log.") sizes.log ++ garbage it))
 
 abbrev pub page : Figures → Sizes → List ℕ
 page it sizes = requests it ++ (times it ++ (traffic it ++ (sweeps it ++ state it sizes)))

@@ -156,6 +156,9 @@ pub struct Figures {
     pub(crate) swept: u64,
     /// The last moment at which an event counted; `None` before the first one.
     pub(crate) stamp: Option<Moment>,
+    /// How many bytes nobody needs by the last count, and how many of them may stay; `None` before it.
+    pub(crate) garbage: Option<u64>,
+    pub(crate) keep: Option<u64>,
 }
 
 impl Figures {
@@ -173,6 +176,8 @@ impl Figures {
             steps: 0,
             swept: 0,
             stamp: None,
+            garbage: None,
+            keep: None,
         }
     }
 
@@ -223,6 +228,14 @@ impl Figures {
         if stamp.is_some() {
             self.stamp = stamp;
         }
+    }
+
+    /// Keeps how many bytes nobody needs, and how many of them may stay.
+    pub fn note_garbage(&mut self, bytes: u64, keep: u64)
+        ensures { self.new ≡ spec.with_garbage self.old bytes keep }
+    {
+        self.garbage = Some(bytes);
+        self.keep = Some(keep);
     }
 
     /// How many requests took at most so many milliseconds.

@@ -234,7 +234,7 @@ fn sweeps(alloc: Global, figures: &Figures) -> Result<String, AllocError>
     format!(in alloc; "{steps}{took}")
 }
 
-/// What the host is like: its last timestamp, and its files.
+/// What the host is like: its last timestamp, its files, and what may be swept.
 #[tactic(auto, unfolding(crate::specs::Page::state))]
 fn state(alloc: Global, figures: &Figures, sizes: Sizes) -> Result<String, AllocError>
     ensures { IfOk result (λ text. string_bytes text ≡ spec.state figures.now sizes) }
@@ -248,5 +248,18 @@ fn state(alloc: Global, figures: &Figures, sizes: Sizes) -> Result<String, Alloc
         "Bytes of its write-ahead log.",
         sizes.log,
     )?;
-    format!(in alloc; "{stamp}{file}{log}")
+    let garbage = garbage(alloc, figures)?;
+    format!(in alloc; "{stamp}{file}{log}{garbage}")
+}
+
+/// What may be swept, and how much of it may stay.
+#[tactic(auto, unfolding(crate::specs::Page::garbage))]
+fn garbage(alloc: Global, figures: &Figures) -> Result<String, AllocError>
+    ensures { IfOk result (λ text. string_bytes text ≡ spec.garbage figures.now) }
+{
+    let help = "Bytes of blocks that no reference names, by the last count.";
+    let bytes = gauge(alloc, "garbage_bytes", help, figures.garbage)?;
+    let help = "Bytes of such blocks that may stay before a sweep begins.";
+    let keep = gauge(alloc, "keep_garbage_bytes", help, figures.keep)?;
+    format!(in alloc; "{bytes}{keep}")
 }

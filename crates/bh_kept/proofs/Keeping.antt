@@ -13,6 +13,7 @@ use Rattle.bh_storage.specs.declared.error.Outcome.{Outcome}
 use Rattle.bh_storage.specs.declared.error.StepError.{StepError}
 use Rattle.bh_schema.specs.Storage as storage
 use Rattle.bh_schema.specs.declared.host.Digester as digester
+use Rattle.bh_connection.specs.Connections.{IsTakenBack}
 use Rattle.bh_dispatch.specs.Seeing as recalling
 use Rattle.bh_dispatch.specs.declared.recalling.RecallingStorage.{RecallingStorage}
 use Rattle.bh_dispatch.specs.Stored.{CutsBody}
@@ -43,6 +44,13 @@ module _ {D G K : Type 0} {g : Ghosts D} {d : digester.Ghosts G} {k : size.Ghost
     within = within_kept s.within;
     opens = both_kept (λ o n. Done (kept.IsOpen o → kept.IsIntact n → kept.IsOpen n)) s.opens;
     working = both_kept (λ o n. Done (kept.IsIntact n × kept.IsOpen n → IsWorking IsSound (kept.seen new.limits n))) s.working;
+  }
+
+  pub back_kept : IsTakenBack (λ (h : RecallingStorage (FileStore D g) G). storage.IsIntact over_files h.storage.host) (λ h. storage.IsOpen over_files h.storage.host) (λ h. recalling.seen over_files h) (λ h. storage.left over_files h.storage.host) a b
+      → IsTakenBack (λ (h : KeptHost D G K g d k). kept.IsIntact h.storage) (λ h. kept.IsOpen h.storage) (λ h. kept.seen h.limits h.storage) (λ h. kept.left h.storage) old new
+  back_kept t = record {
+    same = both_kept (λ o n. kept.IsIntact n → kept.IsOpen n → kept.IsOpen o × ((kept.seen new.limits n).now ≡ (kept.seen old.limits o).now)) t.same;
+    survives = both_kept (λ o n. kept.IsIntact n → (x : Tables) → kept.left n x → kept.left o x) t.survives;
   }
 
   -- what it says of the tables before it and after it

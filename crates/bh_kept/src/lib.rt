@@ -4,6 +4,7 @@
 
 mod closing;
 mod copying;
+mod counting;
 mod host;
 pub mod laws;
 mod storage;

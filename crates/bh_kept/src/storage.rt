@@ -10,6 +10,7 @@ ghost use Rattle.bh_kept.specs.Kept as kept;
 ghost use Rattle.bh_kept.specs.Cutting.{Cuts, KeepsTuning};
 
 use crate::copying::{CopiedHost, CopyFile, copy_and_open};
+use crate::counting::count;
 use crate::host::{BlockSize, KeptHost};
 use bh_cache::blocks::BlockCache;
 use bh_connection::BackUp;
@@ -220,5 +221,12 @@ impl<'a, D: Disk + Drop, G: Digester + Drop, K: BlockSize> BackUp for KeptHost<'
             memo: Memo::new(self.rt.alloc()),
         });
         copy
+    }
+
+    fn unneeded(&mut self) -> Option<u64> {
+        match &mut self.storage {
+            Some(it) => count(&mut it.storage.host.connection),
+            None => None,
+        }
     }
 }

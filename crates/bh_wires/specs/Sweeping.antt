@@ -1,6 +1,6 @@
 -- When a host that is served sweeps by itself.
-use Rattle.std.specs.Prelude.{◌≡◌, ℕ, ◌+◌, ◌*◌, ◌-◌, ◌^◌, ◌&&◌, ◌||◌, [], ◌++◌, Bool, true, false, List, codes, nat_eq, nat_lt, not}
-use Rattle.std.specs.Prelude.{max, min, Option, Some, None, if◌then◌else◌}
+use Rattle.std.specs.Prelude.{◌≡◌, ℕ, ◌+◌, ◌*◌, ◌-◌, ◌/◌, ◌&&◌, ◌||◌, [], ◌++◌, Bool, true, false, List, codes, nat_eq, nat_lt, not}
+use Rattle.std.specs.Prelude.{max, Option, Some, None, if◌then◌else◌, unwrap_or}
 use Rattle.std.specs.List.{starts_with, ends_with}
 use Rattle.std.specs.Io.Cursor.{cursor_inner, cursor_position}
 use Rattle.std.specs.declared.alloc.Global.{Global}
@@ -8,43 +8,67 @@ use Rattle.std.specs.declared.io.impls.Cursor.{Cursor}
 use Rattle.std.specs.declared.vec.Vec.{Vec}
 use Rattle.bh_wires.specs.declared.sweeping.Sweeping.{Sweeping}
 
--- a step is followed by none for 20 ms, and for four times as long as it took, or, while 64 MiB wait for
--- their sweep, for as long
+-- ---- what may stay
+
+-- the bytes of a file that are needed, at most: it has more if some of it is free
+abbrev pub needed_in : Option ℕ → ℕ → ℕ
+needed_in file unneeded = unwrap_or file 0 - unneeded
+
+-- of the bytes that nobody needs so many may stay as the operator said, or a tenth of those that are
+-- needed, or 64 MiB if that is more
+abbrev pub kept_of : Option ℕ → ℕ → ℕ
+kept_of (Some limit) needed = limit
+kept_of None needed = max 67108864 (needed / 10)
+
+-- more is there than may stay
+abbrev pub is_behind : Sweeping → Bool
+is_behind it = nat_lt it.keep it.unneeded
+
+-- ---- when a step is due
+
+-- a step is followed by none for 20 ms, and for four times as long as it took, or, while more is there
+-- than may stay, for as long
 abbrev pub times : Sweeping → ℕ
-times it = if nat_lt it.came 67108864 then 4 else 1
+times it = if is_behind it then 1 else 4
 
 abbrev pub has_rested : Sweeping → ℕ → Bool
 has_rested it now = not (nat_lt now (it.ended + max 20 (times it * it.took)))
 
--- something is known to be left, or was written: 64 MiB of it, or a minute ago
-abbrev pub is_wanted : Sweeping → ℕ → Bool
-is_wanted it now = it.is_partial || (it.has_changed && (not (nat_lt it.came 67108864) || not (nat_lt now (it.ended + 60000))))
+-- something is known to be left, or is more than may stay
+abbrev pub is_wanted : Sweeping → Bool
+is_wanted it = it.is_partial || is_behind it
 
 -- each hour there is one for uploads that expired
 abbrev pub is_due : Sweeping → ℕ → Bool
-is_due it now = has_rested it now && (is_wanted it now || not (nat_lt now (it.ended + 3600000)))
+is_due it now = has_rested it now && (is_wanted it || not (nat_lt now (it.ended + 3600000)))
 
--- a host that is served from now on: what an earlier server left is swept in a minute
-abbrev pub begun : ℕ → Sweeping
-begun now = record { came = 0; has_changed = true; is_partial = false; ended = now; took = 0 }
+-- ---- when it is counted what nobody needs
 
--- a request may write unless it begins as a GET or a HEAD
+-- so many were counted, when the file had so many bytes
+abbrev pub counted : Sweeping → ℕ → Option ℕ → Sweeping
+counted it bytes file = record it { unneeded = bytes; keep = kept_of it.limit (needed_in file bytes); is_asked = false }
+
+-- the same, whatever size the file had
+abbrev pub HasCounted : ℕ → Sweeping → Sweeping → Type 0
+HasCounted bytes before after = (file : Option ℕ) × (after ≡ counted before bytes file)
+
+-- of a host that is served from now on, which is counted before anything is served
+abbrev pub begun : Option ℕ → ℕ → Sweeping
+begun limit now = record { limit = limit; unneeded = 0; keep = 0; is_asked = true; is_partial = false; ended = now; took = 0 }
+
+-- it is counted again after a request that may write: one that doesn't begin as a GET or a HEAD
 abbrev pub may_write : List ℕ → Bool
 may_write first = not (starts_with nat_eq first (codes "GET ") || starts_with nat_eq first (codes "HEAD "))
 
--- the bytes of a request that may write count until the next complete sweep
-abbrev pub counted : Sweeping → List ℕ → ℕ → Sweeping
-counted it first bytes = if may_write first then record it { has_changed = true; came = min (it.came + bytes) (2 ^ 64 - 1) } else it
+abbrev pub changed : Sweeping → List ℕ → Sweeping
+changed it first = if may_write first then record it { is_asked = true } else it
 
--- a step ended, and left something by its reply, or nothing
-abbrev pub ended_at : Sweeping → ℕ → ℕ → List ℕ → Sweeping
-ended_at it began now reply = record it { ended = now; took = now - began; is_partial = ends_with nat_eq reply (codes " partial") }
-
--- after a complete sweep nothing was written
+-- and after a step, which left something by its reply, or nothing
 abbrev pub stepped : Sweeping → ℕ → ℕ → List ℕ → Sweeping
 stepped it began now reply =
-    if ends_with nat_eq reply (codes " complete") then record (ended_at it began now reply) { came = 0; has_changed = false }
-    else ended_at it began now reply
+    record it { ended = now; took = now - began; is_partial = ends_with nat_eq reply (codes " partial"); is_asked = true }
+
+-- ---- the host's own line
 
 -- a line begins with the secret and a space if there is one
 abbrev pub opening : Option (List ℕ) → List ℕ

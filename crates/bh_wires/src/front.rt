@@ -1,6 +1,6 @@
 //! A stage as what a server accepts connections of.
 
-ghost use Rattle.std.specs.Prelude.{◌≡◌, ⊤, true, false, Some, None, Ok, is_some, option_map, IfOk, IsSomeAnd};
+ghost use Rattle.std.specs.Prelude.{◌≡◌, ◌&&◌, ⊤, true, false, Some, None, Ok, is_some, option_map, IfOk, IsSomeAnd};
 ghost use Rattle.std.specs.String.{string_bytes};
 ghost use Rattle.bh_host.specs.declared.reply.Caller.TheVariants.{Operator, Request};
 ghost use Rattle.bh_stage.specs.Staged.{IsHanded, IsJoining};
@@ -11,7 +11,8 @@ ghost use Rattle.bh_wires.specs.Ends.{IsBrought};
 ghost use Rattle.bh_wires.specs.Pace.{taken_as, measured_by};
 ghost use Rattle.bh_figures.specs.Page.{page};
 ghost use Rattle.bh_figures.specs.declared.page.Sizes.{Sizes};
-ghost use Rattle.bh_wires.specs.Sweeping.{IsAgain};
+ghost use Rattle.bh_figures.specs.Figures.{with_garbage};
+ghost use Rattle.bh_wires.specs.Sweeping.{HasCounted, IsAgain};
 
 use crate::answers::{accepted_text, asked_of, health_text};
 use crate::brought::{Brought, Going, Replying};
@@ -20,6 +21,8 @@ use crate::pace::Pace;
 use crate::sweeping::{REPLY, Sweeping};
 use bh_connection::{Acceptor, Arrival, Clock, End, Served};
 use bh_event::order::Asked;
+use bh_figures::figures::Figures;
+use bh_figures::page::{Sizes, page_text};
 use bh_host::Caller;
 use bh_link::link::Link;
 use bh_stage::kept::Kept;
@@ -67,6 +70,8 @@ pub struct Terms<'a, C> {
     pub clock: &'a C,
     /// By how many seconds the clock may run ahead.
     pub clock_step: u64,
+    /// How many bytes that nobody needs may stay; `None` for a tenth of what is needed, or 64 MiB.
+    pub keep_garbage: Option<u64>,
     /// Whether there is a port for operators, and the secret that their lines begin with.
     pub has_operators: bool,
     pub secret: Option<&'a [u8]>,
@@ -116,6 +121,7 @@ impl<'a, W: Wires + Drop, C> Front<'a, W, C> {
         ensures operated { result.has_operators ≡ terms.entry.has_operators }
         ensures secret { result.secret ≡ terms.entry.secret }
         ensures sweep { result.sweep ≡ sweep }
+        ensures keeps { result.sweeping.limit ≡ terms.entry.keep_garbage }
     {
         let now = stage.wires().milliseconds();
         Front {
@@ -132,7 +138,7 @@ impl<'a, W: Wires + Drop, C> Front<'a, W, C> {
             since: now,
             may_join: false,
             figures: Figures::new(),
-            sweeping: Sweeping::new(now),
+            sweeping: Sweeping::new(terms.keep_garbage, now),
             sweep,
             began: None,
         }
@@ -279,7 +285,7 @@ impl<'a, W: Wires + Backing + Drop, C> Front<'a, W, C> {
     {
         let now = self.stage.wires().milliseconds();
         let (request, received) = (reader.first(), reader.size());
-        self.sweeping.count(request, received);
+        self.sweeping.note_request(request);
         match self.caller {
             Caller::Request => {
                 let took = now.saturating_sub(since);
@@ -466,6 +472,26 @@ impl<'a, W: Wires + Backing + Drop, C: Clock> Acceptor for Front<'a, W, C> {
             Brought::Own(line) => self.end_sweep(line, writer.first.as_slice()),
             Brought::Nobody => {}
         }
+    }
+
+    fn wants_count(&mut self) -> bool
+        ensures calls { ⊤ }
+        ensures operated { self.new.has_operators ≡ self.old.has_operators }
+        ensures wants { result ≡ self.old.has_operators && self.old.sweeping.is_asked }
+    {
+        self.has_operators && self.sweeping.is_asked
+    }
+
+    /// Takes how many bytes nobody needs, with the size of the host's file, which tells what is needed.
+    fn take_count(&mut self, bytes: u64)
+        ensures calls { ⊤ }
+        ensures operated { self.new.has_operators ≡ self.old.has_operators }
+        ensures counted { HasCounted bytes self.old.sweeping self.new.sweeping }
+        ensures figures { self.new.figures ≡ with_garbage self.old.figures bytes self.new.sweeping.keep }
+    {
+        let sizes = self.stage.wires().sizes();
+        self.sweeping.take_count(bytes, sizes.file);
+        self.figures.note_garbage(bytes, self.sweeping.keep);
     }
 }
 

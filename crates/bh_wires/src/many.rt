@@ -52,6 +52,9 @@ pub struct Places<'a> {
     /// By how many seconds the clock may run ahead of the machine's monotonic clock before a reading
     /// is refused.
     pub clock_step: u64,
+    /// How many bytes of blocks that no reference names may stay before a sweep begins; `None` for a
+    /// tenth of what is needed, or 64 MiB if that is more.
+    pub keep_garbage: Option<u64>,
 }
 
 /// Serves `count` requests and lines on ports of 127.0.0.1, or on Unix sockets in their place, from
@@ -103,6 +106,7 @@ fn front_on<'a, N: Net + Files<File = File> + AllocGlobal + Eprint, C: Clock>(
 ) -> io::Result<Front<'a, Sockets<'a, N, C>, C>>
     ensures operated { IfOk result (λ front. front.has_operators ≡ is_some ports.entry.operator) }
     ensures sweep { IfOk result (λ front. IsSomeAnd front.sweep (IsOwnLine (secret_of ports.entry))) }
+    ensures keeps { IfOk result (λ front. front.sweeping.limit ≡ places.entry.keep_garbage) }
 {
     let alloc = site.net.alloc();
     let measures = measures_for(site.net, manner, places.connections);
@@ -121,6 +125,7 @@ fn front_on<'a, N: Net + Files<File = File> + AllocGlobal + Eprint, C: Clock>(
         limits,
         clock: site.clock,
         clock_step: places.clock_step,
+        keep_garbage: places.keep_garbage,
         has_operators: ports.operator.is_some(),
         secret: secret(ports),
         is_logged: manner.is_logged,

@@ -10,13 +10,13 @@ use std::io::Cursor;
 /// The order of a step, which removes at most 256 expired uploads and blocks that nobody needs.
 const STEP: &[u8] = b"{\"op\":\"sweep\",\"limit\":256}\n";
 
-/// How many bytes come with requests that write until a sweep begins.
-const WRITTEN: u64 = 67_108_864;
+/// How many bytes that nobody needs may stay at least, where the operator didn't say.
+const LEAST: u64 = 67_108_864;
 
-/// How many milliseconds after the last step a sweep begins if something was written, and in any
-/// case.
-const SOON: u64 = 60_000;
+/// Into how many parts what is needed is divided, of which one may stay, if that is more.
+const PARTS: u64 = 10;
 
+/// How many milliseconds after the last step a sweep begins in any case.
 const SELDOM: u64 = 3_600_000;
 
 /// For how many milliseconds a step is followed by none, and for how many times as long as it took.
@@ -24,24 +24,25 @@ const REST: u64 = 20;
 
 const SHARE: u64 = 4;
 
-/// The same while enough came to begin a sweep: who writes fast would be faster than its steps.
+/// The same while more than may stay is there: who writes fast would be faster than the steps.
 const BEHIND: u64 = 1;
 
-/// How the reply to a step ends that left nothing, and to one that left something.
-const COMPLETE: &[u8] = b" complete";
-
+/// How the reply to a step ends that left something.
 const PARTIAL: &[u8] = b" partial";
 
 /// More bytes than the reply to a step has.
 pub(crate) const REPLY: usize = 128;
 
-/// What was written and swept. Times are those of a clock that doesn't go back, in milliseconds.
+/// What was counted and swept. Times are those of a clock that doesn't go back, in milliseconds.
 #[derive(Clone, Copy)]
 pub struct Sweeping {
-    /// How many bytes came with requests that may have written, since the last complete sweep.
-    pub came: u64,
-    /// Whether such a request came since then.
-    pub has_changed: bool,
+    /// How many bytes that nobody needs may stay, if the operator said so.
+    pub limit: Option<u64>,
+    /// How many there were at the last count, and how many may stay since then.
+    pub unneeded: u64,
+    pub keep: u64,
+    /// Whether there may be others by now.
+    pub is_asked: bool,
     /// Whether the last step left something to remove.
     pub is_partial: bool,
     /// When the last step ended, and how long it took.
@@ -50,13 +51,15 @@ pub struct Sweeping {
 }
 
 impl Sweeping {
-    /// Of a host that is served from now on. What an earlier server left is swept in a minute.
-    pub fn new(now: u64) -> Sweeping
-        ensures { result ≡ spec.begun now }
+    /// Of a host that is served from now on.
+    pub fn new(limit: Option<u64>, now: u64) -> Sweeping
+        ensures { result ≡ spec.begun limit now }
     {
         Sweeping {
-            came: 0,
-            has_changed: true,
+            limit,
+            unneeded: 0,
+            keep: 0,
+            is_asked: true,
             is_partial: false,
             ended: now,
             took: 0,
@@ -67,7 +70,7 @@ impl Sweeping {
     pub fn is_due(&self, now: u64) -> bool
         ensures { result ≡ spec.is_due self.now now }
     {
-        self.has_rested(now) && (self.is_wanted(now) || is_past(self.ended, SELDOM, now))
+        self.has_rested(now) && (self.is_wanted() || is_past(self.ended, SELDOM, now))
     }
 
     fn has_rested(&self, now: u64) -> bool
@@ -82,23 +85,37 @@ impl Sweeping {
     fn times(&self) -> u64
         ensures { result ≡ spec.times self.now }
     {
-        if self.came < WRITTEN { SHARE } else { BEHIND }
+        if self.is_behind() { BEHIND } else { SHARE }
     }
 
-    fn is_wanted(&self, now: u64) -> bool
-        ensures { result ≡ spec.is_wanted self.now now }
+    /// Whether more is there than may stay.
+    fn is_behind(&self) -> bool
+        ensures { result ≡ spec.is_behind self.now }
     {
-        let is_much = self.came >= WRITTEN || is_past(self.ended, SOON, now);
-        self.is_partial || (self.has_changed && is_much)
+        self.keep < self.unneeded
     }
 
-    /// A request was served, of which these are the first bytes, and so many came.
-    pub fn count(&mut self, first: &[u8], bytes: u64)
-        ensures { self.new ≡ spec.counted self.old first.now bytes }
+    fn is_wanted(&self) -> bool
+        ensures { result ≡ spec.is_wanted self.now }
+    {
+        self.is_partial || self.is_behind()
+    }
+
+    /// So many bytes were counted that nobody needs, when the host's file had so many.
+    pub fn take_count(&mut self, bytes: u64, file: Option<u64>)
+        ensures { self.new ≡ spec.counted self.old bytes file }
+    {
+        self.unneeded = bytes;
+        self.keep = kept_of(self.limit, needed_in(file, bytes));
+        self.is_asked = false;
+    }
+
+    /// A request was served, of which these are the first bytes.
+    pub fn note_request(&mut self, first: &[u8])
+        ensures { self.new ≡ spec.changed self.old first.now }
     {
         if !first.starts_with(b"GET ") && !first.starts_with(b"HEAD ") {
-            self.has_changed = true;
-            self.came = self.came.saturating_add(bytes);
+            self.is_asked = true;
         }
     }
 
@@ -109,10 +126,24 @@ impl Sweeping {
         self.ended = now;
         self.took = now.saturating_sub(began);
         self.is_partial = reply.ends_with(PARTIAL);
-        if reply.ends_with(COMPLETE) {
-            self.came = 0;
-            self.has_changed = false;
-        }
+        self.is_asked = true;
+    }
+}
+
+/// How many bytes of a file are needed, at most. It has more if some of it is free.
+fn needed_in(file: Option<u64>, unneeded: u64) -> u64
+    ensures { result ≡ spec.needed_in file unneeded }
+{
+    file.unwrap_or(0).saturating_sub(unneeded)
+}
+
+/// How many bytes that nobody needs may stay beside so many that are needed.
+fn kept_of(limit: Option<u64>, needed: u64) -> u64
+    ensures { result ≡ spec.kept_of limit needed }
+{
+    match limit {
+        Some(limit) => limit,
+        None => LEAST.max(needed / PARTS),
     }
 }
 

@@ -5,7 +5,7 @@ use Rattle.bh_http.proofs.TransferLemmas.{logs_then}
 use Rattle.bh_host.proofs.Resting.{stays_here, stays_then}
 use Rattle.bh_connection.specs.Groups.{calls_of, in_groups}
 use Rattle.bh_connection.specs.Listening.{HasServedAll}
-use Rattle.bh_connection.proofs.ListeningLemmas.{count_more, open_more, none_more, stopped_by, none_come, more_come, ran_for, at_err}
+use Rattle.bh_connection.proofs.ListeningLemmas.{count_more, open_more, none_more, stopped_by, none_come, come_still, more_come, ran_for, at_err}
 use Rattle.bh_connection.proofs.listener.serve_from.Goals as goal
 
 pub groups-init : goal.groups-init
@@ -23,10 +23,11 @@ groups-preserved g c =
     let one = c.serve_group.ensures in
     let (groups, count, going, none, come) = so_far.listened in
     let (group, is) = c.in_ok-group.ensures.comes in
-    let next = more_come g.H.Storage.IsIntact g.H.Storage.IsOpen g.H.Storage.seen g.H.Storage.left g.H.BackUp.shows _ _ _ _ _ _ groups group _ _ _ _ so_far.operated one.stays.intact so_far.stays.limits come is in
+    let now = come_still g.H.Storage.IsIntact g.H.Storage.IsOpen g.H.Storage.seen g.H.Storage.left g.H.BackUp.shows _ _ _ _ _ groups _ _ _ c.tell_count.ensures.rest.intact c.tell_count.ensures.stays c.tell_count.ensures.calls come in
+    let next = more_come g.H.Storage.IsIntact g.H.Storage.IsOpen g.H.Storage.seen g.H.Storage.left g.H.BackUp.shows _ _ _ _ _ _ groups group _ _ _ _ (c.tell_count.ensures.operated ∙ so_far.operated) one.stays.intact (c.tell_count.ensures.rest.limits ∙ so_far.stays.limits) now is in
     record {
-      stays = stays_then so_far.stays one.stays;
-      operated = one.operated ∙ so_far.operated;
+      stays = stays_then (stays_then so_far.stays c.tell_count.ensures.rest) one.stays;
+      operated = one.operated ∙ c.tell_count.ensures.operated ∙ so_far.operated;
       alive = λ _. sym c.is_lost.ensures ∙ c.if-is_lost.false;
       within = omega (arith, c.in_ok-group.ensures.most, c.groups-test.true);
       listened = (
@@ -46,11 +47,12 @@ returns-then-group-clause-ran g c = λ intact.
     let one = c.serve_group.ensures in
     let (groups, count, going, none, come) = so_far.listened in
     let (group, is) = c.in_ok-group.ensures.comes in
-    let next = more_come g.H.Storage.IsIntact g.H.Storage.IsOpen g.H.Storage.seen g.H.Storage.left g.H.BackUp.shows _ _ _ _ _ _ groups group _ _ _ _ so_far.operated one.stays.intact so_far.stays.limits come is in
+    let now = come_still g.H.Storage.IsIntact g.H.Storage.IsOpen g.H.Storage.seen g.H.Storage.left g.H.BackUp.shows _ _ _ _ _ groups _ _ _ c.tell_count.ensures.rest.intact c.tell_count.ensures.stays c.tell_count.ensures.calls come in
+    let next = more_come g.H.Storage.IsIntact g.H.Storage.IsOpen g.H.Storage.seen g.H.Storage.left g.H.BackUp.shows _ _ _ _ _ _ groups group _ _ _ _ (c.tell_count.ensures.operated ∙ so_far.operated) one.stays.intact (c.tell_count.ensures.rest.limits ∙ so_far.stays.limits) now is in
     ran_for g.H.Storage.IsIntact g.H.Storage.IsOpen g.H.Storage.seen g.H.Storage.left g.H.BackUp.shows _ _ _ _ _ intact next.admitted next.served
 
 pub returns-then-group-clause-stays : goal.returns-then-group-clause-stays
-returns-then-group-clause-stays g c = stays_then c.groups.invariant.stays c.serve_group.ensures.stays
+returns-then-group-clause-stays g c = stays_then (stays_then c.groups.invariant.stays c.tell_count.ensures.rest) c.serve_group.ensures.stays
 
 pub returns-then-group-clause-listened : goal.returns-then-group-clause-listened
 returns-then-group-clause-listened g c =
@@ -58,14 +60,16 @@ returns-then-group-clause-listened g c =
     let one = c.serve_group.ensures in
     let (groups, count, going, none, come) = so_far.listened in
     let (group, is) = c.in_ok-group.ensures.comes in
-    let next = more_come g.H.Storage.IsIntact g.H.Storage.IsOpen g.H.Storage.seen g.H.Storage.left g.H.BackUp.shows _ _ _ _ _ _ groups group _ _ _ _ so_far.operated one.stays.intact so_far.stays.limits come is in
+    let now = come_still g.H.Storage.IsIntact g.H.Storage.IsOpen g.H.Storage.seen g.H.Storage.left g.H.BackUp.shows _ _ _ _ _ groups _ _ _ c.tell_count.ensures.rest.intact c.tell_count.ensures.stays c.tell_count.ensures.calls come in
+    let next = more_come g.H.Storage.IsIntact g.H.Storage.IsOpen g.H.Storage.seen g.H.Storage.left g.H.BackUp.shows _ _ _ _ _ _ groups group _ _ _ _ (c.tell_count.ensures.operated ∙ so_far.operated) one.stays.intact (c.tell_count.ensures.rest.limits ∙ so_far.stays.limits) now is in
     (groups ++ group ∷ [], next.each, next.served, next.admitted, (inr (omega (arith, count, is.count, c.in_ok-group.ensures.most, c.groups-test.true, count_more groups group), stopped_by groups group none (is.stopped c.if-group.true).0), open_more groups group going (is.stopped c.if-group.true).1, next.calls))
 
 pub returns-then-group-clause-lost : goal.returns-then-group-clause-lost
-returns-then-group-clause-lost g c = λ was now.
+returns-then-group-clause-lost g c = λ was gone.
     let (groups, count, going, none, come) = c.groups.invariant.listened in
+    let now = come_still g.H.Storage.IsIntact g.H.Storage.IsOpen g.H.Storage.seen g.H.Storage.left g.H.BackUp.shows _ _ _ _ _ groups _ _ _ c.tell_count.ensures.rest.intact c.tell_count.ensures.stays c.tell_count.ensures.calls come in
     let (group, is) = c.in_ok-group.ensures.comes in
-    (in_groups groups, c.groups.host, group, come.served, is.did)
+    (in_groups groups, c.tell_count.new.host, group, now.served, is.did)
 
 -- a backup over which the host is lost
 
@@ -75,11 +79,12 @@ returns-then-is_lost-clause-ran g c = λ intact.
     let one = c.serve_group.ensures in
     let (groups, count, going, none, come) = so_far.listened in
     let (group, is) = c.in_ok-group.ensures.comes in
-    let next = more_come g.H.Storage.IsIntact g.H.Storage.IsOpen g.H.Storage.seen g.H.Storage.left g.H.BackUp.shows _ _ _ _ _ _ groups group _ _ _ _ so_far.operated one.stays.intact so_far.stays.limits come is in
+    let now = come_still g.H.Storage.IsIntact g.H.Storage.IsOpen g.H.Storage.seen g.H.Storage.left g.H.BackUp.shows _ _ _ _ _ groups _ _ _ c.tell_count.ensures.rest.intact c.tell_count.ensures.stays c.tell_count.ensures.calls come in
+    let next = more_come g.H.Storage.IsIntact g.H.Storage.IsOpen g.H.Storage.seen g.H.Storage.left g.H.BackUp.shows _ _ _ _ _ _ groups group _ _ _ _ (c.tell_count.ensures.operated ∙ so_far.operated) one.stays.intact (c.tell_count.ensures.rest.limits ∙ so_far.stays.limits) now is in
     ran_for g.H.Storage.IsIntact g.H.Storage.IsOpen g.H.Storage.seen g.H.Storage.left g.H.BackUp.shows _ _ _ _ _ intact next.admitted next.served
 
 pub returns-then-is_lost-clause-stays : goal.returns-then-is_lost-clause-stays
-returns-then-is_lost-clause-stays g c = stays_then c.groups.invariant.stays c.serve_group.ensures.stays
+returns-then-is_lost-clause-stays g c = stays_then (stays_then c.groups.invariant.stays c.tell_count.ensures.rest) c.serve_group.ensures.stays
 
 pub returns-then-is_lost-clause-listened : goal.returns-then-is_lost-clause-listened
 returns-then-is_lost-clause-listened g c =
@@ -87,14 +92,16 @@ returns-then-is_lost-clause-listened g c =
     let one = c.serve_group.ensures in
     let (groups, count, going, none, come) = so_far.listened in
     let (group, is) = c.in_ok-group.ensures.comes in
-    let next = more_come g.H.Storage.IsIntact g.H.Storage.IsOpen g.H.Storage.seen g.H.Storage.left g.H.BackUp.shows _ _ _ _ _ _ groups group _ _ _ _ so_far.operated one.stays.intact so_far.stays.limits come is in
+    let now = come_still g.H.Storage.IsIntact g.H.Storage.IsOpen g.H.Storage.seen g.H.Storage.left g.H.BackUp.shows _ _ _ _ _ groups _ _ _ c.tell_count.ensures.rest.intact c.tell_count.ensures.stays c.tell_count.ensures.calls come in
+    let next = more_come g.H.Storage.IsIntact g.H.Storage.IsOpen g.H.Storage.seen g.H.Storage.left g.H.BackUp.shows _ _ _ _ _ _ groups group _ _ _ _ (c.tell_count.ensures.operated ∙ so_far.operated) one.stays.intact (c.tell_count.ensures.rest.limits ∙ so_far.stays.limits) now is in
     (groups ++ group ∷ [], next.each, next.served, next.admitted, (none_more groups group none (is.going c.if-group.false), inr (record { before = groups; last = group; all = refl; going = going; why = inl (sym c.is_lost.ensures ∙ c.if-is_lost.true) }, omega (arith, count, is.count, c.in_ok-group.ensures.most, c.groups-test.true, count_more groups group), next.calls)))
 
 pub returns-then-is_lost-clause-lost : goal.returns-then-is_lost-clause-lost
-returns-then-is_lost-clause-lost g c = λ was now.
+returns-then-is_lost-clause-lost g c = λ was gone.
     let (groups, count, going, none, come) = c.groups.invariant.listened in
+    let now = come_still g.H.Storage.IsIntact g.H.Storage.IsOpen g.H.Storage.seen g.H.Storage.left g.H.BackUp.shows _ _ _ _ _ groups _ _ _ c.tell_count.ensures.rest.intact c.tell_count.ensures.stays c.tell_count.ensures.calls come in
     let (group, is) = c.in_ok-group.ensures.comes in
-    (in_groups groups, c.groups.host, group, come.served, is.did)
+    (in_groups groups, c.tell_count.new.host, group, now.served, is.did)
 
 -- a store that is shut
 
@@ -104,11 +111,12 @@ returns-then-group-2-clause-ran g c = λ intact.
     let one = c.serve_group.ensures in
     let (groups, count, going, none, come) = so_far.listened in
     let (group, is) = c.in_ok-group.ensures.comes in
-    let next = more_come g.H.Storage.IsIntact g.H.Storage.IsOpen g.H.Storage.seen g.H.Storage.left g.H.BackUp.shows _ _ _ _ _ _ groups group _ _ _ _ so_far.operated one.stays.intact so_far.stays.limits come is in
+    let now = come_still g.H.Storage.IsIntact g.H.Storage.IsOpen g.H.Storage.seen g.H.Storage.left g.H.BackUp.shows _ _ _ _ _ groups _ _ _ c.tell_count.ensures.rest.intact c.tell_count.ensures.stays c.tell_count.ensures.calls come in
+    let next = more_come g.H.Storage.IsIntact g.H.Storage.IsOpen g.H.Storage.seen g.H.Storage.left g.H.BackUp.shows _ _ _ _ _ _ groups group _ _ _ _ (c.tell_count.ensures.operated ∙ so_far.operated) one.stays.intact (c.tell_count.ensures.rest.limits ∙ so_far.stays.limits) now is in
     ran_for g.H.Storage.IsIntact g.H.Storage.IsOpen g.H.Storage.seen g.H.Storage.left g.H.BackUp.shows _ _ _ _ _ intact next.admitted next.served
 
 pub returns-then-group-2-clause-stays : goal.returns-then-group-2-clause-stays
-returns-then-group-2-clause-stays g c = stays_then c.groups.invariant.stays c.serve_group.ensures.stays
+returns-then-group-2-clause-stays g c = stays_then (stays_then c.groups.invariant.stays c.tell_count.ensures.rest) c.serve_group.ensures.stays
 
 pub returns-then-group-2-clause-listened : goal.returns-then-group-2-clause-listened
 returns-then-group-2-clause-listened g c =
@@ -116,7 +124,8 @@ returns-then-group-2-clause-listened g c =
     let one = c.serve_group.ensures in
     let (groups, count, going, none, come) = so_far.listened in
     let (group, is) = c.in_ok-group.ensures.comes in
-    let next = more_come g.H.Storage.IsIntact g.H.Storage.IsOpen g.H.Storage.seen g.H.Storage.left g.H.BackUp.shows _ _ _ _ _ _ groups group _ _ _ _ so_far.operated one.stays.intact so_far.stays.limits come is in
+    let now = come_still g.H.Storage.IsIntact g.H.Storage.IsOpen g.H.Storage.seen g.H.Storage.left g.H.BackUp.shows _ _ _ _ _ groups _ _ _ c.tell_count.ensures.rest.intact c.tell_count.ensures.stays c.tell_count.ensures.calls come in
+    let next = more_come g.H.Storage.IsIntact g.H.Storage.IsOpen g.H.Storage.seen g.H.Storage.left g.H.BackUp.shows _ _ _ _ _ _ groups group _ _ _ _ (c.tell_count.ensures.operated ∙ so_far.operated) one.stays.intact (c.tell_count.ensures.rest.limits ∙ so_far.stays.limits) now is in
     (groups ++ group ∷ [], next.each, next.served, next.admitted, (none_more groups group none (is.going c.if-group.false), inr (record { before = groups; last = group; all = refl; going = going; why = inr (is.shut c.if-group-2.true) }, omega (arith, count, is.count, c.in_ok-group.ensures.most, c.groups-test.true, count_more groups group), next.calls)))
 
 pub returns-then-group-2-clause-lost : goal.returns-then-group-2-clause-lost
@@ -127,28 +136,30 @@ returns-then-group-2-clause-lost g c = λ was now. absurd (false≢true (sym (sy
 pub returns-in_err-group-clause-ran : goal.returns-in_err-group-clause-ran
 returns-in_err-group-clause-ran g c = λ intact.
     let (groups, count, going, none, come) = c.groups.invariant.listened in
+    let now = come_still g.H.Storage.IsIntact g.H.Storage.IsOpen g.H.Storage.seen g.H.Storage.left g.H.BackUp.shows _ _ _ _ _ groups _ _ _ c.tell_count.ensures.rest.intact c.tell_count.ensures.stays c.tell_count.ensures.calls come in
     let (fault, is) = c.in_err-group.ensures.comes in
-    ran_for g.H.Storage.IsIntact g.H.Storage.IsOpen g.H.Storage.seen g.H.Storage.left g.H.BackUp.shows _ _ _ _ _ intact come.admitted
-    (subst (λ x. HasServedAll g.H.Storage.IsIntact g.H.Storage.IsOpen g.H.Storage.seen g.H.Storage.left (option_map (λ s. s.now) c.args.secret) (in_groups groups) c.args.host.now x) (sym is.same) come.served)
+    ran_for g.H.Storage.IsIntact g.H.Storage.IsOpen g.H.Storage.seen g.H.Storage.left g.H.BackUp.shows _ _ _ _ _ intact now.admitted
+    (subst (λ x. HasServedAll g.H.Storage.IsIntact g.H.Storage.IsOpen g.H.Storage.seen g.H.Storage.left (option_map (λ s. s.now) c.args.secret) (in_groups groups) c.args.host.now x) (sym is.same) now.served)
 
 pub returns-in_err-group-clause-listened : goal.returns-in_err-group-clause-listened
 returns-in_err-group-clause-listened g c =
     let (groups, count, going, none, come) = c.groups.invariant.listened in
+    let now = come_still g.H.Storage.IsIntact g.H.Storage.IsOpen g.H.Storage.seen g.H.Storage.left g.H.BackUp.shows _ _ _ _ _ groups _ _ _ c.tell_count.ensures.rest.intact c.tell_count.ensures.stays c.tell_count.ensures.calls come in
     let (fault, is) = c.in_err-group.ensures.comes in (
       groups,
-      come.each,
-      subst (λ x. HasServedAll g.H.Storage.IsIntact g.H.Storage.IsOpen g.H.Storage.seen g.H.Storage.left (option_map (λ s. s.now) c.args.secret) (in_groups groups) c.args.host.now x) (sym is.same) come.served,
-      come.admitted,
-      at_err c.from_residual.result _ c.from_residual.ensures.0 (none, inl (omega (arith, count, c.groups-test.true), going, (fault, is.which, logs_then _ _ _ (flat_map calls_of groups) fault come.calls is.calls))),
+      now.each,
+      subst (λ x. HasServedAll g.H.Storage.IsIntact g.H.Storage.IsOpen g.H.Storage.seen g.H.Storage.left (option_map (λ s. s.now) c.args.secret) (in_groups groups) c.args.host.now x) (sym is.same) now.served,
+      now.admitted,
+      at_err c.from_residual.result _ c.from_residual.ensures.0 (none, inl (omega (arith, count, c.groups-test.true), going, (fault, is.which, logs_then _ _ _ (flat_map calls_of groups) fault now.calls is.calls))),
     )
 
 pub returns-in_err-group-clause-stays : goal.returns-in_err-group-clause-stays
-returns-in_err-group-clause-stays g c = stays_then c.groups.invariant.stays c.serve_group.ensures.stays
+returns-in_err-group-clause-stays g c = stays_then (stays_then c.groups.invariant.stays c.tell_count.ensures.rest) c.serve_group.ensures.stays
 
 pub returns-in_err-group-clause-lost : goal.returns-in_err-group-clause-lost
 returns-in_err-group-clause-lost g c = λ was now.
     let (fault, is) = c.in_err-group.ensures.comes in
-    absurd (false≢true (sym (c.groups.invariant.alive was) ∙ ap g.H.BackUp.lost (sym is.same) ∙ now))
+    absurd (false≢true (sym (c.groups.invariant.alive was) ∙ sym c.tell_count.ensures.lost ∙ ap g.H.BackUp.lost (sym is.same) ∙ now))
 
 -- all
 

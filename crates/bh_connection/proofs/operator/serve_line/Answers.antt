@@ -1,10 +1,10 @@
-use Rattle.std.proofs.Common.{◌≡◌, Option, Some, None, refl, ap, sym, subst, ◌∙◌, option_map}
+use Rattle.std.proofs.Common.{◌≡◌, Some, None, refl, ap, ◌∙◌, option_map}
 use Rattle.std.specs.Prelude.{is_some}
 use Rattle.bh_host.specs.Replies.{reply_bytes, wanting_text}
 use Rattle.bh_host.specs.declared.reply.Caller.TheVariants.{Operator}
 use Rattle.bh_event.specs.Events.{Arrival, arrival}
-use Rattle.bh_event.specs.Orders.{Instruction, ToDo}
-use Rattle.bh_connection.specs.Operators.{TookOrder, bad_line}
+use Rattle.bh_event.specs.Orders.{ToDo}
+use Rattle.bh_connection.specs.Operators.{bad_line}
 use Rattle.bh_connection.proofs.OperatorLemmas.{obeyed, copied, stopping, not_ordered, not_heard}
 use Rattle.bh_connection.proofs.operator.serve_line.Goals as goal
 
@@ -13,13 +13,11 @@ returns-in-Ok-Some-Host-clause-ordered g c =
     let (taken, took, gave) = rw (c.in-Ok-Some-Host.field-0-is, c.in-Ok-Some-Host.field-0-0-is) at c.in-Ok-Some-Host.ensures.took in
     let event = arrival c.at-event.result in
     let reads : event.reading ≡ c.args.reading = ap (λ (e : Arrival). e.reading) c.at-event.ensures in
-    let asks = ap (λ (e : Arrival). Some (ToDo e.message)) c.at-event.ensures in
-    let secret = option_map (λ s. s.now) c.args.secret in
     let done = c.apply-told.ensures in
     let sent = c.answer_line.ensures in
     rw c.going_on.ensures.served (obeyed g.H.Storage.IsIntact g.H.Storage.IsOpen g.H.Storage.seen g.H.Storage.left g.H.BackUp.shows (option_map (λ s. s.now) c.args.secret) _ _ c.answer_line.result c.going_on.result.stops taken
-    (reply_bytes c.apply-told.result.reply) event c.apply-told.result.stamp _ _
-    reads (subst (λ (o : Option Instruction). TookOrder secret _ _ taken o) (sym asks) took) gave c.in-Ok-Some-Host.ensures.going
+    (reply_bytes c.apply-told.result.reply) _ event c.apply-told.result.stamp _ _
+    reads (ap (λ (e : Arrival). Some (ToDo e.message)) c.at-event.ensures) took gave c.in-Ok-Some-Host.ensures.going
     (record { applied = done.applied; told_apart = done.told_apart; acknowledged = done.acknowledged; crash = done.crash })
     sent.stamp (rw c.bytes.ensures at sent.out) (rw c.bytes.ensures at sent.took) (rw c.bytes.ensures at sent.ended)
     (ap is_some (sent.trouble ∙ c.trouble.ensures) ∙ done.noted) c.going_on.ensures.stops)
