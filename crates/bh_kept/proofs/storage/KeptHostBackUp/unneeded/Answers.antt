@@ -5,6 +5,7 @@ use Rattle.bh_view.specs.Bodies.{IsSoundHost}
 use Rattle.bh_storage.specs.Calls.{Seen, IsAtRest}
 use Rattle.bh_memo.proofs.Recalling.{same_limits}
 use Rattle.bh_schema.specs.Garbage.{garbage_in}
+use Rattle.bh_schema.specs.Storage.{beside, seen_in}
 use Rattle.bh_schema.proofs.Storing.{both, parts, left_less, beside_limits}
 use Rattle.bh_connection.specs.Backups.{unneeded_of}
 use Rattle.bh_kept.specs.Kept as kept
@@ -49,7 +50,9 @@ pub returns-in-Some-clause-limits : goal.returns-in-Some-clause-limits
 returns-in-Some-clause-limits g c =
     let it = c.in-Some.it in
     let host = it.storage.host in
-    let same = same_limits it.memo _ ∙ beside_limits host.cache host.cache host.limits (state over_files host.connection) (state over_files c.count.new.connection) ∙ sym (same_limits it.memo _) in
+    let old = state over_files host.connection in
+    let new = state over_files c.count.new.connection in
+    let same = same_limits it.memo (beside host.cache (seen_in host.limits new)) ∙ beside_limits host.cache host.cache host.limits old new ∙ sym (same_limits it.memo (beside host.cache (seen_in host.limits old))) in
     same ∙ ap (λ o. (kept.seen c.args.self.now.limits o).limits) (sym c.in-Some.is)
 
 pub returns-in-Some-clause-lost : goal.returns-in-Some-clause-lost
