@@ -84,11 +84,16 @@ garbage it =
     gauge (codes "garbage_bytes") (codes "Bytes of blocks that no reference names, by the last count.") it.garbage
     ++ gauge (codes "keep_garbage_bytes") (codes "Bytes of such blocks that may stay before a sweep begins.") it.keep
 
+unfoldable pub cache : Figures → List ℕ
+cache it =
+    counter (codes "cache_hits_total") (codes "Blocks that were read from the cache.") (decimal it.hits)
+    ++ counter (codes "cache_misses_total") (codes "Blocks that were read from their rows, to be cached.") (decimal it.misses)
+
 unfoldable pub state : Figures → Sizes → List ℕ
 state it sizes =
     gauge (codes "last_stamp_seconds") (codes "The last timestamp since the start, in seconds since 1970.") it.stamp
     ++ (gauge (codes "file_bytes") (codes "Bytes of the host's file.") sizes.file
-    ++ (gauge (codes "log_bytes") (codes "Bytes of its write-ahead log.") sizes.log ++ garbage it))
+    ++ (gauge (codes "log_bytes") (codes "Bytes of its write-ahead log.") sizes.log ++ (garbage it ++ cache it)))
 
 abbrev pub page : Figures → Sizes → List ℕ
 page it sizes = requests it ++ (times it ++ (traffic it ++ (sweeps it ++ state it sizes)))

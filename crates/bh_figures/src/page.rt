@@ -234,7 +234,7 @@ fn sweeps(alloc: Global, figures: &Figures) -> Result<String, AllocError>
     format!(in alloc; "{steps}{took}")
 }
 
-/// What the host is like: its last timestamp, its files, and what may be swept.
+/// What the host is like: its last timestamp, its files, what may be swept, and how its cache is used.
 #[tactic(auto, unfolding(crate::specs::Page::state))]
 fn state(alloc: Global, figures: &Figures, sizes: Sizes) -> Result<String, AllocError>
     ensures { IfOk result (λ text. string_bytes text ≡ spec.state figures.now sizes) }
@@ -249,7 +249,20 @@ fn state(alloc: Global, figures: &Figures, sizes: Sizes) -> Result<String, Alloc
         sizes.log,
     )?;
     let garbage = garbage(alloc, figures)?;
-    format!(in alloc; "{stamp}{file}{log}{garbage}")
+    let cache = cache(alloc, figures)?;
+    format!(in alloc; "{stamp}{file}{log}{garbage}{cache}")
+}
+
+/// How its cache of blocks is used.
+#[tactic(auto, unfolding(crate::specs::Page::cache))]
+fn cache(alloc: Global, figures: &Figures) -> Result<String, AllocError>
+    ensures { IfOk result (λ text. string_bytes text ≡ spec.cache figures.now) }
+{
+    let help = "Blocks that were read from the cache.";
+    let hits = counter(alloc, "cache_hits_total", help, figures.hits)?;
+    let help = "Blocks that were read from their rows, to be cached.";
+    let misses = counter(alloc, "cache_misses_total", help, figures.misses)?;
+    format!(in alloc; "{hits}{misses}")
 }
 
 /// What may be swept, and how much of it may stay.

@@ -11,7 +11,7 @@ ghost use Rattle.bh_wires.specs.Ends.{IsBrought};
 ghost use Rattle.bh_wires.specs.Pace.{taken_as, measured_by};
 ghost use Rattle.bh_figures.specs.Page.{page};
 ghost use Rattle.bh_figures.specs.declared.page.Sizes.{Sizes};
-ghost use Rattle.bh_figures.specs.Figures.{with_garbage};
+ghost use Rattle.bh_figures.specs.Figures.{with_cache, with_garbage};
 ghost use Rattle.bh_wires.specs.Sweeping.{HasCounted, IsAgain};
 
 use crate::answers::{accepted_text, asked_of, health_text};
@@ -19,7 +19,7 @@ use crate::brought::{Brought, Going, Replying};
 use crate::log::{ClockNews, Entry, Note, note_of};
 use crate::pace::Pace;
 use crate::sweeping::{REPLY, Sweeping};
-use bh_connection::{Acceptor, Arrival, Clock, End, Served};
+use bh_connection::{Acceptor, Arrival, CacheUses, Clock, End, Served};
 use bh_event::order::Asked;
 use bh_figures::figures::Figures;
 use bh_figures::page::{Sizes, page_text};
@@ -480,6 +480,14 @@ impl<'a, W: Wires + Backing + Drop, C: Clock> Acceptor for Front<'a, W, C> {
         ensures wants { result ≡ self.old.has_operators && self.old.sweeping.is_asked }
     {
         self.has_operators && self.sweeping.is_asked
+    }
+
+    fn take_cache(&mut self, uses: CacheUses)
+        ensures calls { ⊤ }
+        ensures operated { self.new.has_operators ≡ self.old.has_operators }
+        ensures figures { self.new.figures ≡ with_cache self.old.figures uses.hits uses.misses }
+    {
+        self.figures.note_cache(uses.hits, uses.misses);
     }
 
     /// Takes how many bytes nobody needs, with the size of the host's file, which tells what is needed.

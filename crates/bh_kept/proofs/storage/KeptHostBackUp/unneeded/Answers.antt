@@ -1,4 +1,4 @@
-use Rattle.std.proofs.Common.{◌≡◌, Some, IfSome, refl, sym, ap, subst, ◌∙◌}
+use Rattle.std.proofs.Common.{refl, sym, ap, subst, ◌∙◌}
 use Rattle.sqlite.specs.Files.{over_files}
 use Rattle.sqlite.specs.Held.{state}
 use Rattle.bh_view.specs.Bodies.{IsSoundHost}
@@ -27,11 +27,10 @@ pub returns-in-Some-clause-stays : goal.returns-in-Some-clause-stays
 returns-in-Some-clause-stays g c =
     let it = c.in-Some.it in
     let host = it.storage.host in
-    let now = record it { storage = record it.storage { host = record host { connection = c.count.new.connection } } } in
     let rest = subst (λ o. kept.IsIntact o × kept.IsOpen o → IsAtRest (IsSoundHost g.G.Digester.digest_of) (kept.seen c.args.self.now.limits o)) c.in-Some.is c.requires in
     let old = state over_files host.connection in
     let new = state over_files c.count.new.connection in
-    back_kept c.args.self.now (record c.args.self.now { storage = Some now }) it now c.in-Some.is refl (record {
+    back_kept c.args.self.now _ it _ c.in-Some.is refl (record {
       same = λ intact up.
           let before = parts (c.count.ensures.clean (both (intact, up))) in
           (before.1, ap (λ (s : Seen). s.now) (still it.memo host.cache host.limits old (rest before) new (c.count.ensures.back (both (intact, up)))));
