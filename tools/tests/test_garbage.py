@@ -258,9 +258,9 @@ def test_moved_tenant(expect, program, folder):
     """A tenant comes to a host that has one of its blocks, which nobody needed there; a copy of that host counts as much."""
     hosts = {name: make_host(program, os.path.join(folder, name), [tenant], "--min-part", "4") for name, tenant in (("first", "green"), ("second", "blue"))}
     for file, tenant in zip(hosts.values(), NAMES):
-        with Kept(program, file, MUCH, *SMALL) as it:
-            told = [it.ask(tenant, *request).status for request in (("PUT", "/plans"), ("PUT", "/plans/x", b"aaaabbbb"), ("PUT", "/plans/y", b"cccc"), ("DELETE", "/plans/x"))]
-            told += [it.ask(tenant, "PUT", "/plans/z", b"bbbbdddd").status] if tenant == "green" else []
+        with Kept(program, file, MUCH) as it:
+            told = [it.ask(tenant, "PUT", "/plans").status, *(it.ask(tenant, "PUT", f"/plans/{name}", name.encode() * 4).status for name in "abc")]
+            told += [it.ask(tenant, "DELETE", f"/plans/{name}").status for name in ("a" if tenant == "green" else "ab")]
             wanted = 4 if tenant == "green" else 8
             expect(f"what {tenant} left", set(told) <= {200, 204} and it.counts(wanted) == wanted, f"{told} {it.garbage()}")
     moved, copy = (os.path.join(folder, name) for name in ("moved", "copy"))
