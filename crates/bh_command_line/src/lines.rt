@@ -109,5 +109,6 @@ pub fn carry_out(
 {
     let line = read_words(rt.alloc(), words)?;
     let environment = environment?;
-    carry_line(rt, environment, line)
+    let printed = carry_line(rt, environment, line)?;
+    Ok(printed)
 }

@@ -4,6 +4,7 @@ ghost use Rattle.bh_connection.specs.Each.{IsGoing, ends};
 ghost use Rattle.bh_host.specs.declared.reply.Caller.TheVariants.{Operator};
 ghost use Rattle.bh_connection.specs.Groups.{Call, Accepted, NotAccepted, ToldReading, ToldNone, Opened, Closed, accepted_more};
 
+use crate::backup::CacheUses;
 use crate::each::Arrival;
 use crate::served::Served;
 use bh_host::Caller;
@@ -64,6 +65,11 @@ pub trait Acceptor {
 
     /// Whether it wants to know how many bytes nobody needs. It is asked before each group.
     fn wants_count(&mut self) -> bool
+        ensures calls { calls self.new ≡ calls self.old }
+        ensures operated { operated self.new ≡ operated self.old };
+
+    /// Takes how the cache of blocks was used.
+    fn take_cache(&mut self, uses: CacheUses)
         ensures calls { calls self.new ≡ calls self.old }
         ensures operated { operated self.new ≡ operated self.old };
 

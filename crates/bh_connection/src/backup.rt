@@ -14,6 +14,14 @@ const BACKUP: &[u8] = b"backup";
 /// The reply if no backup was made, or if the host was lost over it.
 const FAULT: &[u8] = b"fault";
 
+/// How many blocks a host read from its cache in memory, and how many from their rows, since it was
+/// opened. Nothing depends on it, and no contract speaks of it.
+#[derive(Clone, Copy)]
+pub struct CacheUses {
+    pub hits: u64,
+    pub misses: u64,
+}
+
 /// A storage that can be copied to a new file, and tells how many bytes nobody needs.
 pub trait BackUp: Storage {
     /// A copy.
@@ -27,6 +35,9 @@ pub trait BackUp: Storage {
 
     fn is_lost(&self) -> bool
         ensures { result ≡ lost self.now };
+
+    /// How its cache of blocks was used.
+    fn cache_uses(&self) -> CacheUses;
 
     /// Copies the committed tables to a new file of this name, and syncs it. `None` if the name is
     /// taken, the copy fails, or the storage can't be reopened: the cause is on standard error.

@@ -21,7 +21,7 @@ mod taking;
 mod together;
 
 pub use acceptor::Acceptor;
-pub use backup::BackUp;
+pub use backup::{BackUp, CacheUses};
 pub use clock::{Clock, MachineClock};
 pub use connection::serve_connection;
 pub use doors::{Doors, Operators};

@@ -201,8 +201,8 @@ pub fn serve_from<H: BackUp, A: Acceptor>(
     Ok(())
 }
 
-/// Tells an acceptor how many bytes nobody needs, if it wants to know. It isn't told if memory or the
-/// store failed: a store that is shut ends serving with the next reply.
+/// Tells an acceptor how the cache was used, and how many bytes nobody needs if it wants to know. It
+/// isn't told these if memory or the store failed: a store that is shut ends serving with the next reply.
 fn tell_count<H: BackUp, A: Acceptor>(host: &mut H, acceptor: &mut A)
     requires { Clean H.IsIntact H.IsOpen host.old → IsAtRest H.IsSoundStore (H.seen host.old) }
     ensures rest { StaysAtRest H.IsIntact H.IsOpen H.IsSoundStore H.seen H.left host.old host.new }
@@ -211,6 +211,7 @@ fn tell_count<H: BackUp, A: Acceptor>(host: &mut H, acceptor: &mut A)
     ensures calls { A.calls acceptor.new ≡ A.calls acceptor.old }
     ensures operated { A.operated acceptor.new ≡ A.operated acceptor.old }
 {
+    acceptor.take_cache(host.cache_uses());
     if acceptor.wants_count() {
         if let Some(bytes) = host.unneeded() {
             acceptor.take_count(bytes);

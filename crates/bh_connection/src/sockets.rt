@@ -2,6 +2,7 @@ ghost use Rattle.std.specs.Prelude.{◌≡◌, ⊤, true, is_some, IfOk};
 ghost use Rattle.bh_host.specs.declared.reply.Caller.TheVariants.{Operator};
 
 use crate::acceptor::Acceptor;
+use crate::backup::CacheUses;
 use crate::bounded::{Bounded, Current, Peer};
 use crate::clock::Clock;
 use crate::doors::{Doors, next_caller};
@@ -139,10 +140,12 @@ impl<'a, C: Clock, E: Eprint> Acceptor for Sockets<'a, C, E> {
         let _ = self.current.try_replace(None);
     }
 
-    /// Nothing is swept here.
+    /// Nothing is swept or told here.
     fn wants_count(&mut self) -> bool {
         false
     }
+
+    fn take_cache(&mut self, uses: CacheUses) {}
 
     fn take_count(&mut self, bytes: u64) {}
 }

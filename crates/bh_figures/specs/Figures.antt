@@ -114,6 +114,10 @@ with_stamp it (Some moment) = record it { stamp = Some moment }
 abbrev pub with_garbage : Figures → ℕ → ℕ → Figures
 with_garbage it bytes keep = record it { garbage = Some bytes; keep = Some keep }
 
+-- so many blocks were read from the cache so far, and so many from their rows
+abbrev pub with_cache : Figures → ℕ → ℕ → Figures
+with_cache it hits misses = record it { hits = hits; misses = misses }
+
 -- ---- what was counted
 
 abbrev pub count_of : Figures → Method → Class → ℕ
@@ -144,4 +148,6 @@ none = record {
   stamp = None;
   garbage = None;
   keep = None;
+  hits = 0;
+  misses = 0;
 }

@@ -4,6 +4,7 @@ use Rattle.bh_figures.specs.Figures.{bounds, classes, class_word, count_of, meth
 use Rattle.bh_figures.specs.declared.figures.Class.{Class}
 use Rattle.bh_figures.specs.declared.figures.Figures.{Figures}
 use Rattle.bh_figures.specs.declared.figures.Method.{Method}
+use Rattle.bh_figures.specs.declared.page.Readings.{Readings}
 use Rattle.bh_figures.specs.declared.page.Sizes.{Sizes}
 
 -- ---- a metric
@@ -84,11 +85,21 @@ garbage it =
     gauge (codes "garbage_bytes") (codes "Bytes of blocks that no reference names, by the last count.") it.garbage
     ++ gauge (codes "keep_garbage_bytes") (codes "Bytes of such blocks that may stay before a sweep begins.") it.keep
 
-unfoldable pub state : Figures → Sizes → List ℕ
-state it sizes =
-    gauge (codes "last_stamp_seconds") (codes "The last timestamp since the start, in seconds since 1970.") it.stamp
-    ++ (gauge (codes "file_bytes") (codes "Bytes of the host's file.") sizes.file
-    ++ (gauge (codes "log_bytes") (codes "Bytes of its write-ahead log.") sizes.log ++ garbage it))
+unfoldable pub cache : Figures → List ℕ
+cache it =
+    counter (codes "cache_hits_total") (codes "Blocks that were read from the cache.") (decimal it.hits)
+    ++ counter (codes "cache_misses_total") (codes "Blocks that were read from their rows, to be cached.") (decimal it.misses)
 
-abbrev pub page : Figures → Sizes → List ℕ
-page it sizes = requests it ++ (times it ++ (traffic it ++ (sweeps it ++ state it sizes)))
+unfoldable pub files : Sizes → List ℕ
+files sizes =
+    gauge (codes "file_bytes") (codes "Bytes of the host's file.") sizes.file
+    ++ gauge (codes "log_bytes") (codes "Bytes of its write-ahead log.") sizes.log
+
+unfoldable pub state : Figures → Readings → List ℕ
+state it readings =
+    gauge (codes "uptime_seconds") (codes "Seconds since the server began.") readings.uptime
+    ++ (gauge (codes "last_stamp_seconds") (codes "The last timestamp since the start, in seconds since 1970.") it.stamp
+    ++ (files readings.sizes ++ (garbage it ++ cache it)))
+
+abbrev pub page : Figures → Readings → List ℕ
+page it readings = requests it ++ (times it ++ (traffic it ++ (sweeps it ++ state it readings)))

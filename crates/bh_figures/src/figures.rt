@@ -159,6 +159,9 @@ pub struct Figures {
     /// How many bytes nobody needs by the last count, and how many of them may stay; `None` before it.
     pub(crate) garbage: Option<u64>,
     pub(crate) keep: Option<u64>,
+    /// How many blocks were read from the cache, and how many from their rows.
+    pub(crate) hits: u64,
+    pub(crate) misses: u64,
 }
 
 impl Figures {
@@ -178,6 +181,8 @@ impl Figures {
             stamp: None,
             garbage: None,
             keep: None,
+            hits: 0,
+            misses: 0,
         }
     }
 
@@ -236,6 +241,14 @@ impl Figures {
     {
         self.garbage = Some(bytes);
         self.keep = Some(keep);
+    }
+
+    /// Keeps how many blocks were read from the cache so far, and how many from their rows.
+    pub fn note_cache(&mut self, hits: u64, misses: u64)
+        ensures { self.new ≡ spec.with_cache self.old hits misses }
+    {
+        self.hits = hits;
+        self.misses = misses;
     }
 
     /// How many requests took at most so many milliseconds.

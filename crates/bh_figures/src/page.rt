@@ -16,6 +16,14 @@ pub struct Sizes {
     pub log: Option<u64>,
 }
 
+/// What is read when the page is asked for.
+#[derive(Clone, Copy)]
+pub struct Readings {
+    pub sizes: Sizes,
+    /// The seconds since the server began; `None` where the system doesn't tell.
+    pub uptime: Option<u64>,
+}
+
 /// Milliseconds, printed as seconds.
 #[derive(Clone, Copy)]
 struct Seconds(u64);
@@ -34,14 +42,14 @@ impl fmt::Display for Seconds {
 }
 
 /// The whole page.
-pub fn page_text(alloc: Global, figures: &Figures, sizes: Sizes) -> Result<String, AllocError>
-    ensures { IfOk result (λ text. string_bytes text ≡ spec.page figures.now sizes) }
+pub fn page_text(alloc: Global, figures: &Figures, readings: Readings) -> Result<String, AllocError>
+    ensures { IfOk result (λ text. string_bytes text ≡ spec.page figures.now readings) }
 {
     let requests = requests(alloc, figures)?;
     let times = times(alloc, figures)?;
     let traffic = traffic(alloc, figures)?;
     let sweeps = sweeps(alloc, figures)?;
-    let state = state(alloc, figures, sizes)?;
+    let state = state(alloc, figures, readings)?;
     format!(in alloc; "{requests}{times}{traffic}{sweeps}{state}")
 }
 
@@ -234,22 +242,42 @@ fn sweeps(alloc: Global, figures: &Figures) -> Result<String, AllocError>
     format!(in alloc; "{steps}{took}")
 }
 
-/// What the host is like: its last timestamp, its files, and what may be swept.
+/// What the host and its server are like now.
 #[tactic(auto, unfolding(crate::specs::Page::state))]
-fn state(alloc: Global, figures: &Figures, sizes: Sizes) -> Result<String, AllocError>
-    ensures { IfOk result (λ text. string_bytes text ≡ spec.state figures.now sizes) }
+fn state(alloc: Global, figures: &Figures, readings: Readings) -> Result<String, AllocError>
+    ensures { IfOk result (λ text. string_bytes text ≡ spec.state figures.now readings) }
 {
+    let help = "Seconds since the server began.";
+    let uptime = gauge(alloc, "uptime_seconds", help, readings.uptime)?;
     let help = "The last timestamp since the start, in seconds since 1970.";
     let stamp = gauge(alloc, "last_stamp_seconds", help, figures.last_stamp())?;
-    let file = gauge(alloc, "file_bytes", "Bytes of the host's file.", sizes.file)?;
-    let log = gauge(
-        alloc,
-        "log_bytes",
-        "Bytes of its write-ahead log.",
-        sizes.log,
-    )?;
+    let files = files(alloc, readings.sizes)?;
     let garbage = garbage(alloc, figures)?;
-    format!(in alloc; "{stamp}{file}{log}{garbage}")
+    let cache = cache(alloc, figures)?;
+    format!(in alloc; "{uptime}{stamp}{files}{garbage}{cache}")
+}
+
+/// How large its files are.
+#[tactic(auto, unfolding(crate::specs::Page::files))]
+fn files(alloc: Global, sizes: Sizes) -> Result<String, AllocError>
+    ensures { IfOk result (λ text. string_bytes text ≡ spec.files sizes) }
+{
+    let file = gauge(alloc, "file_bytes", "Bytes of the host's file.", sizes.file)?;
+    let help = "Bytes of its write-ahead log.";
+    let log = gauge(alloc, "log_bytes", help, sizes.log)?;
+    format!(in alloc; "{file}{log}")
+}
+
+/// How its cache of blocks is used.
+#[tactic(auto, unfolding(crate::specs::Page::cache))]
+fn cache(alloc: Global, figures: &Figures) -> Result<String, AllocError>
+    ensures { IfOk result (λ text. string_bytes text ≡ spec.cache figures.now) }
+{
+    let help = "Blocks that were read from the cache.";
+    let hits = counter(alloc, "cache_hits_total", help, figures.hits)?;
+    let help = "Blocks that were read from their rows, to be cached.";
+    let misses = counter(alloc, "cache_misses_total", help, figures.misses)?;
+    format!(in alloc; "{hits}{misses}")
 }
 
 /// What may be swept, and how much of it may stay.

@@ -13,7 +13,7 @@ use crate::copying::{CopiedHost, CopyFile, copy_and_open};
 use crate::counting::count;
 use crate::host::{BlockSize, KeptHost};
 use bh_cache::blocks::BlockCache;
-use bh_connection::BackUp;
+use bh_connection::{BackUp, CacheUses};
 use bh_dispatch::recalling::RecallingStorage;
 use bh_dispatch::storage::HostStorage;
 use bh_event::event::Command;
@@ -184,6 +184,17 @@ impl<'a, D: Disk + Drop, G: Digester + Drop, K: BlockSize> BackUp for KeptHost<'
 
     fn is_lost(&self) -> bool {
         self.storage.is_none()
+    }
+
+    /// Those of the cache that it has now: a backup begins with an empty one.
+    fn cache_uses(&self) -> CacheUses {
+        match &self.storage {
+            Some(storage) => CacheUses {
+                hits: storage.storage.host.cache.hits(),
+                misses: storage.storage.host.cache.misses(),
+            },
+            None => CacheUses { hits: 0, misses: 0 },
+        }
     }
 
     fn back_up(&mut self, to: &str) -> Option<CopyFile>

@@ -10,8 +10,8 @@ ghost use Rattle.bh_wires.specs.Answers.{HasAccepted, StaysUnless, asked_by, cal
 ghost use Rattle.bh_wires.specs.Ends.{IsBrought};
 ghost use Rattle.bh_wires.specs.Pace.{taken_as, measured_by};
 ghost use Rattle.bh_figures.specs.Page.{page};
-ghost use Rattle.bh_figures.specs.declared.page.Sizes.{Sizes};
-ghost use Rattle.bh_figures.specs.Figures.{with_garbage};
+ghost use Rattle.bh_figures.specs.declared.page.Readings.{Readings};
+ghost use Rattle.bh_figures.specs.Figures.{with_cache, with_garbage};
 ghost use Rattle.bh_wires.specs.Sweeping.{HasCounted, IsAgain};
 
 use crate::answers::{accepted_text, asked_of, health_text};
@@ -19,10 +19,10 @@ use crate::brought::{Brought, Going, Replying};
 use crate::log::{ClockNews, Entry, Note, note_of};
 use crate::pace::Pace;
 use crate::sweeping::{REPLY, Sweeping};
-use bh_connection::{Acceptor, Arrival, Clock, End, Served};
+use bh_connection::{Acceptor, Arrival, CacheUses, Clock, End, Served};
 use bh_event::order::Asked;
 use bh_figures::figures::Figures;
-use bh_figures::page::{Sizes, page_text};
+use bh_figures::page::{Readings, Sizes, page_text};
 use bh_host::Caller;
 use bh_link::link::Link;
 use bh_stage::kept::Kept;
@@ -57,6 +57,9 @@ pub trait Backing {
 
     /// How many bytes the host's files have.
     fn sizes(&mut self) -> Sizes;
+
+    /// Their bytes, and how long the server has run.
+    fn readings(&mut self) -> Readings;
 
     /// Accepts nothing more.
     fn leave(&mut self);
@@ -359,7 +362,8 @@ impl<'a, W: Wires + Backing + Drop, C: Clock> Front<'a, W, C> {
     fn answer(&mut self, asked: Asked) -> Result<String, AllocError>
         ensures operated { self.new.has_operators ≡ self.old.has_operators }
         ensures clock { StaysUnless asked self.old.pace self.new.pace }
-        ensures metrics { asked ≡ Metrics → IfOk result (λ text. (sizes : Sizes) × (string_bytes text ≡ page self.old.figures sizes)) }
+        ensures metrics { asked ≡ Metrics
+            → IfOk result (λ text. (readings : Readings) × (string_bytes text ≡ page self.old.figures readings)) }
         ensures health { asked ≡ Health → IfOk result (λ text. string_bytes text ≡ health self.old.pace.is_away) }
     {
         match asked {
@@ -372,14 +376,14 @@ impl<'a, W: Wires + Backing + Drop, C: Clock> Front<'a, W, C> {
         }
     }
 
-    /// The page of what was counted, and of how large the files are now.
+    /// The page of what was counted, and of what is read now.
     fn metrics_text(&mut self) -> Result<String, AllocError>
         ensures operated { self.new.has_operators ≡ self.old.has_operators }
         ensures clock { self.new.pace ≡ self.old.pace }
-        ensures text { IfOk result (λ text. (sizes : Sizes) × (string_bytes text ≡ page self.old.figures sizes)) }
+        ensures text { IfOk result (λ text. (readings : Readings) × (string_bytes text ≡ page self.old.figures readings)) }
     {
-        let sizes = self.stage.wires().sizes();
-        page_text(self.alloc, &self.figures, sizes)
+        let readings = self.stage.wires().readings();
+        page_text(self.alloc, &self.figures, readings)
     }
 
     /// Takes the clock's present reading as right, and returns it; `None` if it can't be read or is
@@ -480,6 +484,14 @@ impl<'a, W: Wires + Backing + Drop, C: Clock> Acceptor for Front<'a, W, C> {
         ensures wants { result ≡ self.old.has_operators && self.old.sweeping.is_asked }
     {
         self.has_operators && self.sweeping.is_asked
+    }
+
+    fn take_cache(&mut self, uses: CacheUses)
+        ensures calls { ⊤ }
+        ensures operated { self.new.has_operators ≡ self.old.has_operators }
+        ensures figures { self.new.figures ≡ with_cache self.old.figures uses.hits uses.misses }
+    {
+        self.figures.note_cache(uses.hits, uses.misses);
     }
 
     /// Takes how many bytes nobody needs, with the size of the host's file, which tells what is needed.

@@ -8,7 +8,7 @@ use crate::log::{ClockNews, Entry, Note, clock_line, line_of, note_of};
 use crate::socket_file::SocketFile;
 use crate::uptime::uptime;
 use bh_connection::Clock;
-use bh_figures::page::Sizes;
+use bh_figures::page::{Readings, Sizes};
 use bh_host::Caller;
 use bh_stage::whole::Door;
 use bh_stage::wires::{Accepted, Came, Ended, Wires};
@@ -95,6 +95,8 @@ pub struct Sockets<'a, N, C> {
     site: &'a Site<'a, N, C>,
     /// What is logged of those that were served, by their keys; empty if nothing is logged.
     notes: Vec<Option<Note>>,
+    /// When these began, in seconds since the machine was started.
+    began: Option<u64>,
 }
 
 impl<'a, N: Net, C: Clock> Sockets<'a, N, C> {
@@ -118,6 +120,7 @@ impl<'a, N: Net, C: Clock> Sockets<'a, N, C> {
             spare: None,
             site,
             notes: no_notes(alloc, logged)?,
+            began: uptime().ok(),
         })
     }
 }
@@ -282,6 +285,17 @@ impl<'a, N: Files<File = File> + Eprint, C> Backing for Sockets<'a, N, C> {
 
     fn sizes(&mut self) -> Sizes {
         self.site.sizes()
+    }
+
+    fn readings(&mut self) -> Readings {
+        let uptime = match (self.began, uptime()) {
+            (Some(began), Ok(now)) => Some(now.saturating_sub(began)),
+            _ => None,
+        };
+        Readings {
+            sizes: self.site.sizes(),
+            uptime,
+        }
     }
 
     /// Closes the listeners, and removes their files.

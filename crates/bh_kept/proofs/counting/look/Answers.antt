@@ -1,6 +1,7 @@
 use Rattle.std.proofs.Common.{ap, ◌∙◌}
 use Rattle.sqlite.specs.Held.{state}
 use Rattle.bh_tables.specs.Typed.{tables_in}
+use Rattle.bh_schema.specs.Connections.{stands}
 use Rattle.bh_schema.specs.Garbage.{garbage_in}
 use Rattle.bh_schema.specs.Layer.{Standing}
 use Rattle.bh_schema.proofs.Storing.{within_then}
@@ -8,7 +9,9 @@ use Rattle.bh_kept.proofs.Looking.{begun_inside, if_ok}
 use Rattle.bh_kept.proofs.counting.look.Goals as goal
 
 pub garbage_bytes-requires : goal.garbage_bytes-requires
-garbage_bytes-requires g c clean = begun_inside _ _ (c.requires (c.begin.ensures.within.follows.clean clean)) (c.in-Ok.ensures.begins clean.intact)
+garbage_bytes-requires g c = record {
+  inside = λ clean. begun_inside (stands g.S.Store c.args.connection.now) (stands g.S.Store c.begin.new.connection) (c.requires (c.begin.ensures.within.follows.clean clean)) (c.in-Ok.ensures.begins clean.intact);
+}
 
 pub returns-in-Ok-clause-within : goal.returns-in-Ok-clause-within
 returns-in-Ok-clause-within g c =

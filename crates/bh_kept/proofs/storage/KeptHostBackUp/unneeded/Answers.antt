@@ -1,10 +1,11 @@
-use Rattle.std.proofs.Common.{◌≡◌, Some, IfSome, refl, sym, ap, subst, ◌∙◌}
+use Rattle.std.proofs.Common.{refl, sym, ap, subst, ◌∙◌}
 use Rattle.sqlite.specs.Files.{over_files}
 use Rattle.sqlite.specs.Held.{state}
 use Rattle.bh_view.specs.Bodies.{IsSoundHost}
 use Rattle.bh_storage.specs.Calls.{Seen, IsAtRest}
 use Rattle.bh_memo.proofs.Recalling.{same_limits}
 use Rattle.bh_schema.specs.Garbage.{garbage_in}
+use Rattle.bh_schema.specs.Storage.{beside, seen_in}
 use Rattle.bh_schema.proofs.Storing.{both, parts, left_less, beside_limits}
 use Rattle.bh_connection.specs.Backups.{unneeded_of}
 use Rattle.bh_kept.specs.Kept as kept
@@ -26,11 +27,10 @@ pub returns-in-Some-clause-stays : goal.returns-in-Some-clause-stays
 returns-in-Some-clause-stays g c =
     let it = c.in-Some.it in
     let host = it.storage.host in
-    let now = record it { storage = record it.storage { host = record host { connection = c.count.new.connection } } } in
     let rest = subst (λ o. kept.IsIntact o × kept.IsOpen o → IsAtRest (IsSoundHost g.G.Digester.digest_of) (kept.seen c.args.self.now.limits o)) c.in-Some.is c.requires in
     let old = state over_files host.connection in
     let new = state over_files c.count.new.connection in
-    back_kept c.args.self.now (record c.args.self.now { storage = Some now }) it now c.in-Some.is refl (record {
+    back_kept c.args.self.now _ it _ c.in-Some.is refl (record {
       same = λ intact up.
           let before = parts (c.count.ensures.clean (both (intact, up))) in
           (before.1, ap (λ (s : Seen). s.now) (still it.memo host.cache host.limits old (rest before) new (c.count.ensures.back (both (intact, up)))));
@@ -49,7 +49,9 @@ pub returns-in-Some-clause-limits : goal.returns-in-Some-clause-limits
 returns-in-Some-clause-limits g c =
     let it = c.in-Some.it in
     let host = it.storage.host in
-    let same = same_limits it.memo _ ∙ beside_limits host.cache host.cache host.limits (state over_files host.connection) (state over_files c.count.new.connection) ∙ sym (same_limits it.memo _) in
+    let old = state over_files host.connection in
+    let new = state over_files c.count.new.connection in
+    let same = same_limits it.memo (beside host.cache (seen_in host.limits new)) ∙ beside_limits host.cache host.cache host.limits old new ∙ sym (same_limits it.memo (beside host.cache (seen_in host.limits old))) in
     same ∙ ap (λ o. (kept.seen c.args.self.now.limits o).limits) (sym c.in-Some.is)
 
 pub returns-in-Some-clause-lost : goal.returns-in-Some-clause-lost
