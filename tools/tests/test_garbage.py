@@ -15,6 +15,7 @@ import pytest
 import model
 from conftest import amount, need
 from host import PATIENCE, TAILS, Clock, command, copied, is_fast, is_quick, make_host, removed
+from kept_hosts import HOSTS, UNNEEDED, kept_names
 from s3_requests import Client, Gateway, build_gateway, write_keys
 from test_crash import Load, made
 from test_files import SMALL
@@ -249,6 +250,42 @@ def test_objects_deleted_at_once(expect, program, folder, file):
         found, wanted = it.counts(before + 1100), before + 1100
         expect("they are deleted", told == [200] * 5 and answer[0] == 200 and answer[2].count(b"<Deleted>") == 4, f"{told} {answer}")
         expect("what nobody needs then", found == wanted and it.report() == (stored, referred - 1600), f"{found}, not {wanted}; {it.report()}, before {(stored, referred)}")
+
+
+@pytest.mark.cost(60)
+@pytest.mark.proved
+def test_moved_tenant(expect, program, folder):
+    """A tenant comes to a host that has one of its blocks, which nobody needed there; a copy of that host counts as much."""
+    hosts = {name: make_host(program, os.path.join(folder, name), [tenant], "--min-part", "4") for name, tenant in (("first", "green"), ("second", "blue"))}
+    for file, tenant in zip(hosts.values(), NAMES):
+        with Kept(program, file, MUCH) as it:
+            told = [it.ask(tenant, "PUT", "/plans").status, *(it.ask(tenant, "PUT", f"/plans/{name}", name.encode() * 4).status for name in "abc")]
+            told += [it.ask(tenant, "DELETE", f"/plans/{name}").status for name in ("a" if tenant == "green" else "ab")]
+            wanted = 4 if tenant == "green" else 8
+            expect(f"what {tenant} left", set(told) <= {200, 204} and it.counts(wanted) == wanted, f"{told} {it.garbage()}")
+    moved, copy = (os.path.join(folder, name) for name in ("moved", "copy"))
+    told = [command(program, hosts["first"], "export", "--tenant", "green", "--to", moved), command(program, hosts["second"], "import", "--from", moved),
+            command(program, hosts["second"], "backup", "--to", copy)]
+    expect("it is moved", told == [("export", 0), ("tenant green", 0), ("backup", 0)], told)
+    for name, file, wanted in (("the exported tenant", moved, 0), ("the second host", hosts["second"], 4), ("its copy", copy, 4), ("the first host", hosts["first"], 4)):
+        checked = command(program, file, "check")
+        with Kept(program, file, MUCH) as it:
+            found = it.counts(wanted)
+        expect(f"{name} counts", (checked, found) == (("sound", 0), wanted), f"{checked} {found}, not {wanted}")
+
+
+@pytest.mark.cost(20)
+@pytest.mark.proved
+@pytest.mark.parametrize("name", kept_names())
+def test_earlier_version(expect, program, folder, name):
+    """What nobody needs in a file of an earlier program is counted as it is opened, and swept where it is more than is kept."""
+    file = copied(os.path.join(HOSTS, name), folder, "host")
+    with Kept(program, file, str(UNNEEDED)) as it:
+        found = it.counts(UNNEEDED), it.steps()
+        expect("what it left is counted", found == (UNNEEDED, 0), found)
+    with Kept(program, file, str(UNNEEDED - 1)) as it:
+        found, took = it.falls(UNNEEDED - 1)
+        expect("and swept", found == 0 and took < soon(program), f"{found} after {took:.1f} s")
 
 
 # ---- when the server sweeps

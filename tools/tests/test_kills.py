@@ -201,8 +201,8 @@ class Rounds:
         self.longest = 2.0 if is_quick(program) else 5.0
 
     def server(self):
-        """One that sweeps by itself, since it has a port for operators."""
-        return Server(self.program, self.file, "--operator-port", "0")
+        """One that sweeps by itself, and soon."""
+        return Server(self.program, self.file, "--operator-port", "0", "--keep-garbage", "1MB")
 
     def begin(self):
         with self.server() as server:
