@@ -473,11 +473,11 @@ def test_disk(expect, program, disk_folder, full):
     with Kept(program, file) as it:
         it.get("PUT", "/plans", b"")
         count, most, ends = 0, 0, time.monotonic() + amount("OVERWRITE_SECONDS", 60 if full else 12)
-        while time.monotonic() < ends:
+        while count <= 20 or time.monotonic() < ends:
             it.put(count, LARGE)
             count, most = count + 1, max(most, on_disk(file))
         allowed = 1.3 * needed + 128 * MIB
-        expect(f"{count} puts: at most {most / MIB:.0f} MiB", most <= allowed and count > 20, f"{allowed / MIB:.0f} are allowed")
+        expect(f"{count} puts: at most {most / MIB:.0f} MiB", most <= allowed, f"{allowed / MIB:.0f} are allowed")
         found, took = it.falls(DEFAULT)
         expect("afterwards", found <= DEFAULT and took < SOON, f"{found} after {took:.1f} s")
 
