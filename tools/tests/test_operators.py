@@ -424,7 +424,28 @@ def test_about_itself(program, file, expect):
         expect("only the bad line is logged", len(logged) == 1 and "bad_line" in logged[0], f"{logged}")
 
 
-def test_stop(program, folder, file, expect):
+def test_stop_beside_a_backup(program, folder, file, expect):
+    """A stop that comes while a copy is made waits until it is whole."""
+    copy, told = os.path.join(folder, "copy"), []
+    with Operated(program, file, timeout=60) as it:
+        it.get("PUT", "/plans", b"")
+        it.get("PUT", "/plans/large", os.urandom(it.large))
+        backup = threading.Thread(target=lambda: told.append(it.order(op="backup", to=copy)))
+        backup.start()
+        ends = time.monotonic() + PATIENCE
+        while not os.path.exists(copy) and time.monotonic() < ends:
+            time.sleep(0.001)
+        stopped = it.order(op="stop")
+        backup.join(PATIENCE)
+        it.process.communicate(timeout=PATIENCE)
+        found = (told, stopped, it.process.returncode)
+        expect("a stop while a backup runs", found == (["backup\n"], "stop\n", 0), f"{found}")
+    for name, path in (("the host", file), ("its copy", copy)):
+        checked = run(program, None, "check", "--file", path)[:2]
+        expect(f"afterwards {name} is sound", checked == ("sound", 0), f"{checked}")
+
+
+def test_stop_by_words(program, folder, file, expect):
     """`bucketd stop` ends a server, by its port, by its socket and by the environment, and none without its secret."""
     door, secret = os.path.join(folder, "door"), os.path.join(folder, "secret")
     with open(secret, "w", opener=lambda path, flags: os.open(path, flags, 0o600)) as out:
