@@ -17,7 +17,11 @@ use Rattle.bh_view.specs.Bodies.{IsSoundHost}
 use Rattle.bh_storage.specs.Calls.{Seen, IsAtRest}
 use Rattle.bh_storage.specs.declared.storage.Storage as storage
 use Rattle.bh_cache.specs.Kept.{KeptBlocks}
-use Rattle.bh_schema.specs.Layer.{standing}
+use Rattle.bh_shelf.specs.declared.no_shelf.NoShelf.{NoShelf}
+use Rattle.bh_base.specs.Connections.{backing, without_packs}
+use Rattle.bh_base.specs.Layer.{standing}
+use Rattle.bh_base.specs.Shown.{Backing, shown}
+use Rattle.bh_bare.proofs.Bare.{same_tables, left_shown as left_with_packs}
 use Rattle.bh_schema.specs.declared.host.Host.{Host}
 use Rattle.bh_schema.specs.Storage.{IsIntact, IsOpen, seen, seen_in, beside, left, left_in}
 use Rattle.bh_schema.proofs.Storing.{sound_host}
@@ -55,14 +59,14 @@ present_back opened db is it = subst (λ (x : Tables). CameBack x opened) (prese
 sound_schema : (digest : Octets → Octets) (db : Database) → IsSoundHost digest (tables_shown db) → db.schema ≡ host_schema
 sound_schema digest db sound = (sound_host db sound.sound).schema
 
-kept_shown : (kept : KeptBlocks) (l : HostLimits) (s : State) → (beside kept (seen_in l s)).kept ≡ tables_shown (standing s).kept
-unfolding seen_in beside
-kept_shown kept l s = refl
+kept_shown : (kept : KeptBlocks) (l : HostLimits) (a : Backing) (s : State) → (beside kept (seen_in l (shown a s))).kept ≡ tables_shown (standing s).kept
+unfolding seen_in beside standing
+kept_shown kept l a s = same_tables a.kept s.committed
 
-module _ {D G : Type 0} {g : Ghosts D} (host : Host (FileStore D g) G) where
-  left_shown : (db : Database) → IsLeft host db → left over_files host (tables_shown db)
+module _ {D G : Type 0} {g : Ghosts D} (host : Host (FileStore D g) NoShelf G) where
+  left_shown : (db : Database) → IsLeft host db → left over_files without_packs host (tables_shown db)
   unfolding left_in
-  left_shown db it = (db, it.0, it.1, refl)
+  left_shown db it = left_with_packs (backing without_packs host.connection.packs) (file_state host.connection.database) (tables_shown db) (db, it.0, it.1.lists, refl)
 
   module _ (digest : Octets → Octets) (all : AllLeft (IsSoundHost digest) host) where
     left_schema : (db : Database) → IsLeft host db → db.schema ≡ host_schema
@@ -85,22 +89,22 @@ stays_sound digest old new adds were intact x leaves = elim (adds intact x leave
 
 -- ---- after a stop
 
-module _ {D G : Type 0} {g : Ghosts D} (digest : Octets → Octets) (host : Host (FileStore D g) G) (opened : Opened (FileStore D g))
+module _ {D G : Type 0} {g : Ghosts D} (digest : Octets → Octets) (host : Host (FileStore D g) NoShelf G) (opened : Opened (FileStore D g))
     (ready : IsReady digest host) (again : IsReopened host opened) (clean : IsCleanAgain opened) where
   -- of a store that no fault has shut, what stood before the stop
-  came_back : IsOpen over_files host → CameBack (seen over_files host).now opened
+  came_back : IsOpen over_files without_packs host → CameBack (seen over_files without_packs host).now opened
   came_back up =
       let it = ready (again.intact clean, up) in
-      let shown : tables_shown (kept_of host) ≡ (seen over_files host).now = sym (kept_shown host.cache host.limits (file_state host.connection)) ∙ it.committed in
-      let schema = sound_schema digest (kept_of host) (subst (IsSoundHost digest) (sym shown) it.sound) in
-      subst (λ (x : Tables). CameBack x opened) shown (present_back opened (kept_of host) schema (again.came_back clean up))
+      let stood : tables_shown (kept_of host) ≡ (seen over_files without_packs host).now = sym (kept_shown host.cache host.limits (backing without_packs host.connection.packs) (file_state host.connection.database)) ∙ it.committed in
+      let schema = sound_schema digest (kept_of host) (subst (IsSoundHost digest) (sym stood) it.sound) in
+      subst (λ (x : Tables). CameBack x opened) stood (present_back opened (kept_of host) schema (again.came_back clean up))
 
   merely_rests : AllLeft (IsSoundHost digest) host → ∥ IsAtRest (IsSoundHost digest) (seen_again opened) ∥₁
   merely_rests all = ∥∥₁_map (again.merely clean) (λ it.
       (present_back opened it.0 (left_schema host digest all it.0 it.1) it.2).rest digest (all (tables_shown it.0) (left_shown host it.0 it.1)))
 
   -- what is said of all that a crash may leave is said of what an open finds, or that was brought over
-  found : (P : Tables → Type 0) → ((x : Tables) → left over_files host x → P x) → ∥ (P (seen_again opened).now ⊎ IsOlder host (seen_again opened).now) ∥₁
+  found : (P : Tables → Type 0) → ((x : Tables) → left over_files without_packs host x → P x) → ∥ (P (seen_again opened).now ⊎ IsOlder host (seen_again opened).now) ∥₁
   found P says = ∥∥₁_map (again.merely clean) (λ it. each it.0 it.1 it.2)
     where
       each : (db : Database) → IsLeft host db → ComesBack db opened → P (seen_again opened).now ⊎ IsOlder host (seen_again opened).now
@@ -119,7 +123,7 @@ module _ {D G : Type 0} {g : Ghosts D} (digest : Octets → Octets) (host : Host
 -- ---- after an event on a storage that stands over a host
 
 module _ {D G H : Type 0} {g : Ghosts D} (IsIntactOf IsOpenOf : H → Type 0) (seen_of : H → Seen) (left_of : H → Tables → Type 0) (digest : Octets → Octets)
-    (old new : H) (host : Host (FileStore D g) G) (opened : Opened (FileStore D g)) (over : StandsOver IsIntactOf IsOpenOf (IsSoundHost digest) seen_of left_of new host)
+    (old new : H) (host : Host (FileStore D g) NoShelf G) (opened : Opened (FileStore D g)) (over : StandsOver IsIntactOf IsOpenOf (IsSoundHost digest) seen_of left_of new host)
     (ready : storages.IsReady IsIntactOf IsOpenOf seen_of left_of digest new) (again : IsReopened host opened) (clean : IsCleanAgain opened) where
   whole : IsIntactOf new
   whole = over.intact.1 (again.intact clean)
@@ -198,20 +202,20 @@ module _ {D G H : Type 0} {g : Ghosts D} (IsIntactOf IsOpenOf : H → Type 0) (s
       }
 
 -- a host stands over itself
-itself : {D G : Type 0} {g : Ghosts D} (digest : Octets → Octets) (host : Host (FileStore D g) G) → StandsOver (IsIntact over_files) (IsOpen over_files) (IsSoundHost digest) (seen over_files) (left over_files) host host
+itself : {D G : Type 0} {g : Ghosts D} (digest : Octets → Octets) (host : Host (FileStore D g) NoShelf G) → StandsOver (IsIntact over_files without_packs) (IsOpen over_files without_packs) (IsSoundHost digest) (seen over_files without_packs) (left over_files without_packs) host host
 itself digest host = record { intact = (λ i. i, λ i. i); opened = (λ o. o, λ o. o); leaves = λ x. (λ l. l, λ l. l); same = λ rest. refl }
 
 pub after_stop : {D G : Type 0} {g : Ghosts D} (digest : Octets → Octets) → AfterStop g G digest
 after_stop digest event told old new opened applied ready again clean =
-    survives (IsIntact over_files) (IsOpen over_files) (seen over_files) (left over_files) digest old new new opened (itself digest new) ready again clean event told applied
+    survives (IsIntact over_files without_packs) (IsOpen over_files without_packs) (seen over_files without_packs) (left over_files without_packs) digest old new new opened (itself digest new) ready again clean event told applied
 
 pub after_group : {D G : Type 0} {g : Ghosts D} (digest : Octets → Octets) → AfterGroup g G digest
 after_group digest events tolds old new opened applied ready again clean =
-    all_survive (IsIntact over_files) (IsOpen over_files) (seen over_files) (left over_files) digest old new new opened (itself digest new) ready again clean events tolds applied
+    all_survive (IsIntact over_files without_packs) (IsOpen over_files without_packs) (seen over_files without_packs) (left over_files without_packs) digest old new new opened (itself digest new) ready again clean events tolds applied
 
 pub after_reply : {D G : Type 0} {g : Ghosts D} (digest : Octets → Octets) → AfterReply g G digest
 after_reply digest event told ended old new opened did ready again clean =
-    survives_since (IsIntact over_files) (IsOpen over_files) (seen over_files) (left over_files) digest old new new opened (itself digest new) ready again clean event told ended did
+    survives_since (IsIntact over_files without_packs) (IsOpen over_files without_packs) (seen over_files without_packs) (left over_files without_packs) digest old new new opened (itself digest new) ready again clean event told ended did
 
 -- ---- after one on a host that is served
 

@@ -1,13 +1,15 @@
 -- From a crash to the host that is opened after it.
 use mathlib.Core.HLevel.{⊥_prop}
-use Rattle.std.proofs.Common.{◌≡◌, inl, inr, ℕ, ◌≤◌, zero, suc, true, List, [], ◌∷◌, map, length, refl, sym, ap, subst, ◌∙◌, arith}
+use Rattle.std.proofs.Common.{◌≡◌, inl, inr, ℕ, ◌≤◌, zero, suc, true, IsTrue, List, [], ◌∷◌, map, length, refl, sym, ap, subst, ◌∙◌, arith}
 use Rattle.std.specs.List.{list_all}
 use Rattle.std.proofs.Math.Logic.{∥∥₁_elim, ∥∥₁_map}
 use Rattle.std.proofs.lemmas.Bool.{and_parts, eqb-true}
 use Rattle.sqlite_disk.specs.declared.Disk.{Ghosts}
 use Rattle.sqlite_store.specs.declared.store.FileStore.{FileStore}
 use Rattle.sqlite.specs.Effect.{Database, IsDatabase}
+use Rattle.sqlite.specs.Held.{Held, state}
 use Rattle.sqlite.specs.Tree.{Trees}
+use Rattle.sqlite_trees.specs.declared.store.Store.{Ghosts as Stores}
 use Rattle.sqlite.specs.State.{State, Opens, IsLive, HasCleanDisk}
 use Rattle.bh_types.specs.BlockDigests.{digest_number}
 use Rattle.bh_types.specs.Limits.{HostLimits, AreLimits}
@@ -20,7 +22,7 @@ use Rattle.bh_tables.proofs.HostTests.{host_opens, first_opens, second_opens, th
 use Rattle.bh_view.specs.Bodies.{IsSoundHost}
 use Rattle.bh_view.specs.View.{latest_of}
 use Rattle.bh_storage.specs.Calls.{IsAtRest}
-use Rattle.bh_schema.specs.Layer.{standing, IsIntact, IsOpen, IsStateClean, Leaves, KeepsDisk}
+use Rattle.bh_base.specs.Layer.{standing, IsIntact, IsOpen, IsStateClean, Leaves, KeepsDisk}
 use Rattle.bh_schema.proofs.Committing.{same_database}
 use Rattle.bh_open.specs.Opening.{digest_in, IsRowOf, IsHostOf}
 use Rattle.bh_open.specs.Versions.{IsHostsSchema, IsTypedIfEarlier}
@@ -55,9 +57,14 @@ module _ {D : Type 0} {g : Ghosts D} (opened : Opened (FileStore D g)) (clean : 
 
 -- ---- what a crash leaves of a connection that no fault has shut
 
+pub left_settled : {S : Type 0} (g : Stores S) (settles : (s : S) (db : Trees) → IsTrue (g.view s).is_open → g.recovers s db → db ≡ (g.view s).committed) (c : Held S) → IsOpen (state g c)
+    → (db : Trees) → Leaves (state g c) db → db ≡ (standing (state g c)).kept.trees
+unfolding standing Leaves IsOpen
+left_settled g settles c up db may = settles c.store db up may
+
 pub left_alone : (s : State) → IsLive s → IsOpen s → ((db : Trees) → Leaves s db → db ≡ (standing s).kept.trees) → (db : Database) → Leaves s db.trees × IsDatabase db → db ≡ (standing s).kept
 unfolding standing IsOpen
-left_alone s live up settled db it = same_database db s.committed it.1 (live up).1 (settled db.trees it.0)
+left_alone s live up settled db it = same_database db s.committed it.1.lists (live up).1.lists (settled db.trees it.0)
 
 -- ---- the database that was found
 

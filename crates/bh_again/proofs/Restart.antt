@@ -60,4 +60,4 @@ pub is_kept : (old again : State) (kept : Database) → ∥ old.may_leave again.
 is_kept old again kept left sound only opens =
     let live = opens.1 opens.0.is_open in
     let trees : again.committed.trees ≡ kept.trees = ∥∥₁_elim left (Trees-set _ _) (only again.committed.trees) in
-    opens.0.clean ∙ same_database again.committed kept live.1 sound trees
+    opens.0.clean ∙ same_database again.committed kept live.1.lists sound.lists trees

@@ -1,4 +1,6 @@
 -- What a stop leaves for the next open, and the effect of an event, or of a group of them, over a stop.
+use Rattle.bh_shelf.specs.declared.no_shelf.NoShelf.{NoShelf}
+use Rattle.bh_base.specs.Connections.{without_packs}
 use Rattle.std.specs.Prelude.{◌≡◌, ◌≢◌, List, Some}
 use Rattle.sqlite_disk.specs.declared.Disk.{Ghosts}
 use Rattle.sqlite_store.specs.declared.store.FileStore.{FileStore}
@@ -14,8 +16,8 @@ use Rattle.bh_view.specs.Bodies.{IsSoundHost}
 use Rattle.bh_view.specs.View.{latest_of}
 use Rattle.bh_storage.specs.Calls.{Seen, IsAtRest}
 use Rattle.bh_storage.specs.declared.storage.Storage as storage
-use Rattle.bh_schema.specs.Connections as connection
-use Rattle.bh_schema.specs.Layer.{standing, Leaves}
+use Rattle.bh_base.specs.Databases as connection
+use Rattle.bh_base.specs.Layer.{standing, Leaves}
 use Rattle.bh_schema.specs.declared.host.Digester as digester
 use Rattle.bh_schema.specs.declared.host.Host.{Host}
 use Rattle.bh_schema.specs.Storage.{seen_in, IsIntact, IsOpen, seen, left}
@@ -65,74 +67,85 @@ module _ {D : Type 0} {g : Ghosts D} where
 
   module _ {G : Type 0} where
     -- all tables that a crash may leave
-    abbrev pub AllLeft : (Tables → Type 0) → Host (FileStore D g) G → Type 0
-    AllLeft = found.AllLeft (IsIntact over_files) (IsOpen over_files) (seen over_files) (left over_files)
+    abbrev pub AllLeft : (Tables → Type 0) → Host (FileStore D g) NoShelf G → Type 0
+    AllLeft = found.AllLeft (IsIntact over_files without_packs) (IsOpen over_files without_packs) (seen over_files without_packs)
+        (left over_files without_packs)
 
     -- the committed database, and one that a crash may leave
-    abbrev pub kept_of : Host (FileStore D g) G → Database
-    kept_of host = (standing (file_state host.connection)).kept
+    abbrev pub kept_of : Host (FileStore D g) NoShelf G → Database
+    kept_of host = (standing (file_state host.connection.database)).kept
 
-    abbrev pub IsLeft : Host (FileStore D g) G → Database → Type 0
-    IsLeft host db = Leaves (file_state host.connection) db.trees × IsDatabase db
+    abbrev pub IsLeft : Host (FileStore D g) NoShelf G → Database → Type 0
+    IsLeft host db = Leaves (file_state host.connection.database) db.trees × IsDatabase db
 
     -- all tables that an open may find after a crash, in a database of any version
-    abbrev pub AllShown : (Tables → Type 0) → Host (FileStore D g) G → Type 0
+    abbrev pub AllShown : (Tables → Type 0) → Host (FileStore D g) NoShelf G → Type 0
     AllShown P host = (db : Database) → IsLeft host db → P (tables_opened db)
 
     -- the promise of `stop_and_open_host` for a reopened host
-    pub record IsReopened (host : Host (FileStore D g) G) (opened : Opened (FileStore D g)) : Type 0 where
-      pub intact : IsCleanAgain opened → IsIntact over_files host
-      pub came_back : IsCleanAgain opened → IsOpen over_files host → ComesBack (kept_of host) opened
+    pub record IsReopened (host : Host (FileStore D g) NoShelf G) (opened : Opened (FileStore D g)) : Type 0 where
+      pub intact : IsCleanAgain opened → IsIntact over_files without_packs host
+      pub came_back : IsCleanAgain opened → IsOpen over_files without_packs host → ComesBack (kept_of host) opened
       pub merely : IsCleanAgain opened → ∥ ((db : Database) × IsLeft host db × ComesBack db opened) ∥₁
 
     -- ---- an event before it
 
     -- an event was applied, as `bh_host::apply` promises
-    abbrev pub HasApplied : Arrival → Told → Host (FileStore D g) G → Host (FileStore D g) G → Type 0
-    HasApplied = IsApplied (IsIntact over_files) (IsOpen over_files) (seen over_files) (left over_files)
+    abbrev pub HasApplied : Arrival → Told → Host (FileStore D g) NoShelf G → Host (FileStore D g) NoShelf G → Type 0
+    HasApplied = IsApplied (IsIntact over_files without_packs) (IsOpen over_files without_packs) (seen over_files without_packs)
+        (left over_files without_packs)
 
     -- and its reply was sent: the promise of `serve_connection` for one that came over a connection
-    abbrev pub HasReplied : Arrival → Told → End → Host (FileStore D g) G → Host (FileStore D g) G → Type 0
-    HasReplied = HasAnswered (IsIntact over_files) (IsOpen over_files) (seen over_files) (left over_files)
+    abbrev pub HasReplied : Arrival → Told → End → Host (FileStore D g) NoShelf G → Host (FileStore D g) NoShelf G → Type 0
+    HasReplied = HasAnswered (IsIntact over_files without_packs) (IsOpen over_files without_packs) (seen over_files without_packs)
+        (left over_files without_packs)
 
-    abbrev pub IsReady : (Octets → Octets) → Host (FileStore D g) G → Type 0
-    IsReady = found.IsReady (IsIntact over_files) (IsOpen over_files) (seen over_files) (left over_files)
+    abbrev pub IsReady : (Octets → Octets) → Host (FileStore D g) NoShelf G → Type 0
+    IsReady = found.IsReady (IsIntact over_files without_packs) (IsOpen over_files without_packs) (seen over_files without_packs)
+        (left over_files without_packs)
 
-    abbrev pub AddsSound : (Octets → Octets) → Host (FileStore D g) G → Host (FileStore D g) G → Type 0
-    AddsSound = found.AddsSound (IsIntact over_files) (IsOpen over_files) (seen over_files) (left over_files)
+    abbrev pub AddsSound : (Octets → Octets) → Host (FileStore D g) NoShelf G → Host (FileStore D g) NoShelf G → Type 0
+    AddsSound = found.AddsSound (IsIntact over_files without_packs) (IsOpen over_files without_packs) (seen over_files without_packs)
+        (left over_files without_packs)
 
     -- these are the upgraded tables of an earlier version's database that a crash may leave
-    pub record IsOlder (host : Host (FileStore D g) G) (x : Tables) : Type 0 where
+    pub record IsOlder (host : Host (FileStore D g) NoShelf G) (x : Tables) : Type 0 where
       pub db : Database
       pub may : IsLeft host db
       pub schema : IsEarlierSchema db.schema
       pub shown : IsTypedIfEarlier db → x ≡ tables_opened db
 
-    abbrev pub IsLeftBy : Arrival → Told → Host (FileStore D g) G → Host (FileStore D g) G → Tables → Type 0
+    abbrev pub IsLeftBy : Arrival → Told → Host (FileStore D g) NoShelf G → Host (FileStore D g) NoShelf G → Tables → Type 0
     IsLeftBy event told old new =
-        found.IsLeftBy (IsIntact over_files) (IsOpen over_files) (seen over_files) (left over_files) (IsOlder new) event told old new
+        found.IsLeftBy (IsIntact over_files without_packs) (IsOpen over_files without_packs) (seen over_files without_packs)
+        (left over_files without_packs) (IsOlder new) event told old new
 
-    abbrev pub IsLeftSince : Arrival → Told → Host (FileStore D g) G → Host (FileStore D g) G → Tables → Type 0
+    abbrev pub IsLeftSince : Arrival → Told → Host (FileStore D g) NoShelf G → Host (FileStore D g) NoShelf G → Tables → Type 0
     IsLeftSince event told old new =
-        found.IsLeftSince (IsIntact over_files) (IsOpen over_files) (seen over_files) (left over_files) (IsOlder new) event told old new
+        found.IsLeftSince (IsIntact over_files without_packs) (IsOpen over_files without_packs) (seen over_files without_packs)
+        (left over_files without_packs) (IsOlder new) event told old new
 
     -- events were applied together, as `bh_host::apply_together` promises
-    abbrev pub HaveApplied : List Arrival → List Told → Host (FileStore D g) G → Host (FileStore D g) G → Type 0
-    HaveApplied = found.HaveApplied (IsIntact over_files) (IsOpen over_files) (seen over_files) (left over_files)
+    abbrev pub HaveApplied : List Arrival → List Told → Host (FileStore D g) NoShelf G → Host (FileStore D g) NoShelf G → Type 0
+    HaveApplied = found.HaveApplied (IsIntact over_files without_packs) (IsOpen over_files without_packs) (seen over_files without_packs)
+        (left over_files without_packs)
 
-    abbrev pub AreLeftBy : List Arrival → List Told → Host (FileStore D g) G → Host (FileStore D g) G → Tables → Type 0
+    abbrev pub AreLeftBy : List Arrival → List Told → Host (FileStore D g) NoShelf G → Host (FileStore D g) NoShelf G → Tables → Type 0
     AreLeftBy events tolds old new =
-        found.AreLeftBy (IsIntact over_files) (IsOpen over_files) (seen over_files) (left over_files) (IsOlder new) events tolds old new
+        found.AreLeftBy (IsIntact over_files without_packs) (IsOpen over_files without_packs) (seen over_files without_packs)
+        (left over_files without_packs) (IsOlder new) events tolds old new
 
     -- a host came back with tables that have this property
-    abbrev pub Survives : (Octets → Octets) → (Tables → Type 0) → Host (FileStore D g) G → Host (FileStore D g) G → Opened (FileStore D g)
+    abbrev pub Survives : (Octets → Octets) → (Tables → Type 0) → Host (FileStore D g) NoShelf G → Host (FileStore D g) NoShelf G
+        → Opened (FileStore D g)
         → Type 0
     Survives digest Says old new opened =
-        found.Survives (IsIntact over_files) (IsOpen over_files) (seen over_files) (left over_files) digest Says old new (seen_again opened)
+        found.Survives (IsIntact over_files without_packs) (IsOpen over_files without_packs) (seen over_files without_packs)
+        (left over_files without_packs) digest Says old new (seen_again opened)
 
 -- after an event and a stop, a host comes back with the tables before the event or after it
 abbrev pub AfterStop : {D : Type 0} → Ghosts D → Type 0 → (Octets → Octets) → Type 0
-AfterStop {D} g G digest = (event : Arrival) (told : Told) (old new : Host (FileStore D g) G) (opened : Opened (FileStore D g))
+AfterStop {D} g G digest = (event : Arrival) (told : Told) (old new : Host (FileStore D g) NoShelf G) (opened : Opened (FileStore D g))
     → HasApplied event told old new → IsReady digest new → IsReopened new opened → IsCleanAgain opened
     → Survives digest (IsLeftBy event told old new) old new opened
 
@@ -140,27 +153,27 @@ AfterStop {D} g G digest = (event : Arrival) (told : Told) (old new : Host (File
 -- them, if the last has a stamp, and else with those that may remain of them
 abbrev pub AfterGroup : {D : Type 0} → Ghosts D → Type 0 → (Octets → Octets) → Type 0
 AfterGroup {D} g G digest =
-    (events : List Arrival) (tolds : List Told) (old new : Host (FileStore D g) G) (opened : Opened (FileStore D g))
+    (events : List Arrival) (tolds : List Told) (old new : Host (FileStore D g) NoShelf G) (opened : Opened (FileStore D g))
     → HaveApplied events tolds old new → IsReady digest new → IsReopened new opened → IsCleanAgain opened
     → Survives digest (AreLeftBy events tolds old new) old new opened
 
 -- and so it does after a reply was sent and a stop
 abbrev pub AfterReply : {D : Type 0} → Ghosts D → Type 0 → (Octets → Octets) → Type 0
 AfterReply {D} g G digest =
-    (event : Arrival) (told : Told) (ended : End) (old new : Host (FileStore D g) G) (opened : Opened (FileStore D g))
+    (event : Arrival) (told : Told) (ended : End) (old new : Host (FileStore D g) NoShelf G) (opened : Opened (FileStore D g))
     → HasReplied event told ended old new → IsReady digest new → IsReopened new opened → IsCleanAgain opened
     → Survives digest (IsLeftSince event told old new) old new opened
 
 -- if a crash leaves only sound tables, an open after it finds only sound ones, and no database of
 -- an earlier version
 abbrev pub OpensSound : {D : Type 0} → Ghosts D → Type 0 → (Octets → Octets) → Type 0
-OpensSound {D} g G digest = (host : Host (FileStore D g) G) → AllLeft (IsSoundHost digest) host
+OpensSound {D} g G digest = (host : Host (FileStore D g) NoShelf G) → AllLeft (IsSoundHost digest) host
     → AllShown (IsSoundHost digest) host × ((x : Tables) → ¬ IsOlder host x)
 
 -- if a crash before an event would have left only sound tables, so does one after it
 abbrev pub StaysSound : {D : Type 0} → Ghosts D → Type 0 → (Octets → Octets) → Type 0
-StaysSound {D} g G digest = (old new : Host (FileStore D g) G)
-    → AddsSound digest old new → AllLeft (IsSoundHost digest) old → IsIntact over_files new → AllLeft (IsSoundHost digest) new
+StaysSound {D} g G digest = (old new : Host (FileStore D g) NoShelf G)
+    → AddsSound digest old new → AllLeft (IsSoundHost digest) old → IsIntact over_files without_packs new → AllLeft (IsSoundHost digest) new
 
 -- ---- the storage that is served: a kept host, unless it was lost
 
@@ -169,7 +182,7 @@ StaysSound {D} g G digest = (old new : Host (FileStore D g) G)
 abbrev pub AfterKeptStop : {D G K : Type 0} {g : Ghosts D} {d : digester.Ghosts G} {k : size.Ghosts K} → (Octets → Octets)
     → storage.Ghosts (KeptHost D G K g d k) → Type 0
 AfterKeptStop {D} {G} {K} {g} {d} {k} digest s =
-    (event : Arrival) (told : Told) (old new : KeptHost D G K g d k) (it : RecallingStorage (FileStore D g) G)
+    (event : Arrival) (told : Told) (old new : KeptHost D G K g d k) (it : RecallingStorage (FileStore D g) NoShelf G)
     (opened : Opened (FileStore D g))
     → IsApplied s.IsIntact s.IsOpen s.seen s.left event told old new
     → StaysAtRest s.IsIntact s.IsOpen s.IsSoundStore s.seen s.left old new
@@ -181,7 +194,7 @@ AfterKeptStop {D} {G} {K} {g} {d} {k} digest s =
 abbrev pub AfterKeptReply : {D G K : Type 0} {g : Ghosts D} {d : digester.Ghosts G} {k : size.Ghosts K} → (Octets → Octets)
     → storage.Ghosts (KeptHost D G K g d k) → Type 0
 AfterKeptReply {D} {G} {K} {g} {d} {k} digest s =
-    (event : Arrival) (told : Told) (ended : End) (old new : KeptHost D G K g d k) (it : RecallingStorage (FileStore D g) G)
+    (event : Arrival) (told : Told) (ended : End) (old new : KeptHost D G K g d k) (it : RecallingStorage (FileStore D g) NoShelf G)
     (opened : Opened (FileStore D g))
     → HasAnswered s.IsIntact s.IsOpen s.seen s.left event told ended old new
     → StaysAtRest s.IsIntact s.IsOpen s.IsSoundStore s.seen s.left old new
@@ -193,7 +206,7 @@ AfterKeptReply {D} {G} {K} {g} {d} {k} digest s =
 abbrev pub AfterKeptGroup : {D G K : Type 0} {g : Ghosts D} {d : digester.Ghosts G} {k : size.Ghosts K} → (Octets → Octets)
     → storage.Ghosts (KeptHost D G K g d k) → Type 0
 AfterKeptGroup {D} {G} {K} {g} {d} {k} digest s =
-    (events : List Arrival) (tolds : List Told) (old new : KeptHost D G K g d k) (it : RecallingStorage (FileStore D g) G)
+    (events : List Arrival) (tolds : List Told) (old new : KeptHost D G K g d k) (it : RecallingStorage (FileStore D g) NoShelf G)
     (opened : Opened (FileStore D g))
     → found.HaveApplied s.IsIntact s.IsOpen s.seen s.left events tolds old new
     → StaysAtRest s.IsIntact s.IsOpen s.IsSoundStore s.seen s.left old new

@@ -1,19 +1,22 @@
 ghost use Rattle.std.specs.Prelude.{◌≡◌, IfOk, IfErr};
 ghost use Rattle.sqlite.specs.Effect.{Database};
+ghost use Rattle.bh_base.specs.Connections.{without_packs};
 ghost use Rattle.sqlite.specs.Files.{over_files};
 ghost use Rattle.sqlite.specs.Held.{state};
 ghost use Rattle.sqlite.specs.State.{IsLive};
 ghost use Rattle.sqlite.specs.Tree.{Trees};
 ghost use Rattle.bh_model.specs.State.{Octets};
 ghost use Rattle.bh_view.specs.Bodies.{IsSoundHost};
-ghost use Rattle.bh_schema.specs.Layer as layer;
-ghost use Rattle.bh_schema.specs.Layer.{standing, Leaves};
+ghost use Rattle.bh_base.specs.Layer as layer;
+ghost use Rattle.bh_base.specs.Layer.{standing, Leaves};
 ghost use Rattle.bh_schema.specs.Storage.{IsIntact, IsOpen};
 ghost use Rattle.bh_again.specs.Stops.{IsCleanAgain, ComesBack, IsNotNone, AllShown, IsLeft, kept_of};
 
 use crate::files::stop_and_open;
+use bh_base::connection::Connection as Joined;
 use bh_open::{OpenError, Opened, open_host};
 use bh_schema::host::{Digester, Host};
+use bh_shelf::no_shelf::NoShelf;
 use bh_types::limits::Tuning;
 use sqlite::{Alter, Connection, Error, FileStore, Options};
 use sqlite_disk::Crash;
@@ -46,22 +49,23 @@ fn look<S: Alter>(connection: &Connection<S>)
 /// find are sound, the host is at rest, and `NotAHostFile` is not among the errors.
 pub fn stop_and_open_host<D: Crash + Drop, G: Digester + Drop>(
     alloc: Global,
-    host: Host<FileStore<D>, G>,
+    host: Host<FileStore<D>, NoShelf, G>,
     options: Options,
     tuning: Tuning,
 ) -> Result<Opened<FileStore<D>>, ReopenError<D>>
     ensures given { IfOk result (λ opened. opened.tuning ≡ tuning) }
-    ensures settled { IsOpen over_files host → (db : Database) → IsLeft host db → db ≡ kept_of host }
-    ensures intact { IfOk result (λ opened. IsCleanAgain opened → IsIntact over_files host) }
-    ensures came_back { IfOk result (λ opened. IsCleanAgain opened → IsOpen over_files host → ComesBack (kept_of host) opened) }
+    ensures settled { IsOpen over_files without_packs host → (db : Database) → IsLeft host db → db ≡ kept_of host }
+    ensures intact { IfOk result (λ opened. IsCleanAgain opened → IsIntact over_files without_packs host) }
+    ensures came_back { IfOk result (λ opened. IsCleanAgain opened → IsOpen over_files without_packs host
+        → ComesBack (kept_of host) opened) }
     ensures merely { IfOk result (λ opened. IsCleanAgain opened
         → ∥ ((db : Database) × IsLeft host db × ComesBack db opened) ∥₁) }
-    ensures never { (digest : Octets → Octets) → (IsIntact over_files host → AllShown (IsSoundHost digest) host)
+    ensures never { (digest : Octets → Octets) → (IsIntact over_files without_packs host → AllShown (IsSoundHost digest) host)
         → IfErr result IsNotNone }
 {
-    let connection = host.into_connection();
-    look(&connection);
-    let connection = match stop_and_open(alloc, connection, options) {
+    let Joined { database, packs: _ } = host.into_connection();
+    look(&database);
+    let connection = match stop_and_open(alloc, database, options) {
         Ok(connection) => connection,
         Err(error) => return Err(ReopenError::Files(error)),
     };

@@ -6,7 +6,7 @@ use Rattle.bh_tables.specs.Schema.{Octets}
 use Rattle.bh_tables.specs.Typed.{BlockRow, tables_in}
 use Rattle.bh_view.specs.Blocks.{copy_in, free_ord, blocks_with}
 use Rattle.bh_cache.specs.Kept.{KeptBlocks, AreCopies}
-use Rattle.bh_schema.specs.Layer.{Standing, standing, IsStateClean, IsIntact, StateWithin}
+use Rattle.bh_base.specs.Layer.{Standing, standing, IsStateClean, IsIntact, StateWithin}
 use Rattle.bh_schema.specs.Working.{tables_at}
 use Rattle.bh_cache.proofs.Agreeing.{copies_grown}
 

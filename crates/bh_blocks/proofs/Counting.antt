@@ -9,7 +9,7 @@ use Rattle.bh_tables.specs.Shown.{Name, ref_name, block_name}
 use Rattle.bh_tables.proofs.ResolvedLemmas.{rebodied_twice}
 use Rattle.bh_tables.proofs.TotalLemmas.{uses_added, lowered_then, use_left}
 use Rattle.bh_tables.proofs.GarbageLemmas.{unneeded_added, measured_with, measured_added, added_at, turned_sums}
-use Rattle.bh_schema.specs.Layer.{Standing, standing, IsIntact, IsInsideBy, HoldsBy}
+use Rattle.bh_base.specs.Layer.{Standing, standing, IsIntact, IsInsideBy, HoldsBy}
 use Rattle.bh_blocks.specs.Uses.{IsNewName, IsCounted, IsUsed, AreUsed}
 
 -- an error that is trouble under no premise

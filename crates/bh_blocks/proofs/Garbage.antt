@@ -11,8 +11,8 @@ use Rattle.bh_tables.specs.Garbage.{HasUses, freed_of, Frees}
 use Rattle.bh_tables.proofs.GarbageLemmas.{one_of, block_is, unneeded_with, measured_with, turned_sums}
 use Rattle.bh_tables.proofs.TotalLemmas.{uses_with}
 use Rattle.bh_view.proofs.SortLemmas.{all-sort_by}
-use Rattle.bh_schema.specs.Layer.{Standing, IsInsideBy, Holds, HoldsBy}
-use Rattle.bh_schema.proofs.Calls.{whole_again}
+use Rattle.bh_base.specs.Layer.{Standing, IsInsideBy, Holds, HoldsBy}
+use Rattle.bh_base.proofs.Calls.{whole_again}
 use Rattle.bh_blocks.specs.Uses.{IsSize}
 
 -- the number is set to that of the references and blocks there are then

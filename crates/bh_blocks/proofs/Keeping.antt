@@ -9,7 +9,7 @@ use Rattle.bh_view.specs.Bodies.{IsResolved, AddsBody, pieces, body_stored}
 use Rattle.bh_view.proofs.BodyChanges.{body_stores}
 use Rattle.bh_view.proofs.ResolvedLemmas.{tables_resolved}
 use Rattle.bh_tables.proofs.ResolvedLemmas.{own_bodies}
-use Rattle.bh_schema.specs.Layer.{standing, IsIntact, IsStateClean, IsInside, IsReadable, StateWithin}
+use Rattle.bh_base.specs.Layer.{standing, IsIntact, IsStateClean, IsInside, IsReadable, StateWithin}
 use Rattle.bh_schema.specs.Working.{tables_at}
 use Rattle.bh_blocks.specs.Added.{IsNewBody}
 

@@ -1,10 +1,17 @@
 -- Calls over counts of uses, and over references and blocks beside them, in the midst of a write.
+use Rattle.bh_base.specs.Shown.{Backing, named, shown}
+use Rattle.bh_base.proofs.Statements.{here, ready_here}
+use Rattle.bh_base.proofs.Endings.{disk_clean, asks_shown}
+use Rattle.bh_base.proofs.Alone.{same_now}
+use Rattle.std.proofs.Common.{IsTrue}
+use Rattle.bh_base.proofs.Alone as alone
+use Rattle.bh_base.proofs.Apart.{refs_apart, uses_apart}
 use Rattle.std.proofs.Common.{◌≡◌, inl, ℕ, pos, ◌-ℤ◌, codes, List, [], ◌∷◌, ◌++◌, map, filter, Bool, true, false, None, int_lt, Ok, Err, Result, OnOk, IfOk, IfErr, sym, ap, ◌∙◌, subst}
 use Rattle.std.proofs.lemmas.Result.{IfOk-weaker}
 use Rattle.std.specs.List.{list_any, AllByRecursion}
 use Rattle.sqlite.specs.Edit.{next_rowid}
 use Rattle.sqlite.specs.declared.types.Value.TheVariants.{Blob}
-use Rattle.sqlite.specs.Effect.{IsDatabase}
+use Rattle.sqlite.specs.Effect.{Database, IsDatabase}
 use Rattle.sqlite.specs.Order.{Row}
 use Rattle.sqlite.specs.State.{State, HasCleanDisk, IsLive, Survives, Executes, CommitsBy, CommitsShowing, Shown, FailsToQuery}
 use Rattle.sqlite.specs.declared.error.Error.{Error}
@@ -26,9 +33,9 @@ use Rattle.bh_tables.proofs.StoredLemmas.{uses_turned}
 use Rattle.bh_tables.proofs.UseTexts.{uses_unused, lowered_suits, lowered_unwatched}
 use Rattle.bh_tables.specs.Garbage.{shown_uses}
 use Rattle.bh_tables.proofs.GarbageTexts.{uses_shown}
-use Rattle.bh_schema.specs.Layer.{standing, IsIntact, IsOpen, IsStateClean, IsStandingSettled, IsInsideBy, IsMidst, StateWithin}
-use Rattle.bh_schema.proofs.Calls.{Turn}
-use Rattle.bh_schema.proofs.Calls as call
+use Rattle.bh_base.specs.Layer.{standing, IsIntact, IsOpen, IsStateClean, IsStandingSettled, IsInsideBy, IsMidst, StateWithin}
+use Rattle.bh_base.proofs.Calls.{Turn}
+use Rattle.bh_base.proofs.Calls as call
 use Rattle.bh_blocks.specs.Uses.{IsNewName, IsUsed}
 use Rattle.bh_blocks.specs.UseChanges.{uses_after, MayChange, IsTextOf}
 use Rattle.bh_blocks.specs.declared.uses.UseChange.{UseChange}
@@ -38,146 +45,152 @@ use Rattle.bh_blocks.specs.declared.uses.UseChange.TheVariants as change
 use_turned : (old new : State) (change : List UseRow → List UseRow) (sums : Totals) → IsHostBy sums old.now → Leaves use_form host_schema 23 old new (change (typed use_form (old.now.trees 23))) → IsHostBy (counted change sums) new.now × (tables new ≡ tables old)
 use_turned old new change sums host l = uses_turned sums (change sums.uses) old new host (subst (λ us. Leaves use_form host_schema 23 old new (change us)) host.held.counts l)
 
-module _ (old new : State) (midst : IsStateClean old → IsMidst (standing old)) (result : Result ℕ Error) (live : IsLive old) {sql : List ℕ} {params : Row} where
-  pub adds : {x : UseRow} → InsertText use_form host_schema 9 (at 23 uses_table) sql params x → (HasCleanDisk new → Executes sql params old new result) → Survives old new (CommitsBy sql params old)
-      → Turn old new (counted (λ us. us ++ x ∷ [])) (λ t. t) result
-  adds {x} it = call.adds use_form 9 (at 23 uses_table) uses_is (λ sums db h. h.held.uses) old new midst result live (counted (λ us. us ++ x ∷ [])) (λ t. t) it (use_turned old new (λ us. us ++ x ∷ []))
+module _ (a : Backing) (stored_old stored_new : State) (midst : IsStateClean (shown a stored_old) → IsMidst (standing (shown a stored_old))) (result : Result ℕ Error) (live : IsLive stored_old) {sql : List ℕ} {params : Row} where
+  pub adds : {x : UseRow} → InsertText use_form host_schema 9 (at 23 uses_table) sql params x → (HasCleanDisk stored_new → Executes sql params stored_old stored_new result) → Survives stored_old stored_new (CommitsBy sql params stored_old)
+      → Turn (shown a stored_old) (shown a stored_new) (counted (λ us. us ++ x ∷ [])) (λ t. t) result
+  adds {x} it = call.adds use_form 9 (at 23 uses_table) uses_is (λ sums db h. h.held.uses) uses_apart a stored_old stored_new midst result live (counted (λ us. us ++ x ∷ [])) (λ t. t) it (use_turned (shown a stored_old) (shown a stored_new) (λ us. us ++ x ∷ []))
 
-  pub sets : {m : UseRow → Bool} {f : UseRow → UseRow} → UpdateText use_form host_schema 9 (at 23 uses_table) sql params m f → (HasCleanDisk new → Executes sql params old new result) → Survives old new (CommitsBy sql params old)
-      → Turn old new (counted (update_where m f)) (λ t. t) result
-  sets {m} {f} it = call.sets use_form 9 (at 23 uses_table) uses_is (λ sums db h. h.held.uses) old new midst result live (counted (update_where m f)) (λ t. t) it (use_turned old new (update_where m f))
+  pub sets : {m : UseRow → Bool} {f : UseRow → UseRow} → UpdateText use_form host_schema 9 (at 23 uses_table) sql params m f → (HasCleanDisk stored_new → Executes sql params stored_old stored_new result) → Survives stored_old stored_new (CommitsBy sql params stored_old)
+      → Turn (shown a stored_old) (shown a stored_new) (counted (update_where m f)) (λ t. t) result
+  sets {m} {f} it = call.sets use_form 9 (at 23 uses_table) uses_is (λ sums db h. h.held.uses) uses_apart a stored_old stored_new midst result live (counted (update_where m f)) (λ t. t) it (use_turned (shown a stored_old) (shown a stored_new) (update_where m f))
 
-  pub drops : {m : UseRow → Bool} → DeleteText use_form host_schema 9 (at 23 uses_table) sql params m → (HasCleanDisk new → Executes sql params old new result) → Survives old new (CommitsBy sql params old)
-      → Turn old new (counted (delete_where m)) (λ t. t) result
-  drops {m} it = call.drops use_form 9 (at 23 uses_table) uses_is (λ sums db h. h.held.uses) old new midst result live (counted (delete_where m)) (λ t. t) it (use_turned old new (delete_where m))
+  pub drops : {m : UseRow → Bool} → DeleteText use_form host_schema 9 (at 23 uses_table) sql params m → (HasCleanDisk stored_new → Executes sql params stored_old stored_new result) → Survives stored_old stored_new (CommitsBy sql params stored_old)
+      → Turn (shown a stored_old) (shown a stored_new) (counted (delete_where m)) (λ t. t) result
+  drops {m} it = call.drops use_form 9 (at 23 uses_table) uses_is (λ sums db h. h.held.uses) uses_apart a stored_old stored_new midst result live (counted (delete_where m)) (λ t. t) it (use_turned (shown a stored_old) (shown a stored_new) (delete_where m))
 
   -- references come and go, and counts stay
-  pub ref_comes : {r : RefRow} → InsertText ref_form host_schema 6 (at 12 refs_table) sql params r → (HasCleanDisk new → Executes sql params old new result) → Survives old new (CommitsBy sql params old)
-      → Turn old new (λ s. s) (λ t. rebodied t (t.refs ++ r ∷ []) t.blocks) result
-  ref_comes {r} it = call.adds ref_form 6 (at 12 refs_table) refs_is (λ sums db h. h.held.refs) old new midst result live (λ s. s) (λ t. rebodied t (t.refs ++ r ∷ []) t.blocks) it (λ sums host l. turned (refs sums) old new _ host l)
+  pub ref_comes : {r : RefRow} → InsertText ref_form host_schema 6 (at 12 refs_table) sql params r → (HasCleanDisk stored_new → Executes sql params stored_old stored_new result) → Survives stored_old stored_new (CommitsBy sql params stored_old)
+      → Turn (shown a stored_old) (shown a stored_new) (λ s. s) (λ t. rebodied t (t.refs ++ r ∷ []) t.blocks) result
+  ref_comes {r} it = call.adds ref_form 6 (at 12 refs_table) refs_is (λ sums db h. h.held.refs) refs_apart a stored_old stored_new midst result live (λ s. s) (λ t. rebodied t (t.refs ++ r ∷ []) t.blocks) it (λ sums host l. turned (refs sums) (shown a stored_old) (shown a stored_new) _ host l)
 
-  pub refs_go : {m : RefRow → Bool} → DeleteText ref_form host_schema 6 (at 12 refs_table) sql params m → (HasCleanDisk new → Executes sql params old new result) → Survives old new (CommitsBy sql params old)
-      → Turn old new (λ s. s) (λ t. rebodied t (delete_where m t.refs) t.blocks) result
-  refs_go {m} it = call.drops ref_form 6 (at 12 refs_table) refs_is (λ sums db h. h.held.refs) old new midst result live (λ s. s) (λ t. rebodied t (delete_where m t.refs) t.blocks) it (λ sums host l. turned (refs sums) old new _ host l)
+  pub refs_go : {m : RefRow → Bool} → DeleteText ref_form host_schema 6 (at 12 refs_table) sql params m → (HasCleanDisk stored_new → Executes sql params stored_old stored_new result) → Survives stored_old stored_new (CommitsBy sql params stored_old)
+      → Turn (shown a stored_old) (shown a stored_new) (λ s. s) (λ t. rebodied t (delete_where m t.refs) t.blocks) result
+  refs_go {m} it = call.drops ref_form 6 (at 12 refs_table) refs_is (λ sums db h. h.held.refs) refs_apart a stored_old stored_new midst result live (λ s. s) (λ t. rebodied t (delete_where m t.refs) t.blocks) it (λ sums host l. turned (refs sums) (shown a stored_old) (shown a stored_new) _ host l)
 
   -- and so do blocks
-  pub block_comes : {b : BlockRow} → InsertText block_form host_schema 5 (at 10 blocks_table) sql params b → (HasCleanDisk new → Executes sql params old new result) → Survives old new (CommitsBy sql params old)
-      → Turn old new (λ s. s) (λ t. rebodied t t.refs (t.blocks ++ b ∷ [])) result
-  block_comes {b} it = call.adds block_form 5 (at 10 blocks_table) blocks_is (λ sums db h. h.held.blocks) old new midst result live (λ s. s) (λ t. rebodied t t.refs (t.blocks ++ b ∷ [])) it (λ sums host l. turned (blocks sums) old new _ host l)
+  pub block_comes : {b : BlockRow} → InsertText block_form host_schema 5 (at 10 blocks_table) sql params b → (HasCleanDisk stored_new → Executes sql params stored_old stored_new result) → Survives stored_old stored_new (CommitsBy sql params stored_old)
+      → Turn (shown a stored_old) (shown a stored_new) (λ s. s) (λ t. rebodied t t.refs (t.blocks ++ b ∷ [])) result
+  block_comes {b} it = alone.adds block_form 5 (at 10 blocks_table) blocks_is (λ sums db h. h.held.blocks) a stored_old stored_new midst result live (λ s. s) (λ t. rebodied t t.refs (t.blocks ++ b ∷ [])) it (λ sums host l. turned (blocks sums) stored_old stored_new _ host l)
 
-  pub block_goes : {m : BlockRow → Bool} → DeleteText block_form host_schema 5 (at 10 blocks_table) sql params m → (HasCleanDisk new → Executes sql params old new result) → Survives old new (CommitsBy sql params old)
-      → Turn old new (λ s. s) (λ t. rebodied t t.refs (delete_where m t.blocks)) result
-  block_goes {m} it = call.drops block_form 5 (at 10 blocks_table) blocks_is (λ sums db h. h.held.blocks) old new midst result live (λ s. s) (λ t. rebodied t t.refs (delete_where m t.blocks)) it (λ sums host l. turned (blocks sums) old new _ host l)
+  pub block_goes : {m : BlockRow → Bool} → DeleteText block_form host_schema 5 (at 10 blocks_table) sql params m → (HasCleanDisk stored_new → Executes sql params stored_old stored_new result) → Survives stored_old stored_new (CommitsBy sql params stored_old)
+      → Turn (shown a stored_old) (shown a stored_new) (λ s. s) (λ t. rebodied t t.refs (delete_where m t.blocks)) result
+  block_goes {m} it = alone.drops block_form 5 (at 10 blocks_table) blocks_is (λ sums db h. h.held.blocks) a stored_old stored_new midst result live (λ s. s) (λ t. rebodied t t.refs (delete_where m t.blocks)) it (λ sums host l. turned (blocks sums) stored_old stored_new _ host l)
 
   -- a name under which a block comes is new
-  pub block_fresh : {b : BlockRow} → InsertText block_form host_schema 5 (at 10 blocks_table) sql params b → (IsStateClean new → IsStateClean old) → (HasCleanDisk new → Executes sql params old new result) → Survives old new (CommitsBy sql params old)
-      → OnOk result (IsStateClean new → IsNewName (block_name b) (tables_in (standing old).now))
+  pub block_fresh : {b : BlockRow} → InsertText block_form host_schema 5 (at 10 blocks_table) sql params b → (IsStateClean (shown a stored_new) → IsStateClean (shown a stored_old)) → (HasCleanDisk stored_new → Executes sql params stored_old stored_new result) → Survives stored_old stored_new (CommitsBy sql params stored_old)
+      → OnOk result (IsStateClean (shown a stored_new) → IsNewName (block_name b) (tables_in (standing (shown a stored_old)).now))
   unfolding standing IsIntact IsOpen
-  block_fresh {b} it was runs survives = go result (λ c. text.insert_frees block_form host_schema orderly 5 (at 10 blocks_table) blocks_is old new block_ready sql params b it result runs survives c.intact (was c).is_open)
+  block_fresh {b} it was runs survives = go result (λ c. let clean = disk_clean a stored_old stored_new stored_new c.intact in text.insert_frees block_form host_schema orderly 5 (at 10 blocks_table) blocks_is stored_old stored_new (block_ready clean.1) sql params b it result runs survives clean.0 (was c).is_open)
     where
-      block_ready : IsReadyAt block_form host_schema 10 old
-      block_ready clean up = let m = midst (record { intact = clean; is_open = up }) in (m.by.host.schema, m.by.host.held.blocks)
+      block_ready : IsTrue a.is_clean → IsReadyAt block_form host_schema 10 stored_old
+      block_ready = alone.bare_ready block_form 5 (at 10 blocks_table) blocks_is (λ sums db h. h.held.blocks) a stored_old stored_new midst
 
-      is_new : IsStateClean old → AreFree block_form host_schema (at 10 blocks_table) (old.now.trees 10) (put block_form (next_rowid (old.now.trees 10), b)) → IsNewName (block_name b) (tables_in old.now)
+      is_new : IsStateClean (shown a stored_old) → AreFree block_form host_schema (at 10 blocks_table) (stored_old.now.trees 10) (put block_form (next_rowid (stored_old.now.trees 10), b)) → IsNewName (block_name b) (tables_in (shown a stored_old).now)
       is_new c free =
           let m = midst c in
-          let sound = subst (λ s. IsDatabase (record { schema = s; trees = old.now.trees })) m.by.host.schema (live c.is_open).0 in
-          let none = block_free old.now m.by.host b free in
-          record { free = none; unused = block_unused m.sums old.now sound m.by.host (block_name b) none }
+          let is = same_now a stored_old m.by.host in
+          let host = subst (IsHostBy m.sums) is m.by.host in
+          let sound = subst (λ s. IsDatabase (record { schema = s; trees = stored_old.now.trees })) host.schema (live c.is_open).0 in
+          let none = block_free stored_old.now host b free in
+          subst (λ (db : Database). IsNewName (block_name b) (tables_in db)) (sym is) (record { free = none; unused = block_unused m.sums stored_old.now sound host (block_name b) none })
 
-      go : (r : Result ℕ Error) → (IsStateClean new → OnOk r (AreFree block_form host_schema (at 10 blocks_table) (old.now.trees 10) (put block_form (next_rowid (old.now.trees 10), b)))) → OnOk r (IsStateClean new → IsNewName (block_name b) (tables_in old.now))
+      go : (r : Result ℕ Error) → (IsStateClean (shown a stored_new) → OnOk r (AreFree block_form host_schema (at 10 blocks_table) (stored_old.now.trees 10) (put block_form (next_rowid (stored_old.now.trees 10), b)))) → OnOk r (IsStateClean (shown a stored_new) → IsNewName (block_name b) (tables_in (shown a stored_old).now))
       go (Err e) h = tt
       go (Ok n) h = λ c. is_new (was c) (h c)
 
   -- ---- which errors are trouble alone
 
-  pub use_drops_trouble : {m : UseRow → Bool} → DeleteText use_form host_schema 9 (at 23 uses_table) sql params m → (HasCleanDisk new → Executes sql params old new result) → Survives old new (CommitsBy sql params old)
-      → IfErr result (λ e. IsIntact new → (standing old).limit ≡ None → Unit {0} → is_trouble e ≡ true)
-  use_drops_trouble it runs survives = call.drops_trouble use_form 9 (at 23 uses_table) uses_is (λ sums db h. h.held.uses) old new midst result live (λ s. s) (λ t. t) it (λ clean _. uses_unused (standing old).now.trees _) runs survives
+  pub use_drops_trouble : {m : UseRow → Bool} → DeleteText use_form host_schema 9 (at 23 uses_table) sql params m → (HasCleanDisk stored_new → Executes sql params stored_old stored_new result) → Survives stored_old stored_new (CommitsBy sql params stored_old)
+      → IfErr result (λ e. IsIntact (shown a stored_new) → (standing (shown a stored_old)).limit ≡ None → Unit {0} → is_trouble e ≡ true)
+  use_drops_trouble it runs survives = alone.drops_trouble use_form 9 (at 23 uses_table) uses_is (λ sums db h. h.held.uses) a stored_old stored_new midst result live it (λ clean _. uses_unused (standing (shown a stored_old)).now.trees _) runs survives
 
-  pub refs_go_trouble : {m : RefRow → Bool} → DeleteText ref_form host_schema 6 (at 12 refs_table) sql params m → (HasCleanDisk new → Executes sql params old new result) → Survives old new (CommitsBy sql params old)
-      → IfErr result (λ e. IsIntact new → (standing old).limit ≡ None → Unit {0} → is_trouble e ≡ true)
-  refs_go_trouble it runs survives = call.drops_trouble ref_form 6 (at 12 refs_table) refs_is (λ sums db h. h.held.refs) old new midst result live (λ s. s) (λ t. t) it (λ clean _. refs_unused (standing old).now.trees _) runs survives
+  pub refs_go_trouble : {m : RefRow → Bool} → DeleteText ref_form host_schema 6 (at 12 refs_table) sql params m → (HasCleanDisk stored_new → Executes sql params stored_old stored_new result) → Survives stored_old stored_new (CommitsBy sql params stored_old)
+      → IfErr result (λ e. IsIntact (shown a stored_new) → (standing (shown a stored_old)).limit ≡ None → Unit {0} → is_trouble e ≡ true)
+  refs_go_trouble it runs survives = alone.drops_trouble ref_form 6 (at 12 refs_table) refs_is (λ sums db h. h.held.refs) a stored_old stored_new midst result live it (λ clean _. refs_unused (standing (shown a stored_old)).now.trees _) runs survives
 
-  pub ref_comes_trouble : (r : RefRow) → InsertText ref_form host_schema 6 (at 12 refs_table) sql params r → (HasCleanDisk new → Executes sql params old new result) → Survives old new (CommitsBy sql params old)
-      → IfErr result (λ e. IsIntact new → (standing old).limit ≡ None → (list_any (is_at_place (r.tenant, r.body) r.place) (tables_in (standing old).now).refs ≡ false) × (list_any (is_block (ref_name r)) (tables_in (standing old).now).blocks ≡ true) → is_trouble e ≡ true)
-  ref_comes_trouble r it runs survives = call.adds_trouble ref_form 6 (at 12 refs_table) refs_is (λ sums db h. h.held.refs) old new midst result live (λ s. s) (λ t. t) it (λ clean may. new_ref (standing old).now (midst clean).by.host r may.0 may.1) runs survives
+  pub ref_comes_trouble : (r : RefRow) → InsertText ref_form host_schema 6 (at 12 refs_table) sql params r → (HasCleanDisk stored_new → Executes sql params stored_old stored_new result) → Survives stored_old stored_new (CommitsBy sql params stored_old)
+      → IfErr result (λ e. IsIntact (shown a stored_new) → (standing (shown a stored_old)).limit ≡ None → (list_any (is_at_place (r.tenant, r.body) r.place) (tables_in (standing (shown a stored_old)).now).refs ≡ false) × (list_any (is_block (ref_name r)) (tables_in (standing (shown a stored_old)).now).blocks ≡ true) → is_trouble e ≡ true)
+  ref_comes_trouble r it runs survives = alone.adds_trouble ref_form 6 (at 12 refs_table) refs_is (λ sums db h. h.held.refs) a stored_old stored_new midst result live it (λ clean may. new_ref (standing (shown a stored_old)).now (midst clean).by.host r may.0 may.1) runs survives
 
-  pub block_comes_trouble : (b : BlockRow) → InsertText block_form host_schema 5 (at 10 blocks_table) sql params b → (HasCleanDisk new → Executes sql params old new result) → Survives old new (CommitsBy sql params old)
-      → IfErr result (λ e. IsIntact new → (standing old).limit ≡ None → list_any (is_block (block_name b)) (tables_in (standing old).now).blocks ≡ false → is_trouble e ≡ true)
-  block_comes_trouble b it runs survives = call.adds_trouble block_form 5 (at 10 blocks_table) blocks_is (λ sums db h. h.held.blocks) old new midst result live (λ s. s) (λ t. t) it (λ clean free. new_block (standing old).now (midst clean).by.host b free) runs survives
+  pub block_comes_trouble : (b : BlockRow) → InsertText block_form host_schema 5 (at 10 blocks_table) sql params b → (HasCleanDisk stored_new → Executes sql params stored_old stored_new result) → Survives stored_old stored_new (CommitsBy sql params stored_old)
+      → IfErr result (λ e. IsIntact (shown a stored_new) → (standing (shown a stored_old)).limit ≡ None → list_any (is_block (block_name b)) (tables_in (standing (shown a stored_old)).now).blocks ≡ false → is_trouble e ≡ true)
+  block_comes_trouble b it runs survives = alone.adds_trouble block_form 5 (at 10 blocks_table) blocks_is (λ sums db h. h.held.blocks) a stored_old stored_new midst result live it (λ clean free. new_block (standing (shown a stored_old)).now (midst clean).by.host b free) runs survives
 
-  pub block_goes_trouble : (q : Name) → DeleteText block_form host_schema 5 (at 10 blocks_table) sql params (is_block q) → (HasCleanDisk new → Executes sql params old new result) → Survives old new (CommitsBy sql params old)
-      → IfErr result (λ e. IsIntact new → (standing old).limit ≡ None → list_any (is_use q) (tables_in (standing old).now).refs ≡ false → is_trouble e ≡ true)
-  block_goes_trouble q it runs survives = call.drops_trouble block_form 5 (at 10 blocks_table) blocks_is (λ sums db h. h.held.blocks) old new midst result live (λ s. s) (λ t. t) it (λ clean unused. unreferenced_goes (standing old).now (midst clean).by.host q unused) runs survives
+  pub block_goes_trouble : (q : Name) → DeleteText block_form host_schema 5 (at 10 blocks_table) sql params (is_block q) → (HasCleanDisk stored_new → Executes sql params stored_old stored_new result) → Survives stored_old stored_new (CommitsBy sql params stored_old)
+      → IfErr result (λ e. IsIntact (shown a stored_new) → (standing (shown a stored_old)).limit ≡ None → list_any (is_use q) (tables_in (standing (shown a stored_old)).now).refs ≡ false → is_trouble e ≡ true)
+  block_goes_trouble q it runs survives = alone.drops_trouble block_form 5 (at 10 blocks_table) blocks_is (λ sums db h. h.held.blocks) a stored_old stored_new midst result live it (λ clean unused. unreferenced_goes (standing (shown a stored_old)).now (midst clean).by.host q unused) runs survives
 
   -- a count that is above 0 may be lowered
-  pub lowers_trouble : (q : Name) → UpdateText use_form host_schema 9 (at 23 uses_table) sql params (is_named q) (λ u. record u { uses = u.uses -ℤ pos 1 }) → (HasCleanDisk new → Executes sql params old new result) → Survives old new (CommitsBy sql params old)
-      → IfErr result (λ e. IsIntact new → (standing old).limit ≡ None → IsUsed q (standing old) → is_trouble e ≡ true)
-  lowers_trouble q it runs survives = call.sets_trouble use_form 9 (at 23 uses_table) uses_is (λ sums db h. h.held.uses) old new midst result live (λ s. s) (λ t. t) it (lowered_unwatched q) (λ clean used e there suits.
+  pub lowers_trouble : (q : Name) → UpdateText use_form host_schema 9 (at 23 uses_table) sql params (is_named q) (λ u. record u { uses = u.uses -ℤ pos 1 }) → (HasCleanDisk stored_new → Executes sql params stored_old stored_new result) → Survives stored_old stored_new (CommitsBy sql params stored_old)
+      → IfErr result (λ e. IsIntact (shown a stored_new) → (standing (shown a stored_old)).limit ≡ None → IsUsed q (standing (shown a stored_old)) → is_trouble e ≡ true)
+  lowers_trouble q it runs survives = call.sets_trouble use_form 9 (at 23 uses_table) uses_is (λ sums db h. h.held.uses) uses_apart a stored_old stored_new midst result live (λ s. s) (λ t. t) it (lowered_unwatched q) (λ clean used e there suits.
       let m = midst clean in
-      let found = has_filtered (λ (d : Entry UseRow). is_named q d.1) (entries use_form ((standing old).now.trees 23)) e there in
-      let counts = call.at_entry use_form (λ u. is_named q u ≡ true → int_lt (pos 0) u.uses ≡ true) ((standing old).now.trees 23) (subst (AllByRecursion (λ u. is_named q u ≡ true → int_lt (pos 0) u.uses ≡ true)) (sym m.by.host.held.counts) (used m.sums m.by)) e found.0 in
+      let found = has_filtered (λ (d : Entry UseRow). is_named q d.1) (entries use_form ((standing (shown a stored_old)).now.trees 23)) e there in
+      let counts = call.at_entry use_form (λ u. is_named q u ≡ true → int_lt (pos 0) u.uses ≡ true) ((standing (shown a stored_old)).now.trees 23) (subst (AllByRecursion (λ u. is_named q u ≡ true → int_lt (pos 0) u.uses ≡ true)) (sym m.by.host.held.counts) (used m.sums m.by)) e found.0 in
       lowered_suits e.0 e.1 (counts found.1) suits) runs survives
 
 -- ---- each change of a count
 
-module _ (old new : State) (midst : IsStateClean old → IsMidst (standing old)) (result : Result ℕ Error) (live : IsLive old) (sql : List ℕ) (q : Name) where
+module _ (a : Backing) (stored_old stored_new : State) (midst : IsStateClean (shown a stored_old) → IsMidst (standing (shown a stored_old))) (result : Result ℕ Error) (live : IsLive stored_old) (sql : List ℕ) (q : Name) where
   abbrev params : Row
   params = Blob q.0 ∷ number q.1 ∷ []
 
-  pub turns : (change : UseChange) → IsTextOf change sql → (HasCleanDisk new → Executes sql params old new result) → Survives old new (CommitsBy sql params old) → Turn old new (counted (uses_after change q)) (λ t. t) result
-  turns change.Added it = adds old new midst result live (it q)
-  turns change.Raised it = sets old new midst result live (it q)
-  turns change.Lowered it = sets old new midst result live (it q)
-  turns change.Removed it = drops old new midst result live (it q)
+  pub turns : (change : UseChange) → IsTextOf change sql → (HasCleanDisk stored_new → Executes sql params stored_old stored_new result) → Survives stored_old stored_new (CommitsBy sql params stored_old) → Turn (shown a stored_old) (shown a stored_new) (counted (uses_after change q)) (λ t. t) result
+  turns change.Added it = adds a stored_old stored_new midst result live (it q)
+  turns change.Raised it = sets a stored_old stored_new midst result live (it q)
+  turns change.Lowered it = sets a stored_old stored_new midst result live (it q)
+  turns change.Removed it = drops a stored_old stored_new midst result live (it q)
 
   -- nothing is said under a premise that doesn't hold
-  unsaid : (r : Result ℕ Error) → IfErr r (λ e. IsIntact new → (standing old).limit ≡ None → ⊥ → is_trouble e ≡ true)
+  unsaid : (r : Result ℕ Error) → IfErr r (λ e. IsIntact (shown a stored_new) → (standing (shown a stored_old)).limit ≡ None → ⊥ → is_trouble e ≡ true)
   unsaid (Ok n) = tt
   unsaid (Err e) = λ intact unlimited no. absurd no
 
-  pub turns_trouble : (change : UseChange) → IsTextOf change sql → (HasCleanDisk new → Executes sql params old new result) → Survives old new (CommitsBy sql params old)
-      → IfErr result (λ e. IsIntact new → (standing old).limit ≡ None → MayChange change q (standing old) → is_trouble e ≡ true)
+  pub turns_trouble : (change : UseChange) → IsTextOf change sql → (HasCleanDisk stored_new → Executes sql params stored_old stored_new result) → Survives stored_old stored_new (CommitsBy sql params stored_old)
+      → IfErr result (λ e. IsIntact (shown a stored_new) → (standing (shown a stored_old)).limit ≡ None → MayChange change q (standing (shown a stored_old)) → is_trouble e ≡ true)
   turns_trouble change.Added it runs survives = unsaid result
   turns_trouble change.Raised it runs survives = unsaid result
-  turns_trouble change.Lowered it runs survives = lowers_trouble old new midst result live q (it q) runs survives
-  turns_trouble change.Removed it runs survives = use_drops_trouble old new midst result live (it q) runs survives
+  turns_trouble change.Lowered it runs survives = lowers_trouble a stored_old stored_new midst result live q (it q) runs survives
+  turns_trouble change.Removed it runs survives = use_drops_trouble a stored_old stored_new midst result live (it q) runs survives
 
 -- ---- the count of a block is told
 
-module _ (old new : State) (midst : IsStateClean old → IsMidst (standing old)) (q : Name) where
+module _ (a : Backing) (stored_old stored_new : State) (midst : IsStateClean (shown a stored_old) → IsMidst (standing (shown a stored_old))) (q : Name) where
   abbrev count_text : List ℕ
   count_text = codes "SELECT uses FROM uses WHERE digest = ?1 AND ord = ?2 ORDER BY rowid"
 
   abbrev its_name : Row
   its_name = Blob q.0 ∷ number q.1 ∷ []
 
-  count_ready : IsReadyAt use_form host_schema 23 old
+  count_shown : IsReadyAt use_form host_schema 23 (shown a stored_old)
   unfolding standing IsIntact IsOpen
-  count_ready clean up = let m = midst (record { intact = clean; is_open = up }) in (m.by.host.schema, m.by.host.held.uses)
+  count_shown clean up = let m = midst (record { intact = clean; is_open = up }) in (m.by.host.schema, m.by.host.held.uses)
+
+  count_ready : IsTrue a.is_clean → IsReadyAt use_form host_schema 23 stored_old
+  count_ready clean = ready_here 23 uses_apart use_form a stored_old clean count_shown
 
   pub record IsTold {X : Type 0} (rows_in : X → List Row) (result : Result X Error) : Type 0 where
-    pub within : StateWithin old new
-    pub opens : OnOk result (IsIntact new → IsOpen old × IsOpen new)
-    pub same : OnOk result (IsIntact new → standing new ≡ standing old)
-    pub rows : IfOk result (λ x. IsStateClean new → (sums : Totals) → IsInsideBy sums (standing old) → rows_in x ≡ map shown_uses (filter (is_named q) sums.uses))
-    pub trouble : IfErr result (λ e. IsIntact new → (standing old).limit ≡ None → is_trouble e ≡ true)
+    pub within : StateWithin (shown a stored_old) (shown a stored_new)
+    pub opens : OnOk result (IsIntact (shown a stored_new) → IsOpen (shown a stored_old) × IsOpen (shown a stored_new))
+    pub same : OnOk result (IsIntact (shown a stored_new) → standing (shown a stored_new) ≡ standing (shown a stored_old))
+    pub rows : IfOk result (λ x. IsStateClean (shown a stored_new) → (sums : Totals) → IsInsideBy sums (standing (shown a stored_old)) → rows_in x ≡ map shown_uses (filter (is_named q) sums.uses))
+    pub trouble : IfErr result (λ e. IsIntact (shown a stored_new) → (standing (shown a stored_old)).limit ≡ None → is_trouble e ≡ true)
 
-  pub count_told : {X : Type 0} (rows_in : X → List Row) (result : Result X Error) → (HasCleanDisk new → IfOk result (λ x. Shown count_text its_name old new (rows_in x)))
-      → (HasCleanDisk new → IfErr result (FailsToQuery count_text its_name old new)) → Survives old new (CommitsShowing count_text its_name old) → IsTold rows_in result
+  pub count_told : {X : Type 0} (rows_in : X → List Row) (result : Result X Error) → (HasCleanDisk stored_new → IfOk result (λ x. Shown count_text its_name stored_old stored_new (rows_in x)))
+      → (HasCleanDisk stored_new → IfErr result (FailsToQuery count_text its_name stored_old stored_new)) → Survives stored_old stored_new (CommitsShowing count_text its_name stored_old) → IsTold rows_in result
   unfolding standing
   count_told {X} rows_in result ok err survives = record {
-    within = call.asks_within old new settled result asks;
-    opens = call.asks_opens old new settled result asks;
-    same = call.asks_same old new settled result asks;
-    rows = call.if_clean new result (λ x. (sums : Totals) → IsInsideBy sums (standing old) → rows_in x ≡ map shown_uses (filter (is_named q) sums.uses)) (λ clean. IfOk-weaker result _ _ (λ x is sums by. is ∙ ap (λ us. map shown_uses (filter (is_named q) us)) by.host.held.counts)
-        (text.select_rows use_form host_schema 23 old new count_ready count_text its_name (is_named q) shown_uses no_limit (uses_shown q) rows_in result ok survives clean));
-    trouble = call.asks_trouble old new settled result asks;
+    within = call.asks_within (shown a stored_old) (shown a stored_new) settled result asks;
+    opens = call.asks_opens (shown a stored_old) (shown a stored_new) settled result asks;
+    same = call.asks_same (shown a stored_old) (shown a stored_new) settled result asks;
+    rows = call.if_clean (shown a stored_new) result (λ x. (sums : Totals) → IsInsideBy sums (standing (shown a stored_old)) → rows_in x ≡ map shown_uses (filter (is_named q) sums.uses)) (λ h. let clean = disk_clean a stored_old stored_new stored_new h in IfOk-weaker result _ _ (λ x is sums by.
+        is ∙ ap (λ rows. map shown_uses (filter (is_named q) (typed use_form rows))) (sym (here 23 uses_apart (named a stored_old.in_transaction) stored_old.now.trees)) ∙ ap (λ us. map shown_uses (filter (is_named q) us)) by.host.held.counts)
+        (text.select_rows use_form host_schema 23 stored_old stored_new (count_ready clean.1) count_text its_name (is_named q) shown_uses no_limit (uses_shown q) rows_in result ok survives clean.0));
+    trouble = call.asks_trouble (shown a stored_old) (shown a stored_new) settled result asks;
   }
     where
-      settled : IsStateClean old → IsStandingSettled (standing old)
+      settled : IsStateClean (shown a stored_old) → IsStandingSettled (standing (shown a stored_old))
       settled c = inl (midst c).by.inside
 
-      asks : Asks old new result
-      asks = text.select_asks use_form host_schema 23 old new count_ready count_text its_name (is_named q) shown_uses no_limit (uses_shown q) rows_in result ok err survives
+      asks : Asks (shown a stored_old) (shown a stored_new) result
+      asks = asks_shown a stored_old stored_new result survives (λ clean. text.select_asks use_form host_schema 23 stored_old stored_new (count_ready clean) count_text its_name (is_named q) shown_uses no_limit (uses_shown q) rows_in result ok err survives)

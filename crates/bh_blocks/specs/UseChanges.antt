@@ -6,7 +6,7 @@ use Rattle.bh_rows.specs.Texts.{InsertText, UpdateText, DeleteText}
 use Rattle.bh_tables.specs.Schema.{host_schema, uses_table, at}
 use Rattle.bh_tables.specs.Typed.{UseRow, use_form, is_named, raised, lowered, number}
 use Rattle.bh_tables.specs.Shown.{Name}
-use Rattle.bh_schema.specs.Layer.{Standing}
+use Rattle.bh_base.specs.Layer.{Standing}
 use Rattle.bh_blocks.specs.Uses.{IsUsed}
 use Rattle.bh_blocks.specs.declared.uses.UseChange.{UseChange}
 use Rattle.bh_blocks.specs.declared.uses.UseChange.TheVariants as change

@@ -5,7 +5,7 @@ use Rattle.sqlite.specs.Order.{Row}
 use Rattle.bh_tables.specs.Typed.{Totals, UseRow, RefRow, BlockRow, Tables, is_named, lowered_by, totals_of}
 use Rattle.bh_tables.specs.Garbage.{HasUses}
 use Rattle.bh_tables.specs.Shown.{Name, ref_name, is_block, is_use, is_unreferenced, shown_ref, shown_name}
-use Rattle.bh_schema.specs.Layer.{Standing, IsInsideBy}
+use Rattle.bh_base.specs.Layer.{Standing, IsInsideBy}
 
 -- no block has the name, and no reference names it
 pub record IsNewName (q : Name) (tables : Tables) : Type 0 where

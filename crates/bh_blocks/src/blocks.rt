@@ -5,8 +5,8 @@ ghost use Rattle.bh_tables.specs.Typed.{BlockRow, rebodied};
 ghost use Rattle.bh_tables.specs.Shown.{has_digest, shown_ord, shown_match};
 ghost use Rattle.bh_view.specs.Blocks.{least, free_ord as the_free};
 ghost use Rattle.bh_view.specs.Bodies.{body_stored};
-ghost use Rattle.bh_schema.specs.Connections.{IsClean, tables, InTransaction, StaysWithin, WasOpen, StaysOpen, ChangesNothing, Becomes};
-ghost use Rattle.bh_schema.specs.Connections.{IsTrouble};
+ghost use Rattle.bh_base.specs.Connections.{IsClean, tables, InTransaction, StaysWithin, WasOpen, StaysOpen, ChangesNothing, Becomes};
+ghost use Rattle.bh_base.specs.Connections.{IsTrouble};
 ghost use Rattle.bh_cache.specs.Kept.{AreCopies};
 ghost use Rattle.bh_schema.specs.Calls.{Reads, MayRead};
 ghost use Rattle.bh_blocks.specs.Lookups.{Tells, IsSmall};
@@ -15,9 +15,11 @@ ghost use Rattle.bh_blocks.specs.Named.{body_at, placed_at};
 use crate::refs::{Place, insert_ref, refer};
 use crate::rows::{candidate_rows, in_range, insert_block, ord_rows, read_candidate, read_ord};
 use crate::uses::{UseChange, change_uses};
+use bh_base::connection::Connection;
 use bh_cache::blocks::{BlockCache, BlockName};
 use bh_schema::host::Digester;
-use sqlite::{Alter, Connection, Error, ErrorCode, Row};
+use bh_shelf::shelf::Shelf;
+use sqlite::{Alter, Error, ErrorCode, Row};
 
 /// Whether a block has some bytes, given the blocks with their digest.
 #[derive(Clone, Copy)]
@@ -52,17 +54,17 @@ fn lookup_in(rows: &[Row]) -> Result<Lookup, Error>
 
 /// Whether a block has these bytes, by the rows with their digest. If there is none, the store isn't
 /// given the bytes.
-fn find_copy<S: Alter>(
-    connection: &mut Connection<S>,
+fn find_copy<S: Alter, P: Shelf>(
+    connection: &mut Connection<S, P>,
     digest: &[u8],
     bytes: &[u8],
 ) -> Result<Lookup, Error>
-    requires inside { InTransaction S.Store connection.old }
-    ensures reads { Reads S.Store connection.old connection.new result }
-    ensures found { IfOk result (λ lookup. IsClean S.Store connection.new
-        → Tells digest.now bytes.now (tables S.Store connection.old).blocks lookup) }
+    requires inside { InTransaction S.Store P.Shelf connection.old }
+    ensures reads { Reads S.Store P.Shelf connection.old connection.new result }
+    ensures found { IfOk result (λ lookup. IsClean S.Store P.Shelf connection.new
+        → Tells digest.now bytes.now (tables S.Store P.Shelf connection.old).blocks lookup) }
     ensures small { IfOk result IsSmall }
-    ensures trouble { IfErr result (IsTrouble S.Store connection.old connection.new) }
+    ensures trouble { IfErr result (IsTrouble S.Store P.Shelf connection.old connection.new) }
 {
     if ord_rows(connection, digest)?.is_empty() {
         return Ok(Lookup::Absent);
@@ -86,19 +88,19 @@ fn is_kept(cache: &BlockCache, digest: &[u8], bytes: &[u8]) -> bool
 
 /// Whether a block has these bytes, whose digest is given. If the digest's first block is cached
 /// and has them, no row is read.
-fn find_kept<S: Alter>(
-    connection: &mut Connection<S>,
+fn find_kept<S: Alter, P: Shelf>(
+    connection: &mut Connection<S, P>,
     cache: &BlockCache,
     digest: &[u8],
     bytes: &[u8],
 ) -> Result<Lookup, Error>
-    requires inside { InTransaction S.Store connection.old }
-    requires copies { IsClean S.Store connection.old → AreCopies cache.now (tables S.Store connection.old).blocks }
-    ensures reads { MayRead S.Store connection.old connection.new result }
-    ensures found { IfOk result (λ lookup. IsClean S.Store connection.new
-        → Tells digest.now bytes.now (tables S.Store connection.old).blocks lookup) }
+    requires inside { InTransaction S.Store P.Shelf connection.old }
+    requires copies { IsClean S.Store P.Shelf connection.old → AreCopies cache.now (tables S.Store P.Shelf connection.old).blocks }
+    ensures reads { MayRead S.Store P.Shelf connection.old connection.new result }
+    ensures found { IfOk result (λ lookup. IsClean S.Store P.Shelf connection.new
+        → Tells digest.now bytes.now (tables S.Store P.Shelf connection.old).blocks lookup) }
     ensures small { IfOk result IsSmall }
-    ensures trouble { IfErr result (IsTrouble S.Store connection.old connection.new) }
+    ensures trouble { IfErr result (IsTrouble S.Store P.Shelf connection.old connection.new) }
 {
     if is_kept(cache, digest, bytes) {
         return Ok(Lookup::Held(0));
@@ -125,15 +127,18 @@ fn least_free(rows: &[Row]) -> Result<u64, Error>
 }
 
 /// The least free ordinal of a digest.
-fn free_ord<S: Alter>(connection: &mut Connection<S>, digest: &[u8]) -> Result<u64, Error>
-    requires inside { InTransaction S.Store connection.old }
-    ensures within { StaysWithin S.Store connection.old connection.new }
-    ensures opens { OnOk result (WasOpen S.Store connection.old connection.new) }
-    ensures same { OnOk result (ChangesNothing S.Store connection.old connection.new) }
+fn free_ord<S: Alter, P: Shelf>(
+    connection: &mut Connection<S, P>,
+    digest: &[u8],
+) -> Result<u64, Error>
+    requires inside { InTransaction S.Store P.Shelf connection.old }
+    ensures within { StaysWithin S.Store P.Shelf connection.old connection.new }
+    ensures opens { OnOk result (WasOpen S.Store P.Shelf connection.old connection.new) }
+    ensures same { OnOk result (ChangesNothing S.Store P.Shelf connection.old connection.new) }
     ensures small { IfOk result (λ n. n < 2 ^ 63) }
-    ensures free { IfOk result (λ n. IsClean S.Store connection.new
-        → n ≡ the_free digest.now (tables S.Store connection.old).blocks) }
-    ensures trouble { IfErr result (IsTrouble S.Store connection.old connection.new) }
+    ensures free { IfOk result (λ n. IsClean S.Store P.Shelf connection.new
+        → n ≡ the_free digest.now (tables S.Store P.Shelf connection.old).blocks) }
+    ensures trouble { IfErr result (IsTrouble S.Store P.Shelf connection.old connection.new) }
 {
     let rows = ord_rows(connection, digest)?;
     let free = least_free(&rows)?;
@@ -141,20 +146,20 @@ fn free_ord<S: Alter>(connection: &mut Connection<S>, digest: &[u8]) -> Result<u
 }
 
 /// Adds a block of new bytes, with the first reference to it.
-fn add_block<S: Alter>(
-    connection: &mut Connection<S>,
+fn add_block<S: Alter, P: Shelf>(
+    connection: &mut Connection<S, P>,
     at: &Place<'_>,
     digest: &[u8],
     ord: u64,
     bytes: &[u8],
 ) -> Result<(), Error>
-    requires inside { InTransaction S.Store connection.old }
+    requires inside { InTransaction S.Store P.Shelf connection.old }
     requires body { at.now.body < 2 ^ 63 }
     requires place { at.now.place < 2 ^ 63 }
     requires small { ord < 2 ^ 63 }
-    ensures within { StaysWithin S.Store connection.old connection.new }
-    ensures opens { OnOk result (StaysOpen S.Store connection.old connection.new) }
-    ensures added { OnOk result (Becomes S.Store connection.old connection.new
+    ensures within { StaysWithin S.Store P.Shelf connection.old connection.new }
+    ensures opens { OnOk result (StaysOpen S.Store P.Shelf connection.old connection.new) }
+    ensures added { OnOk result (Becomes S.Store P.Shelf connection.old connection.new
         (λ rows. rebodied rows (rows.refs ++ placed_at at.now digest.now ord (length bytes.now) ∷ [])
         (rows.blocks ++ record { digest = digest.now; ord = ord; bytes = bytes.now } ∷ []))) }
 {
@@ -166,18 +171,18 @@ fn add_block<S: Alter>(
 
 /// Adds a block of new bytes whose digest other blocks have, under the least free ordinal, with the
 /// first reference to it.
-fn store_clashing<S: Alter>(
-    connection: &mut Connection<S>,
+fn store_clashing<S: Alter, P: Shelf>(
+    connection: &mut Connection<S, P>,
     at: &Place<'_>,
     digest: &[u8],
     bytes: &[u8],
 ) -> Result<(), Error>
-    requires inside { InTransaction S.Store connection.old }
+    requires inside { InTransaction S.Store P.Shelf connection.old }
     requires body { at.now.body < 2 ^ 63 }
     requires place { at.now.place < 2 ^ 63 }
-    ensures within { StaysWithin S.Store connection.old connection.new }
-    ensures opens { OnOk result (StaysOpen S.Store connection.old connection.new) }
-    ensures added { OnOk result (Becomes S.Store connection.old connection.new
+    ensures within { StaysWithin S.Store P.Shelf connection.old connection.new }
+    ensures opens { OnOk result (StaysOpen S.Store P.Shelf connection.old connection.new) }
+    ensures added { OnOk result (Becomes S.Store P.Shelf connection.old connection.new
         (λ rows. rebodied rows
         (rows.refs ++ placed_at at.now digest.now (the_free digest.now rows.blocks) (length bytes.now) ∷ [])
         (rows.blocks ++ record { digest = digest.now; ord = the_free digest.now rows.blocks; bytes = bytes.now } ∷ []))) }
@@ -191,21 +196,21 @@ fn store_clashing<S: Alter>(
 ///
 /// A new block gets the least ordinal that no block of its digest has, and is written with its
 /// count of uses. After an error the transaction has to be rolled back.
-pub fn store_named<S: Alter>(
-    connection: &mut Connection<S>,
+pub fn store_named<S: Alter, P: Shelf>(
+    connection: &mut Connection<S, P>,
     cache: &BlockCache,
     at: &Place<'_>,
     digest: &[u8; 32],
     bytes: &[u8],
 ) -> Result<(), Error>
-    requires inside { InTransaction S.Store connection.old }
-    requires copies { IsClean S.Store connection.old → AreCopies cache.now (tables S.Store connection.old).blocks }
+    requires inside { InTransaction S.Store P.Shelf connection.old }
+    requires copies { IsClean S.Store P.Shelf connection.old → AreCopies cache.now (tables S.Store P.Shelf connection.old).blocks }
     requires body { at.now.body < 2 ^ 63 }
     requires place { at.now.place < 2 ^ 63 }
-    ensures within { StaysWithin S.Store connection.old connection.new }
-    ensures opens { OnOk result (StaysOpen S.Store connection.old connection.new) }
+    ensures within { StaysWithin S.Store P.Shelf connection.old connection.new }
+    ensures opens { OnOk result (StaysOpen S.Store P.Shelf connection.old connection.new) }
     ensures stored { (digest_of : Octets → Octets) → digest.now ≡ digest_of bytes.now
-        → OnOk result (Becomes S.Store connection.old connection.new
+        → OnOk result (Becomes S.Store P.Shelf connection.old connection.new
         (body_stored digest_of (body_at at.now) at.now.place (bytes.now ∷ []))) }
 {
     match find_kept(connection, cache, digest, bytes)? {
@@ -216,43 +221,45 @@ pub fn store_named<S: Alter>(
 }
 
 /// Stores a piece of bytes that have this digest.
-pub(crate) fn store_known<S: Alter>(
-    connection: &mut Connection<S>,
+pub(crate) fn store_known<S: Alter, P: Shelf>(
+    connection: &mut Connection<S, P>,
     cache: &BlockCache,
     at: &Place<'_>,
     digest: &[u8; 32],
     bytes: &[u8],
 ) -> Result<(), Error>
-    requires inside { InTransaction S.Store connection.old }
-    requires copies { IsClean S.Store connection.old → AreCopies cache.now (tables S.Store connection.old).blocks }
+    requires inside { InTransaction S.Store P.Shelf connection.old }
+    requires copies { IsClean S.Store P.Shelf connection.old → AreCopies cache.now (tables S.Store P.Shelf connection.old).blocks }
     requires body { at.now.body < 2 ^ 63 }
     requires place { at.now.place < 2 ^ 63 }
-    ensures within { StaysWithin S.Store connection.old connection.new }
-    ensures opens { OnOk result (StaysOpen S.Store connection.old connection.new) }
-    ensures copies { OnOk result (IsClean S.Store connection.new → AreCopies cache.now (tables S.Store connection.new).blocks) }
+    ensures within { StaysWithin S.Store P.Shelf connection.old connection.new }
+    ensures opens { OnOk result (StaysOpen S.Store P.Shelf connection.old connection.new) }
+    ensures copies { OnOk result (IsClean S.Store P.Shelf connection.new
+        → AreCopies cache.now (tables S.Store P.Shelf connection.new).blocks) }
     ensures stored { (digest_of : Octets → Octets) → digest.now ≡ digest_of bytes.now
-        → OnOk result (Becomes S.Store connection.old connection.new
+        → OnOk result (Becomes S.Store P.Shelf connection.old connection.new
         (body_stored digest_of (body_at at.now) at.now.place (bytes.now ∷ []))) }
 {
     store_named(connection, cache, at, digest, bytes)
 }
 
 /// Stores a piece of a body.
-pub fn store_piece<S: Alter, D: Digester>(
-    connection: &mut Connection<S>,
+pub fn store_piece<S: Alter, P: Shelf, D: Digester>(
+    connection: &mut Connection<S, P>,
     cache: &BlockCache,
     digester: &D,
     at: &Place<'_>,
     bytes: &[u8],
 ) -> Result<(), Error>
-    requires inside { InTransaction S.Store connection.old }
-    requires copies { IsClean S.Store connection.old → AreCopies cache.now (tables S.Store connection.old).blocks }
+    requires inside { InTransaction S.Store P.Shelf connection.old }
+    requires copies { IsClean S.Store P.Shelf connection.old → AreCopies cache.now (tables S.Store P.Shelf connection.old).blocks }
     requires body { at.now.body < 2 ^ 63 }
     requires place { at.now.place < 2 ^ 63 }
-    ensures within { StaysWithin S.Store connection.old connection.new }
-    ensures opens { OnOk result (StaysOpen S.Store connection.old connection.new) }
-    ensures copies { OnOk result (IsClean S.Store connection.new → AreCopies cache.now (tables S.Store connection.new).blocks) }
-    ensures stored { OnOk result (Becomes S.Store connection.old connection.new
+    ensures within { StaysWithin S.Store P.Shelf connection.old connection.new }
+    ensures opens { OnOk result (StaysOpen S.Store P.Shelf connection.old connection.new) }
+    ensures copies { OnOk result (IsClean S.Store P.Shelf connection.new
+        → AreCopies cache.now (tables S.Store P.Shelf connection.new).blocks) }
+    ensures stored { OnOk result (Becomes S.Store P.Shelf connection.old connection.new
         (body_stored D.digest_of (body_at at.now) at.now.place (bytes.now ∷ []))) }
 {
     let digest = digester.digest(bytes);

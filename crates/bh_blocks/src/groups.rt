@@ -3,7 +3,7 @@
 ghost use Rattle.std.specs.Prelude.{◌≡◌, ◌*◌, ◌+◌, ◌<◌, ◌≤◌, ◌^◌, ◌++◌, length, take, drop, IfOk, OnOk};
 ghost use Rattle.bh_tables.specs.Schema.{Octets};
 ghost use Rattle.bh_view.specs.Bodies.{pieces, body_stored};
-ghost use Rattle.bh_schema.specs.Connections.{IsClean, tables, InTransaction, StaysWithin, StaysOpen};
+ghost use Rattle.bh_base.specs.Connections.{IsClean, tables, InTransaction, StaysWithin, StaysOpen};
 ghost use Rattle.bh_cache.specs.Kept.{AreCopies};
 ghost use Rattle.bh_blocks.specs.Groups.{AreFirst};
 ghost use Rattle.bh_blocks.specs.Named.{body_at};
@@ -11,9 +11,11 @@ ghost use Rattle.bh_blocks.specs.Named.{body_at};
 use crate::blocks::store_known;
 use crate::refs::Place;
 use crate::rows::in_range;
+use bh_base::connection::Connection;
 use bh_cache::blocks::BlockCache;
 use bh_schema::host::Digester;
-use sqlite::{Alter, Connection, Error, ErrorCode};
+use bh_shelf::shelf::Shelf;
+use sqlite::{Alter, Error, ErrorCode};
 use std::alloc::{AllocError, Global};
 
 /// The maximum size of a block, in bytes, that is hashed beside others: eight are 512 KiB.
@@ -100,8 +102,8 @@ fn digests_of<D: Digester>(
 
 /// Stores the first `count` blocks of `size` bytes, from a place on, whose digests are the first of
 /// these. Returns the next place, and the remaining bytes.
-fn store_digested<'a, S: Alter>(
-    connection: &mut Connection<S>,
+fn store_digested<'a, S: Alter, P: Shelf>(
+    connection: &mut Connection<S, P>,
     cache: &BlockCache,
     size: u64,
     count: usize,
@@ -109,23 +111,25 @@ fn store_digested<'a, S: Alter>(
     bytes: &'a [u8],
     digests: &[[u8; 32]; 8],
 ) -> Result<(u64, &'a [u8]), Error>
-    requires inside { InTransaction S.Store connection.old }
-    requires copies { IsClean S.Store connection.old → AreCopies cache.now (tables S.Store connection.old).blocks }
+    requires inside { InTransaction S.Store P.Shelf connection.old }
+    requires copies { IsClean S.Store P.Shelf connection.old → AreCopies cache.now (tables S.Store P.Shelf connection.old).blocks }
     requires size { 1 ≤ size }
     requires body { from.now.body < 2 ^ 63 }
     requires place { from.now.place < 2 ^ 63 }
     requires most { count ≤ 8 }
     requires whole { count * size ≤ length bytes.now }
-    ensures within { StaysWithin S.Store connection.old connection.new }
-    ensures opens { OnOk result (StaysOpen S.Store connection.old connection.new) }
-    ensures inside { OnOk result (InTransaction S.Store connection.new) }
-    ensures copies { OnOk result (IsClean S.Store connection.new → AreCopies cache.now (tables S.Store connection.new).blocks) }
+    ensures within { StaysWithin S.Store P.Shelf connection.old connection.new }
+    ensures opens { OnOk result (StaysOpen S.Store P.Shelf connection.old connection.new) }
+    ensures inside { OnOk result (InTransaction S.Store P.Shelf connection.new) }
+    ensures copies { OnOk result (IsClean S.Store P.Shelf connection.new
+        → AreCopies cache.now (tables S.Store P.Shelf connection.new).blocks) }
     ensures small { IfOk result (λ done. done.0 < 2 ^ 63) }
     ensures rest { IfOk result (λ done. done.1.now ≡ drop (count * size) bytes.now) }
-    ensures goes { IfOk result (λ done. IsClean S.Store connection.new → (digest_of : Octets → Octets) (more : Octets)
+    ensures goes { IfOk result (λ done. IsClean S.Store P.Shelf connection.new → (digest_of : Octets → Octets) (more : Octets)
         → AreFirst digest_of count size bytes.now digests.now
-        → body_stored digest_of (body_at from.now) done.0 (pieces size (done.1.now ++ more)) (tables S.Store connection.new)
-        ≡ body_stored digest_of (body_at from.now) from.now.place (pieces size (bytes.now ++ more)) (tables S.Store connection.old)) }
+        → body_stored digest_of (body_at from.now) done.0 (pieces size (done.1.now ++ more)) (tables S.Store P.Shelf connection.new)
+        ≡ body_stored digest_of (body_at from.now) from.now.place (pieces size (bytes.now ++ more))
+        (tables S.Store P.Shelf connection.old)) }
 {
     let mut rest = bytes;
     let mut place = from.place;
@@ -145,8 +149,8 @@ fn store_digested<'a, S: Alter>(
 
 /// Stores one block at the front of bytes, or up to eight, from a place on. Returns the next place,
 /// and the remaining bytes.
-fn store_some<'a, S: Alter, D: Digester>(
-    connection: &mut Connection<S>,
+fn store_some<'a, S: Alter, P: Shelf, D: Digester>(
+    connection: &mut Connection<S, P>,
     cache: &BlockCache,
     alloc: Global,
     digester: &D,
@@ -154,21 +158,23 @@ fn store_some<'a, S: Alter, D: Digester>(
     from: &Place<'_>,
     bytes: &'a [u8],
 ) -> Result<(u64, &'a [u8]), Error>
-    requires inside { InTransaction S.Store connection.old }
-    requires copies { IsClean S.Store connection.old → AreCopies cache.now (tables S.Store connection.old).blocks }
+    requires inside { InTransaction S.Store P.Shelf connection.old }
+    requires copies { IsClean S.Store P.Shelf connection.old → AreCopies cache.now (tables S.Store P.Shelf connection.old).blocks }
     requires size { 1 ≤ size }
     requires body { from.now.body < 2 ^ 63 }
     requires place { from.now.place < 2 ^ 63 }
     requires long { size ≤ length bytes.now }
-    ensures within { StaysWithin S.Store connection.old connection.new }
-    ensures opens { OnOk result (StaysOpen S.Store connection.old connection.new) }
-    ensures inside { OnOk result (InTransaction S.Store connection.new) }
-    ensures copies { OnOk result (IsClean S.Store connection.new → AreCopies cache.now (tables S.Store connection.new).blocks) }
+    ensures within { StaysWithin S.Store P.Shelf connection.old connection.new }
+    ensures opens { OnOk result (StaysOpen S.Store P.Shelf connection.old connection.new) }
+    ensures inside { OnOk result (InTransaction S.Store P.Shelf connection.new) }
+    ensures copies { OnOk result (IsClean S.Store P.Shelf connection.new
+        → AreCopies cache.now (tables S.Store P.Shelf connection.new).blocks) }
     ensures small { IfOk result (λ done. done.0 < 2 ^ 63) }
     ensures less { IfOk result (λ done. length done.1.now < length bytes.now) }
-    ensures goes { IfOk result (λ done. IsClean S.Store connection.new → (more : Octets)
-        → body_stored D.digest_of (body_at from.now) done.0 (pieces size (done.1.now ++ more)) (tables S.Store connection.new)
-        ≡ body_stored D.digest_of (body_at from.now) from.now.place (pieces size (bytes.now ++ more)) (tables S.Store connection.old)) }
+    ensures goes { IfOk result (λ done. IsClean S.Store P.Shelf connection.new → (more : Octets)
+        → body_stored D.digest_of (body_at from.now) done.0 (pieces size (done.1.now ++ more)) (tables S.Store P.Shelf connection.new)
+        ≡ body_stored D.digest_of (body_at from.now) from.now.place (pieces size (bytes.now ++ more))
+        (tables S.Store P.Shelf connection.old)) }
 {
     let count = together(size, bytes);
     let digests = digests_of(alloc, digester, size as usize, count, bytes)?;
@@ -177,8 +183,8 @@ fn store_some<'a, S: Alter, D: Digester>(
 
 /// Stores the blocks at the front of bytes, from a place on. Returns the next place, and the
 /// remaining bytes.
-pub(crate) fn store_blocks<'a, S: Alter, D: Digester>(
-    connection: &mut Connection<S>,
+pub(crate) fn store_blocks<'a, S: Alter, P: Shelf, D: Digester>(
+    connection: &mut Connection<S, P>,
     cache: &BlockCache,
     alloc: Global,
     digester: &D,
@@ -186,20 +192,22 @@ pub(crate) fn store_blocks<'a, S: Alter, D: Digester>(
     from: &Place<'_>,
     bytes: &'a [u8],
 ) -> Result<(u64, &'a [u8]), Error>
-    requires inside { InTransaction S.Store connection.old }
-    requires copies { IsClean S.Store connection.old → AreCopies cache.now (tables S.Store connection.old).blocks }
+    requires inside { InTransaction S.Store P.Shelf connection.old }
+    requires copies { IsClean S.Store P.Shelf connection.old → AreCopies cache.now (tables S.Store P.Shelf connection.old).blocks }
     requires size { 1 ≤ size }
     requires body { from.now.body < 2 ^ 63 }
     requires place { from.now.place < 2 ^ 63 }
-    ensures within { StaysWithin S.Store connection.old connection.new }
-    ensures opens { OnOk result (StaysOpen S.Store connection.old connection.new) }
-    ensures inside { OnOk result (InTransaction S.Store connection.new) }
-    ensures copies { OnOk result (IsClean S.Store connection.new → AreCopies cache.now (tables S.Store connection.new).blocks) }
+    ensures within { StaysWithin S.Store P.Shelf connection.old connection.new }
+    ensures opens { OnOk result (StaysOpen S.Store P.Shelf connection.old connection.new) }
+    ensures inside { OnOk result (InTransaction S.Store P.Shelf connection.new) }
+    ensures copies { OnOk result (IsClean S.Store P.Shelf connection.new
+        → AreCopies cache.now (tables S.Store P.Shelf connection.new).blocks) }
     ensures small { IfOk result (λ done. done.0 < 2 ^ 63) }
     ensures fewer { IfOk result (λ done. length done.1.now < size) }
-    ensures goes { IfOk result (λ done. IsClean S.Store connection.new → (more : Octets)
-        → body_stored D.digest_of (body_at from.now) done.0 (pieces size (done.1.now ++ more)) (tables S.Store connection.new)
-        ≡ body_stored D.digest_of (body_at from.now) from.now.place (pieces size (bytes.now ++ more)) (tables S.Store connection.old)) }
+    ensures goes { IfOk result (λ done. IsClean S.Store P.Shelf connection.new → (more : Octets)
+        → body_stored D.digest_of (body_at from.now) done.0 (pieces size (done.1.now ++ more)) (tables S.Store P.Shelf connection.new)
+        ≡ body_stored D.digest_of (body_at from.now) from.now.place (pieces size (bytes.now ++ more))
+        (tables S.Store P.Shelf connection.old)) }
 {
     let mut rest = bytes;
     let mut place = from.place;

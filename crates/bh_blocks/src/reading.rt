@@ -10,7 +10,7 @@ ghost use Rattle.bh_tables.specs.Bodies.{block_at, placed};
 ghost use Rattle.bh_tables.specs.Shown.{Name, shown_bytes, shown_ref};
 ghost use Rattle.bh_view.specs.Blocks.{whole};
 ghost use Rattle.bh_view.specs.Bodies.{HasBodies};
-ghost use Rattle.bh_schema.specs.Connections.{IsClean, tables, CanRead, InTransaction, StaysWithin, WasOpen, StaysOpen, ChangesNothing};
+ghost use Rattle.bh_base.specs.Connections.{IsClean, tables, CanRead, InTransaction, StaysWithin, WasOpen, StaysOpen, ChangesNothing};
 ghost use Rattle.bh_cache.specs.Kept.{Agrees};
 ghost use Rattle.bh_blocks.specs.Named.{named_by};
 ghost use Rattle.bh_blocks.specs.Plans.{IsFirst, coming, planned, shown_from, size_of};
@@ -20,10 +20,12 @@ use crate::drafts::append;
 use crate::groups::next_place;
 use crate::refs::{BlockRef, Place, read_ref, ref_at, ref_rows};
 use crate::rows::bytes_rows;
+use bh_base::connection::Connection;
 use bh_cache::blocks::{BlockCache, BlockName};
+use bh_shelf::shelf::Shelf;
 use bh_types::range::RangePlan;
 use sqlite::types::ValueRef;
-use sqlite::{Alter, Connection, Error, ErrorCode, Row};
+use sqlite::{Alter, Error, ErrorCode, Row};
 use std::alloc::Global;
 
 /// A window on bytes: how many to skip, and the maximum number to return.
@@ -132,24 +134,25 @@ fn kept_part(
 
 /// The part of a block in a window. If the block is cached, no row is read; otherwise it is cached.
 /// The window must have some of its bytes.
-fn read_part<S: Alter>(
-    connection: &mut Connection<S>,
+fn read_part<S: Alter, P: Shelf>(
+    connection: &mut Connection<S, P>,
     cache: &mut BlockCache,
     alloc: Global,
     block: &BlockRef,
     window: Window,
 ) -> Result<Vec<u8>, Error>
-    requires reads { CanRead S.Store connection.old }
-    requires agrees { IsClean S.Store connection.old → Agrees cache.old (tables S.Store connection.old).blocks }
+    requires reads { CanRead S.Store P.Shelf connection.old }
+    requires agrees { IsClean S.Store P.Shelf connection.old → Agrees cache.old (tables S.Store P.Shelf connection.old).blocks }
     requires small { block.now.ord < 2 ^ 63 }
-    ensures within { StaysWithin S.Store connection.old connection.new }
-    ensures opens { OnOk result (StaysOpen S.Store connection.old connection.new) }
-    ensures same { OnOk result (ChangesNothing S.Store connection.old connection.new) }
-    ensures agrees { OnOk result (IsClean S.Store connection.new → Agrees cache.new (tables S.Store connection.new).blocks) }
+    ensures within { StaysWithin S.Store P.Shelf connection.old connection.new }
+    ensures opens { OnOk result (StaysOpen S.Store P.Shelf connection.old connection.new) }
+    ensures same { OnOk result (ChangesNothing S.Store P.Shelf connection.old connection.new) }
+    ensures agrees { OnOk result (IsClean S.Store P.Shelf connection.new
+        → Agrees cache.new (tables S.Store P.Shelf connection.new).blocks) }
     ensures some { IfOk result (λ bytes. 0 < length bytes.items) }
     ensures most { IfOk result (λ bytes. length bytes.items ≤ window.left) }
-    ensures bytes { IfOk result (λ bytes. IsClean S.Store connection.new
-        → bytes.items ≡ seen_in window (block_at (tables S.Store connection.old).blocks (named_by block.now))) }
+    ensures bytes { IfOk result (λ bytes. IsClean S.Store P.Shelf connection.new
+        → bytes.items ≡ seen_in window (block_at (tables S.Store P.Shelf connection.old).blocks (named_by block.now))) }
 {
     if let Some(bytes) = kept_part(cache, alloc, block, window)? {
         return Ok(bytes);
@@ -224,27 +227,27 @@ struct Shown {
 }
 
 /// The next block that a plan has some bytes of, if there is one. Earlier blocks are skipped.
-fn find_shown<S: Alter>(
-    connection: &mut Connection<S>,
+fn find_shown<S: Alter, P: Shelf>(
+    connection: &mut Connection<S, P>,
     plan: &Plan<'_>,
 ) -> Result<Option<Shown>, Error>
-    requires reads { CanRead S.Store connection.old }
+    requires reads { CanRead S.Store P.Shelf connection.old }
     requires body { plan.now.body < 2 ^ 63 }
     requires place { plan.now.place < 2 ^ 63 }
-    ensures within { StaysWithin S.Store connection.old connection.new }
-    ensures opens { OnOk result (StaysOpen S.Store connection.old connection.new) }
-    ensures same { OnOk result (ChangesNothing S.Store connection.old connection.new) }
+    ensures within { StaysWithin S.Store P.Shelf connection.old connection.new }
+    ensures opens { OnOk result (StaysOpen S.Store P.Shelf connection.old connection.new) }
+    ensures same { OnOk result (ChangesNothing S.Store P.Shelf connection.old connection.new) }
     ensures small { IfOk result (λ found. IfSome found (λ shown. shown.block.ord < 2 ^ 63)) }
     ensures place { IfOk result (λ found. IfSome found (λ shown. shown.place < 2 ^ 63)) }
     ensures shows { IfOk result (λ found. IfSome found (λ shown. shown.window.skip < shown.block.size)) }
     ensures most { IfOk result (λ found. IfSome found (λ shown. shown.window.left ≤ plan.now.window.left)) }
-    ensures first { IfOk result (λ found. IsClean S.Store connection.new → HasBodies (tables S.Store connection.old)
+    ensures first { IfOk result (λ found. IsClean S.Store P.Shelf connection.new → HasBodies (tables S.Store P.Shelf connection.old)
         → IfSome found (λ shown. IsFirst (Some shown.block) (drop shown.place
-        (placed (tables S.Store connection.old).refs (planned plan.now)))
-        × (shown_from shown.window shown.place (planned plan.now) (tables S.Store connection.old)
-        ≡ coming plan.now (tables S.Store connection.old)))) }
-    ensures none { IfOk result (λ found. IsClean S.Store connection.new → HasBodies (tables S.Store connection.old)
-        → IfNone found (coming plan.now (tables S.Store connection.old) ≡ [])) }
+        (placed (tables S.Store P.Shelf connection.old).refs (planned plan.now)))
+        × (shown_from shown.window shown.place (planned plan.now) (tables S.Store P.Shelf connection.old)
+        ≡ coming plan.now (tables S.Store P.Shelf connection.old)))) }
+    ensures none { IfOk result (λ found. IsClean S.Store P.Shelf connection.new → HasBodies (tables S.Store P.Shelf connection.old)
+        → IfNone found (coming plan.now (tables S.Store P.Shelf connection.old) ≡ [])) }
 {
     let mut place = plan.place;
     let mut window = plan.window;
@@ -275,31 +278,32 @@ fn find_shown<S: Alter>(
 /// The plan's part of its next block, at least one byte; `None` at the end. It may be called inside
 /// a transaction and outside. An error leaves the plan unchanged, and may roll the transaction
 /// back.
-pub fn next_piece<S: Alter>(
-    connection: &mut Connection<S>,
+pub fn next_piece<S: Alter, P: Shelf>(
+    connection: &mut Connection<S, P>,
     cache: &mut BlockCache,
     alloc: Global,
     plan: &mut Plan<'_>,
 ) -> Result<Option<Vec<u8>>, Error>
-    requires reads { CanRead S.Store connection.old }
-    requires agrees { IsClean S.Store connection.old → Agrees cache.old (tables S.Store connection.old).blocks }
+    requires reads { CanRead S.Store P.Shelf connection.old }
+    requires agrees { IsClean S.Store P.Shelf connection.old → Agrees cache.old (tables S.Store P.Shelf connection.old).blocks }
     requires body { plan.old.body < 2 ^ 63 }
     requires place { plan.old.place < 2 ^ 63 }
-    ensures within { StaysWithin S.Store connection.old connection.new }
-    ensures opens { OnOk result (StaysOpen S.Store connection.old connection.new) }
-    ensures agrees { OnOk result (IsClean S.Store connection.new → Agrees cache.new (tables S.Store connection.new).blocks) }
-    ensures same { OnOk result (ChangesNothing S.Store connection.old connection.new) }
+    ensures within { StaysWithin S.Store P.Shelf connection.old connection.new }
+    ensures opens { OnOk result (StaysOpen S.Store P.Shelf connection.old connection.new) }
+    ensures agrees { OnOk result (IsClean S.Store P.Shelf connection.new
+        → Agrees cache.new (tables S.Store P.Shelf connection.new).blocks) }
+    ensures same { OnOk result (ChangesNothing S.Store P.Shelf connection.old connection.new) }
     ensures kept { OnErr result (plan.new ≡ plan.old) }
     ensures of { planned plan.new ≡ planned plan.old }
     ensures body { plan.new.body ≡ plan.old.body }
     ensures place { plan.new.place < 2 ^ 63 }
     ensures some { IfOk result (λ piece. IfSome piece (λ bytes. 0 < length bytes.items)) }
     ensures falls { IfOk result (λ piece. IfSome piece (λ bytes. length bytes.items + plan.new.window.left ≤ plan.old.window.left)) }
-    ensures gives { IfOk result (λ piece. IsClean S.Store connection.new → HasBodies (tables S.Store connection.old)
+    ensures gives { IfOk result (λ piece. IsClean S.Store P.Shelf connection.new → HasBodies (tables S.Store P.Shelf connection.old)
         → IfSome piece (λ bytes.
-        coming plan.old (tables S.Store connection.old) ≡ bytes.items ++ coming plan.new (tables S.Store connection.old))) }
-    ensures ends { IfOk result (λ piece. IsClean S.Store connection.new → HasBodies (tables S.Store connection.old)
-        → IfNone piece (coming plan.old (tables S.Store connection.old) ≡ [])) }
+        coming plan.old (tables S.Store P.Shelf connection.old) ≡ bytes.items ++ coming plan.new (tables S.Store P.Shelf connection.old))) }
+    ensures ends { IfOk result (λ piece. IsClean S.Store P.Shelf connection.new → HasBodies (tables S.Store P.Shelf connection.old)
+        → IfNone piece (coming plan.old (tables S.Store P.Shelf connection.old) ≡ [])) }
     ensures stays { IfOk result (λ piece. IfNone piece (plan.new ≡ plan.old)) }
 {
     match find_shown(connection, plan)? {
@@ -319,23 +323,24 @@ pub fn next_piece<S: Alter>(
 }
 
 /// Appends all remaining bytes of a plan.
-fn append_planned<S: Alter>(
-    connection: &mut Connection<S>,
+fn append_planned<S: Alter, P: Shelf>(
+    connection: &mut Connection<S, P>,
     cache: &mut BlockCache,
     alloc: Global,
     plan: Plan<'_>,
     bytes: &mut Vec<u8>,
 ) -> Result<(), Error>
-    requires reads { CanRead S.Store connection.old }
-    requires agrees { IsClean S.Store connection.old → Agrees cache.old (tables S.Store connection.old).blocks }
+    requires reads { CanRead S.Store P.Shelf connection.old }
+    requires agrees { IsClean S.Store P.Shelf connection.old → Agrees cache.old (tables S.Store P.Shelf connection.old).blocks }
     requires body { plan.body < 2 ^ 63 }
     requires place { plan.place < 2 ^ 63 }
-    ensures within { StaysWithin S.Store connection.old connection.new }
-    ensures opens { OnOk result (StaysOpen S.Store connection.old connection.new) }
-    ensures agrees { OnOk result (IsClean S.Store connection.new → Agrees cache.new (tables S.Store connection.new).blocks) }
-    ensures same { OnOk result (ChangesNothing S.Store connection.old connection.new) }
-    ensures bytes { OnOk result (IsClean S.Store connection.new → HasBodies (tables S.Store connection.old)
-        → bytes.new.items ≡ bytes.old.items ++ coming plan.entry (tables S.Store connection.old)) }
+    ensures within { StaysWithin S.Store P.Shelf connection.old connection.new }
+    ensures opens { OnOk result (StaysOpen S.Store P.Shelf connection.old connection.new) }
+    ensures agrees { OnOk result (IsClean S.Store P.Shelf connection.new
+        → Agrees cache.new (tables S.Store P.Shelf connection.new).blocks) }
+    ensures same { OnOk result (ChangesNothing S.Store P.Shelf connection.old connection.new) }
+    ensures bytes { OnOk result (IsClean S.Store P.Shelf connection.new → HasBodies (tables S.Store P.Shelf connection.old)
+        → bytes.new.items ≡ bytes.old.items ++ coming plan.entry (tables S.Store P.Shelf connection.old)) }
 {
     let mut left = plan;
     'pieces: loop {
@@ -347,23 +352,24 @@ fn append_planned<S: Alter>(
 }
 
 /// The bytes of a body in a plan. Blocks that are read are cached.
-pub fn read_body<S: Alter>(
-    connection: &mut Connection<S>,
+pub fn read_body<S: Alter, P: Shelf>(
+    connection: &mut Connection<S, P>,
     cache: &mut BlockCache,
     alloc: Global,
     tenant: &str,
     body: u64,
     plan: RangePlan,
 ) -> Result<Vec<u8>, Error>
-    requires inside { InTransaction S.Store connection.old }
-    requires kept { IsClean S.Store connection.old → Agrees cache.old (tables S.Store connection.old).blocks }
+    requires inside { InTransaction S.Store P.Shelf connection.old }
+    requires kept { IsClean S.Store P.Shelf connection.old → Agrees cache.old (tables S.Store P.Shelf connection.old).blocks }
     requires small { body < 2 ^ 63 }
-    ensures within { StaysWithin S.Store connection.old connection.new }
-    ensures opens { OnOk result (WasOpen S.Store connection.old connection.new) }
-    ensures same { OnOk result (ChangesNothing S.Store connection.old connection.new) }
-    ensures kept { OnOk result (IsClean S.Store connection.new → Agrees cache.new (tables S.Store connection.new).blocks) }
-    ensures read { IfOk result (λ bytes. IsClean S.Store connection.new → HasBodies (tables S.Store connection.old)
-        → bytes.items ≡ cut plan (whole (tables S.Store connection.old).refs (tables S.Store connection.old).blocks (tenant.now, body))) }
+    ensures within { StaysWithin S.Store P.Shelf connection.old connection.new }
+    ensures opens { OnOk result (WasOpen S.Store P.Shelf connection.old connection.new) }
+    ensures same { OnOk result (ChangesNothing S.Store P.Shelf connection.old connection.new) }
+    ensures kept { OnOk result (IsClean S.Store P.Shelf connection.new → Agrees cache.new (tables S.Store P.Shelf connection.new).blocks) }
+    ensures read { IfOk result (λ bytes. IsClean S.Store P.Shelf connection.new → HasBodies (tables S.Store P.Shelf connection.old)
+        → bytes.items ≡ cut plan (whole (tables S.Store P.Shelf connection.old).refs (tables S.Store P.Shelf connection.old).blocks
+        (tenant.now, body))) }
 {
     let rows = ref_rows(connection, tenant, body)?;
     let planned = plan_body(tenant, body, total_size(&rows)?, plan);

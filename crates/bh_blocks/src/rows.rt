@@ -6,16 +6,18 @@ ghost use Rattle.sqlite_keyed.specs.Lists.{delete_where, sort_by};
 ghost use Rattle.bh_rows.specs.Means.{is_trouble};
 ghost use Rattle.bh_tables.specs.Typed.{BlockRow as Stored, rebodied};
 ghost use Rattle.bh_tables.specs.Shown.{block_name, is_block, is_use, has_digest, by_ord, shown_ord, shown_match, shown_name, shown_bytes};
-ghost use Rattle.bh_schema.specs.Connections.{IsClean, tables, CanRead, InTransaction, InMidst, Rewrites, IsTrouble, IsTroubleIf};
+ghost use Rattle.bh_base.specs.Connections.{IsClean, tables, CanRead, InTransaction, InMidst, Rewrites, IsTrouble, IsTroubleIf};
 ghost use Rattle.bh_schema.specs.Calls.{Reads, WritesOn};
 ghost use Rattle.bh_tables.specs.Schema.{Octets};
 ghost use Rattle.bh_blocks.specs.Lookups.{IsCandidate};
 ghost use Rattle.bh_blocks.specs.Named.{stored_name};
 ghost use Rattle.bh_blocks.specs.Uses.{IsNewName, size_of};
 
+use bh_base::connection::Connection;
 use bh_schema::rows::number::number;
+use bh_shelf::shelf::Shelf;
 use sqlite::types::{ToSql, ValueRef};
-use sqlite::{Alter, Connection, Error, ErrorCode, Row};
+use sqlite::{Alter, Error, ErrorCode, Row};
 
 /// A block's name in a row.
 #[derive(Drop)]
@@ -94,50 +96,53 @@ pub fn read_candidate(row: &Row) -> Result<Candidate, Error>
 }
 
 /// The blocks of a digest, each with whether it has these bytes.
-pub fn candidate_rows<S: Alter>(
-    connection: &mut Connection<S>,
+pub fn candidate_rows<S: Alter, P: Shelf>(
+    connection: &mut Connection<S, P>,
     digest: &[u8],
     bytes: &[u8],
 ) -> Result<Vec<Row>, Error>
-    requires inside { InTransaction S.Store connection.old }
-    ensures reads { Reads S.Store connection.old connection.new result }
-    ensures rows { IfOk result (λ rows. IsClean S.Store connection.new
-        → rows.items ≡ map (shown_match bytes.now) (filter (has_digest digest.now) (tables S.Store connection.old).blocks)) }
-    ensures trouble { IfErr result (IsTrouble S.Store connection.old connection.new) }
+    requires inside { InTransaction S.Store P.Shelf connection.old }
+    ensures reads { Reads S.Store P.Shelf connection.old connection.new result }
+    ensures rows { IfOk result (λ rows. IsClean S.Store P.Shelf connection.new
+        → rows.items ≡ map (shown_match bytes.now) (filter (has_digest digest.now) (tables S.Store P.Shelf connection.old).blocks)) }
+    ensures trouble { IfErr result (IsTrouble S.Store P.Shelf connection.old connection.new) }
 {
-    connection.query_all(
+    connection.database.query_all(
         "SELECT ord, bytes = ?2 FROM blocks WHERE digest = ?1 ORDER BY rowid",
         &[digest.to_sql(), bytes.to_sql()],
     )
 }
 
-pub fn ord_rows<S: Alter>(connection: &mut Connection<S>, digest: &[u8]) -> Result<Vec<Row>, Error>
-    requires inside { InTransaction S.Store connection.old }
-    ensures reads { Reads S.Store connection.old connection.new result }
-    ensures rows { IfOk result (λ rows. IsClean S.Store connection.new
-        → rows.items ≡ map shown_ord (sort_by by_ord (filter (has_digest digest.now) (tables S.Store connection.old).blocks))) }
-    ensures trouble { IfErr result (IsTrouble S.Store connection.old connection.new) }
+pub fn ord_rows<S: Alter, P: Shelf>(
+    connection: &mut Connection<S, P>,
+    digest: &[u8],
+) -> Result<Vec<Row>, Error>
+    requires inside { InTransaction S.Store P.Shelf connection.old }
+    ensures reads { Reads S.Store P.Shelf connection.old connection.new result }
+    ensures rows { IfOk result (λ rows. IsClean S.Store P.Shelf connection.new
+        → rows.items ≡ map shown_ord (sort_by by_ord (filter (has_digest digest.now) (tables S.Store P.Shelf connection.old).blocks))) }
+    ensures trouble { IfErr result (IsTrouble S.Store P.Shelf connection.old connection.new) }
 {
-    connection.query_all(
+    connection.database.query_all(
         "SELECT ord FROM blocks WHERE digest = ?1 ORDER BY ord, rowid",
         &[digest.to_sql()],
     )
 }
 
 /// The block of a name. It may be called inside a transaction and outside.
-pub fn bytes_rows<S: Alter>(
-    connection: &mut Connection<S>,
+pub fn bytes_rows<S: Alter, P: Shelf>(
+    connection: &mut Connection<S, P>,
     digest: &[u8],
     ord: u64,
 ) -> Result<Vec<Row>, Error>
-    requires reads { CanRead S.Store connection.old }
+    requires reads { CanRead S.Store P.Shelf connection.old }
     requires small { ord < 2 ^ 63 }
-    ensures reads { Reads S.Store connection.old connection.new result }
-    ensures rows { IfOk result (λ rows. IsClean S.Store connection.new
-        → rows.items ≡ map shown_bytes (filter (is_block (digest.now, ord)) (tables S.Store connection.old).blocks)) }
-    ensures trouble { IfErr result (IsTrouble S.Store connection.old connection.new) }
+    ensures reads { Reads S.Store P.Shelf connection.old connection.new result }
+    ensures rows { IfOk result (λ rows. IsClean S.Store P.Shelf connection.new
+        → rows.items ≡ map shown_bytes (filter (is_block (digest.now, ord)) (tables S.Store P.Shelf connection.old).blocks)) }
+    ensures trouble { IfErr result (IsTrouble S.Store P.Shelf connection.old connection.new) }
 {
-    connection.query_all(
+    connection.database.query_all(
         "SELECT bytes FROM blocks WHERE digest = ?1 AND ord = ?2 ORDER BY rowid",
         &[digest.to_sql(), number(ord)],
     )
@@ -155,41 +160,42 @@ fn length_of(rows: &[Row]) -> Result<u64, Error>
 }
 
 /// How many bytes a block has. The block is read.
-pub fn size_of_block<S: Alter>(
-    connection: &mut Connection<S>,
+pub fn size_of_block<S: Alter, P: Shelf>(
+    connection: &mut Connection<S, P>,
     digest: &[u8],
     ord: u64,
 ) -> Result<u64, Error>
-    requires inside { InTransaction S.Store connection.old }
+    requires inside { InTransaction S.Store P.Shelf connection.old }
     requires small { ord < 2 ^ 63 }
-    ensures reads { Reads S.Store connection.old connection.new result }
-    ensures size { IfOk result (λ n. IsClean S.Store connection.new
-        → map size_of (filter (is_block (digest.now, ord)) (tables S.Store connection.old).blocks) ≡ n ∷ []) }
-    ensures trouble { IfErr result (IsTrouble S.Store connection.old connection.new) }
+    ensures reads { Reads S.Store P.Shelf connection.old connection.new result }
+    ensures size { IfOk result (λ n. IsClean S.Store P.Shelf connection.new
+        → map size_of (filter (is_block (digest.now, ord)) (tables S.Store P.Shelf connection.old).blocks) ≡ n ∷ []) }
+    ensures trouble { IfErr result (IsTrouble S.Store P.Shelf connection.old connection.new) }
 {
     let rows = bytes_rows(connection, digest, ord)?;
     length_of(&rows)
 }
 
 /// Adds a block, as one step of a write that counts its uses.
-pub fn insert_block<S: Alter>(
-    connection: &mut Connection<S>,
+pub fn insert_block<S: Alter, P: Shelf>(
+    connection: &mut Connection<S, P>,
     digest: &[u8],
     ord: u64,
     bytes: &[u8],
 ) -> Result<usize, Error>
-    requires midst { InMidst S.Store connection.old }
+    requires midst { InMidst S.Store P.Shelf connection.old }
     requires small { ord < 2 ^ 63 }
-    ensures writes { WritesOn S.Store connection.old connection.new result }
-    ensures rewrites { OnOk result (Rewrites S.Store connection.old connection.new (λ sums. sums)
+    ensures writes { WritesOn S.Store P.Shelf connection.old connection.new result }
+    ensures rewrites { OnOk result (Rewrites S.Store P.Shelf connection.old connection.new (λ sums. sums)
         (λ rows. rebodied rows rows.refs (rows.blocks ++ record { digest = digest.now; ord = ord; bytes = bytes.now } ∷ []))) }
-    ensures fresh { OnOk result (IsClean S.Store connection.new → IsNewName (digest.now, ord) (tables S.Store connection.old)) }
-    ensures trouble { IfErr result (IsTroubleIf S.Store connection.old connection.new
-        (list_any (is_block (digest.now, ord)) (tables S.Store connection.old).blocks ≡ false)) }
+    ensures fresh { OnOk result (IsClean S.Store P.Shelf connection.new
+        → IsNewName (digest.now, ord) (tables S.Store P.Shelf connection.old)) }
+    ensures trouble { IfErr result (IsTroubleIf S.Store P.Shelf connection.old connection.new
+        (list_any (is_block (digest.now, ord)) (tables S.Store P.Shelf connection.old).blocks ≡ false)) }
 {
     // Asked for what it ensures: the rows obey the schema.
-    let _schema = connection.schema();
-    connection.execute(
+    let _schema = connection.database.schema();
+    connection.database.execute(
         "INSERT INTO blocks (digest, ord, bytes) VALUES (?1, ?2, ?3)",
         &[digest.to_sql(), number(ord), bytes.to_sql()],
     )
@@ -197,22 +203,22 @@ pub fn insert_block<S: Alter>(
 
 /// Deletes a block, as one step of a write that deletes its count. The store refuses if a reference
 /// names it.
-pub fn delete_block<S: Alter>(
-    connection: &mut Connection<S>,
+pub fn delete_block<S: Alter, P: Shelf>(
+    connection: &mut Connection<S, P>,
     digest: &[u8],
     ord: u64,
 ) -> Result<usize, Error>
-    requires midst { InMidst S.Store connection.old }
+    requires midst { InMidst S.Store P.Shelf connection.old }
     requires small { ord < 2 ^ 63 }
-    ensures writes { WritesOn S.Store connection.old connection.new result }
-    ensures rewrites { OnOk result (Rewrites S.Store connection.old connection.new (λ sums. sums)
+    ensures writes { WritesOn S.Store P.Shelf connection.old connection.new result }
+    ensures rewrites { OnOk result (Rewrites S.Store P.Shelf connection.old connection.new (λ sums. sums)
         (λ rows. rebodied rows rows.refs (delete_where (is_block (digest.now, ord)) rows.blocks))) }
-    ensures trouble { IfErr result (IsTroubleIf S.Store connection.old connection.new
-        (list_any (is_use (digest.now, ord)) (tables S.Store connection.old).refs ≡ false)) }
+    ensures trouble { IfErr result (IsTroubleIf S.Store P.Shelf connection.old connection.new
+        (list_any (is_use (digest.now, ord)) (tables S.Store P.Shelf connection.old).refs ≡ false)) }
 {
     // Asked for what it ensures: the rows obey the schema.
-    let _schema = connection.schema();
-    connection.execute(
+    let _schema = connection.database.schema();
+    connection.database.execute(
         "DELETE FROM blocks WHERE digest = ?1 AND ord = ?2",
         &[digest.to_sql(), number(ord)],
     )

@@ -10,7 +10,7 @@ use Rattle.sqlite_trees.specs.declared.store.Store.{Ghosts}
 use Rattle.bh_tables.specs.Hosts.{tables_opened}
 use Rattle.bh_tables.specs.Schema.{Octets, first_schema, second_schema, third_schema, fourth_schema, host_schema}
 use Rattle.bh_view.specs.Bodies.{IsSoundHost}
-use Rattle.bh_schema.specs.Layer.{IsStateClean, IsIntact, IsOpen}
+use Rattle.bh_base.specs.Layer.{IsStateClean, IsIntact, IsOpen}
 use Rattle.bh_stored.specs.Stored.{seen}
 use Rattle.bh_stored.specs.declared.stored.Edition.{Edition}
 use Rattle.bh_stored.specs.Stores.{KeepsTrees}

@@ -8,7 +8,7 @@ ghost use Rattle.sqlite_trees.specs.View.{IsClean};
 ghost use Rattle.bh_tables.specs.Hosts.{tables_opened};
 ghost use Rattle.bh_tables.specs.Schema.{Octets, first_schema, second_schema, third_schema, fourth_schema, host_schema};
 ghost use Rattle.bh_view.specs.Bodies.{IsSoundHost};
-ghost use Rattle.bh_schema.specs.Layer.{IsStateClean};
+ghost use Rattle.bh_base.specs.Layer.{IsStateClean};
 ghost use Rattle.bh_stored.specs.Fits.{AreAllFit};
 ghost use Rattle.bh_stored.specs.Stored.{seen, AreStoredIn};
 ghost use Rattle.bh_stored.specs.Stores.{KeepsTrees};

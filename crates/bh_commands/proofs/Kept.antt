@@ -6,6 +6,8 @@ use Rattle.sqlite.specs.Files.{over_files}
 use Rattle.bh_tables.specs.Schema.{Octets}
 use Rattle.bh_view.specs.Bodies.{IsSoundHost}
 use Rattle.bh_storage.specs.Calls.{Clean, IsAtRest}
+use Rattle.bh_shelf.specs.declared.no_shelf.NoShelf.{NoShelf}
+use Rattle.bh_base.specs.Connections.{without_packs}
 use Rattle.bh_schema.specs.Storage as storage
 use Rattle.bh_memo.specs.Facts.{nothing}
 use Rattle.bh_memo.proofs.Recalling.{nothing_recalled}
@@ -16,12 +18,12 @@ use Rattle.bh_schema.specs.declared.host.Digester as digester
 use Rattle.bh_kept.specs.declared.host.BlockSize as size
 use Rattle.bh_kept.specs.declared.host.KeptHost.{KeptHost}
 
-pub rests_kept : {D G K : Type 0} {g : Ghosts D} {d : digester.Ghosts G} {k : size.Ghosts K} (digest : Octets → Octets) (first : KeptHost D G K g d k) (host : HostStorage (FileStore D g) G) → first.storage ≡ Some (record { storage = host; memo = nothing })
-    → (storage.IsClean over_files host.host → IsAtRest (IsSoundHost digest) (storage.seen over_files host.host))
+pub rests_kept : {D G K : Type 0} {g : Ghosts D} {d : digester.Ghosts G} {k : size.Ghosts K} (digest : Octets → Octets) (first : KeptHost D G K g d k) (host : HostStorage (FileStore D g) NoShelf G) → first.storage ≡ Some (record { storage = host; memo = nothing })
+    → (storage.IsClean over_files without_packs host.host → IsAtRest (IsSoundHost digest) (storage.seen over_files without_packs host.host))
     → Clean (λ h. kept.IsIntact h.storage) (λ h. kept.IsOpen h.storage) first → IsAtRest (IsSoundHost digest) (kept.seen first.limits first.storage)
 rests_kept {D} {G} {g} digest first host is rest clean =
-    let P : Option (RecallingStorage (FileStore D g) G) → Type 0 = λ o. kept.IsIntact o × kept.IsOpen o → IsAtRest (IsSoundHost digest) (kept.seen first.limits o) in
-    subst P (sym is) (λ (up : storage.IsClean over_files host.host). subst (IsAtRest (IsSoundHost digest)) (sym (nothing_recalled (storage.seen over_files host.host))) (rest up)) clean
+    let P : Option (RecallingStorage (FileStore D g) NoShelf G) → Type 0 = λ o. kept.IsIntact o × kept.IsOpen o → IsAtRest (IsSoundHost digest) (kept.seen first.limits o) in
+    subst P (sym is) (λ (up : storage.IsClean over_files without_packs host.host). subst (IsAtRest (IsSoundHost digest)) (sym (nothing_recalled (storage.seen over_files without_packs host.host))) (rest up)) clean
 
 -- what is left of a value that is there
 pub left_of : {A B : Type 0} (f : A → B) (o : Option A) (y : B) → option_map f o ≡ Some y → (x : A) × (o ≡ Some x) × (y ≡ f x)

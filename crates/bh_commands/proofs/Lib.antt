@@ -2,3 +2,4 @@ mod Found
 mod Printing
 mod Refused
 mod Kept
+mod Making

@@ -1,10 +1,11 @@
 -- Where no host was made, what stood stands.
-use Rattle.std.proofs.Common.{◌≡◌, ◌≢◌, ap, sym, subst, inl, inr}
+use Rattle.std.proofs.Common.{◌≡◌, ◌≢◌, refl, ap, sym, subst, inl, inr}
 use Rattle.sqlite_trees.specs.declared.store.Store.{Ghosts}
 use Rattle.sqlite.specs.Held.{Held, state}
+use Rattle.sqlite.specs.State.{State}
 use Rattle.bh_types.specs.declared.refusal.Refusal.{Refusal}
 use Rattle.bh_types.specs.declared.refusal.Refusal.TheVariants.{NotAHostFile, Unavailable}
-use Rattle.bh_schema.specs.Layer.{standing, IsStateClean, KeepsDisk, taken_back}
+use Rattle.bh_base.specs.Layer.{standing, IsStateClean, KeepsDisk, taken_back}
 use Rattle.bh_create.specs.Creation.{IsEmpty}
 use Rattle.bh_maintenance.proofs.Refused.{is_no_host, keeps_disk}
 use Rattle.bh_maintenance.specs.Printing.{IsRefusal}
@@ -38,3 +39,10 @@ module _ {S : Type 0} (g : Ghosts S) (old new : Held S) (refusal : Refusal) (pri
       not_empty = λ h. absurd (isnt h);
     }
   ]
+
+-- nor was anything done
+pub untouched : (s : State) (printed : Printed) → IsRefusal Unavailable printed → IsNotMade s s printed
+untouched s printed line = record {
+  alone = record { refusal = Unavailable; which = inr refl; line = line; follows = keeps_disk s; stays = λ clean. inl refl };
+  not_empty = λ h. absurd (cc);
+}

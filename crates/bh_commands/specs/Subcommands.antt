@@ -16,7 +16,9 @@ use Rattle.bh_view.specs.Bodies.{IsSoundHost}
 use Rattle.bh_view.specs.View.{latest_of}
 use Rattle.bh_storage.specs.Calls.{IsAtRest}
 use Rattle.bh_cache.specs.Kept.{no_blocks}
-use Rattle.bh_schema.specs.Layer.{standing, IsStateClean, KeepsDisk}
+use Rattle.bh_shelf.specs.declared.no_shelf.NoShelf.{NoShelf}
+use Rattle.bh_base.specs.Connections.{without_packs}
+use Rattle.bh_base.specs.Layer.{standing, IsStateClean, KeepsDisk}
 use Rattle.bh_schema.specs.Storage.{seen_in}
 use Rattle.bh_schema.specs.Storage as storage
 use Rattle.bh_create.specs.Creation.{IsEmpty, IsNewHost}
@@ -64,66 +66,70 @@ Makes limits digest old new printed = IsNotMade old new printed ⊎ IsMade limit
 module _ {D : Type 0} {g : disk.Ghosts D} where
   -- the host of an opened database, with a digester, which is that of a function; its cache is
   -- empty
-  abbrev pub host_with : {G : Type 0} → Opened (FileStore D g) → G → HostStorage (FileStore D g) G
+  abbrev pub host_with : {G : Type 0} → Opened (FileStore D g) → G → HostStorage (FileStore D g) NoShelf G
   host_with opened digester = record {
     host = record {
-      connection = opened.connection;
+      connection = record { database = opened.connection; packs = record {} };
       digester = digester;
       limits = opened.limits;
       cache = no_blocks opened.tuning;
     };
   }
 
-  abbrev pub host_by : (digest : BlockDigest) → Opened (FileStore D g) → HostStorage (FileStore D g) (digester_of digest)
+  abbrev pub host_by : (digest : BlockDigest) → Opened (FileStore D g) → HostStorage (FileStore D g) NoShelf (digester_of digest)
   host_by digest opened = host_with opened (the_digester digest)
 
   -- a connection was opened as a host, which has the tables that were there, upgraded from an
   -- earlier version if needed, and is at rest
-  pub record IsFound {G : Type 0} (digest : Octets → Octets) (old : Held (FileStore D g)) (host : HostStorage (FileStore D g) G) :
+  pub record IsFound {G : Type 0} (digest : Octets → Octets) (old : Held (FileStore D g)) (host : HostStorage (FileStore D g) NoShelf G) :
       Type 0 where
-    pub opened : IsOpenedAs (file_state old) (file_state host.host.connection)
-    pub shows : storage.IsClean over_files host.host → (storage.seen over_files host.host).now
+    pub opened : IsOpenedAs (file_state old) (file_state host.host.connection.database)
+    pub shows : storage.IsClean over_files without_packs host.host → (storage.seen over_files without_packs host.host).now
         ≡ tables_opened (standing (file_state old)).now
-    pub rest : storage.IsClean over_files host.host → IsAtRest (IsSoundHost digest) (storage.seen over_files host.host)
+    pub rest : storage.IsClean over_files without_packs host.host
+        → IsAtRest (IsSoundHost digest) (storage.seen over_files without_packs host.host)
 
   -- the work was done at a reading, all of it, on a host that cuts bodies into blocks of this size,
   -- and its connection is left; backups may have closed and reopened it, and it wasn't lost over
   -- them
   pub record IsWorkedOn {G K : Type 0} (block : size.Ghosts K) (digest : Octets → Octets) (work : Work) (reading : ℕ)
-      (host : HostStorage (FileStore D g) G) (new : Held (FileStore D g)) (printed : Printed) : Type 0 where
+      (host : HostStorage (FileStore D g) NoShelf G) (new : Held (FileStore D g)) (printed : Printed) : Type 0 where
     pub first : KeptHost D G K g (record { digest_of = digest }) block
     pub last : KeptHost D G K g (record { digest_of = digest }) block
-    pub left_host : RecallingStorage (FileStore D g) G
+    pub left_host : RecallingStorage (FileStore D g) NoShelf G
     pub begun : first.storage ≡ Some (record { storage = host; memo = nothing })
     pub stays : StaysReady (λ h. kept.IsIntact h.storage) (λ h. kept.IsOpen h.storage) (IsSoundHost digest)
         (λ h. kept.seen h.limits h.storage) first last
     pub done : HasDone (λ h. kept.IsIntact h.storage) (λ h. kept.IsOpen h.storage) (λ h. kept.seen h.limits h.storage)
         (λ h. kept.left h.storage) work reading first last printed
     pub ended : last.storage ≡ Some left_host
-    pub left : new ≡ left_host.storage.host.connection
+    pub left : new ≡ left_host.storage.host.connection.database
 
   -- the clock, at the given reading or else at some reading, is too far ahead of the last stamp, or
   -- not
-  pub record Reads {G : Type 0} (clock : ClockGiven) (host : HostStorage (FileStore D g) G) (reading : ℕ) (is_leap : Bool) : Type 0 where
+  pub record Reads {G : Type 0} (clock : ClockGiven) (host : HostStorage (FileStore D g) NoShelf G) (reading : ℕ)
+      (is_leap : Bool) : Type 0 where
     pub given : IfSome clock.at (λ r. reading ≡ r)
-    pub leap : storage.IsClean over_files host.host → leaps clock.leap (latest_of (storage.seen over_files host.host).now) reading ≡ is_leap
+    pub leap : storage.IsClean over_files without_packs host.host
+        → leaps clock.leap (latest_of (storage.seen over_files without_packs host.host).now) reading ≡ is_leap
 
   -- it is too far ahead: that alone is printed, and the tables are unchanged
-  pub record IsHeldBack {G : Type 0} (clock : ClockGiven) (host : HostStorage (FileStore D g) G) (new : Held (FileStore D g))
+  pub record IsHeldBack {G : Type 0} (clock : ClockGiven) (host : HostStorage (FileStore D g) NoShelf G) (new : Held (FileStore D g))
       (printed : Printed) : Type 0 where
     pub reading : ℕ
     pub reads : Reads clock host reading true
-    pub left : new ≡ host.host.connection
+    pub left : new ≡ host.host.connection.database
     pub line : IsFault printed
 
   -- it is not, and the work was done at that reading; blocks have the size of the host's settings
-  pub record IsDone {G : Type 0} (digest : Octets → Octets) (clock : ClockGiven) (work : Work) (host : HostStorage (FileStore D g) G)
-      (new : Held (FileStore D g)) (printed : Printed) : Type 0 where
+  pub record IsDone {G : Type 0} (digest : Octets → Octets) (clock : ClockGiven) (work : Work)
+      (host : HostStorage (FileStore D g) NoShelf G) (new : Held (FileStore D g)) (printed : Printed) : Type 0 where
     pub reading : ℕ
     pub reads : Reads clock host reading false
     pub worked : IsWorkedOn {K = Brand} (record { size = host.host.cache.tuning.block_size }) digest work reading host new printed
 
-  abbrev pub IsWorkedInTime : {G : Type 0} → (Octets → Octets) → ClockGiven → Work → HostStorage (FileStore D g) G → Held (FileStore D g)
+  abbrev pub IsWorkedInTime : {G : Type 0} → (Octets → Octets) → ClockGiven → Work → HostStorage (FileStore D g) NoShelf G
+      → Held (FileStore D g)
       → Printed → Type 0
   IsWorkedInTime digest clock work host new printed = IsHeldBack clock host new printed ⊎ IsDone digest clock work host new printed
 

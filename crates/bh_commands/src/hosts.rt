@@ -1,8 +1,9 @@
 //! Tasks on a file, done on its connection, whatever disk its files are on.
 
-ghost use Rattle.std.specs.Prelude.{◌≡◌, IfOk};
+ghost use Rattle.std.specs.Prelude.{◌≡◌, IfOk, IsTrue, codes};
 ghost use Rattle.sqlite.specs.Files.{file_state, over_files};
-ghost use Rattle.sqlite.specs.Held.{state};
+ghost use Rattle.sqlite.specs.State.{IsLive};
+ghost use Rattle.bh_base.specs.Connections.{without_packs};
 ghost use Rattle.bh_blocks.specs.Digests.{digest_by};
 ghost use Rattle.bh_view.specs.Bodies.{IsSoundHost};
 ghost use Rattle.bh_view.specs.View.{latest_of};
@@ -10,13 +11,14 @@ ghost use Rattle.bh_schema.specs.Storage.{IsClean, seen};
 ghost use Rattle.bh_storage.specs.Calls.{IsAtRest};
 ghost use Rattle.bh_maintenance.specs.Endings.{IsLeft};
 ghost use Rattle.bh_maintenance.specs.Found.{IsSoundIn, IsReadyBy, IsNotFound};
-ghost use Rattle.bh_maintenance.specs.Printing.{IsFault};
+ghost use Rattle.bh_maintenance.specs.Printing.{IsFault, IsLine};
 ghost use Rattle.bh_commands.specs.Subcommands.{IsReadyFor, host_with, host_by, Makes, IsWorkedOn, IsWorkedInTime, Works, CarriesOut};
 ghost use Rattle.bh_commands.specs.Subcommands.{LeavesDone};
 
 use crate::asked::{FileTask, Work};
 use crate::clocks::{leaps, reading_of};
 use crate::commands::do_work;
+use bh_base::connection::Connection as Joined;
 use bh_blocks::digester::{FastDigester, Sha256Digester};
 use bh_create::create;
 use bh_kept::{BlockSize, KeptHost};
@@ -27,10 +29,12 @@ use bh_maintenance::printed::Printed;
 use bh_maintenance::remarks::{Ahead, Remark, tell};
 use bh_open::{Opened, is_hosts, open_host};
 use bh_schema::host::{Digester, Host};
+use bh_shelf::no_shelf::NoShelf;
 use bh_types::block_digest::BlockDigest;
 use bh_types::limits::{Limits, Tuning};
+use bh_types::refusal::Refusal;
 use bh_words::ClockGiven;
-use sqlite::{Alter, Connection, Error, FileStore};
+use sqlite::{Alter, Connection, Error, ErrorCode, FileStore};
 use sqlite_disk::Disk;
 use std::alloc::{AllocError, Global};
 use std::marker::Brand;
@@ -51,18 +55,25 @@ fn why_not_made<S: Alter>(
     }
 }
 
-/// Creates a host in an empty database, and prints `host`.
-fn make<S: Alter + Drop>(
+/// Creates a host in an empty database outside of a transaction, and prints this line.
+fn make_outside<D: Disk + Drop>(
     rt: &HostRuntime,
     path: &str,
-    connection: Connection<S>,
+    connection: Connection<FileStore<D>>,
     limits: Limits,
     digest: BlockDigest,
-) -> Result<Done<S>, AllocError>
-    ensures { IfOk result (λ done. Makes limits digest (state S.Store connection) (state S.Store done.connection) done.printed) }
+    line: Printed,
+) -> Result<Done<FileStore<D>>, AllocError>
+    requires live { IsLive (file_state connection) }
+    requires settled { IsTrue (file_state connection).is_open → (file_state connection).now ≡ (file_state connection).committed }
+    requires line { IsLine (codes "host") line }
+    ensures { IfOk result (λ done. Makes limits digest (file_state connection) (file_state done.connection) done.printed) }
 {
     let alloc = rt.alloc();
-    let printed = Printed::line(alloc, b"host")?;
+    let connection = Joined {
+        database: connection,
+        packs: NoShelf,
+    };
     // There are no blocks yet, so any digester will do.
     match create(
         connection,
@@ -72,28 +83,46 @@ fn make<S: Alter + Drop>(
         Tuning::default(),
     ) {
         Ok(host) => Ok(Done {
-            printed,
-            connection: host.into_connection(),
+            printed: line,
+            connection: host.into_connection().database,
         }),
         Err(error) => {
-            tell(
-                rt,
-                path,
-                &why_not_made(alloc, error.cause, &error.connection),
-            );
-            Ok(refused(alloc, error.connection, error.refusal)?)
+            let database = error.connection.database;
+            tell(rt, path, &why_not_made(alloc, error.cause, &database));
+            Ok(refused(alloc, database, error.refusal)?)
         }
     }
+}
+
+/// Creates a host in an empty database, and prints `host`.
+fn make<D: Disk + Drop>(
+    rt: &HostRuntime,
+    path: &str,
+    connection: Connection<FileStore<D>>,
+    limits: Limits,
+    digest: BlockDigest,
+) -> Result<Done<FileStore<D>>, AllocError>
+    ensures { IfOk result (λ done. Makes limits digest (file_state connection) (file_state done.connection) done.printed) }
+{
+    let line = Printed::line(rt.alloc(), b"host")?;
+    // Called for its contract: the trees list the schema.
+    let _schema = connection.schema();
+    if !connection.is_autocommit() {
+        let error = Error::SqliteFailure(ErrorCode::TransactionState);
+        tell(rt, path, &Remark::Trouble(error));
+        return Ok(refused(rt.alloc(), connection, Refusal::Unavailable)?);
+    }
+    Ok(make_outside(rt, path, connection, limits, digest, line)?)
 }
 
 /// Does the work on a host at a reading of the clock. Its blocks have the size of `K`.
 fn work_on<D: Disk + Drop, G: Digester + Drop, K: BlockSize>(
     rt: &HostRuntime,
-    host: Host<FileStore<D>, G>,
+    host: Host<FileStore<D>, NoShelf, G>,
     reading: u64,
     asked: Work,
 ) -> Result<Done<FileStore<D>>, Fault>
-    requires rest { IsClean over_files host → IsAtRest (IsSoundHost G.digest_of) (seen over_files host) }
+    requires rest { IsClean over_files without_packs host → IsAtRest (IsSoundHost G.digest_of) (seen over_files without_packs host) }
     requires size { host.cache.tuning.block_size ≡ K.size }
     ensures { IfOk result (λ done. IsWorkedOn K.BlockSize G.digest_of asked reading (record { host = host })
         done.connection done.printed) }
@@ -137,19 +166,19 @@ fn tell_stamp(rt: &HostRuntime, path: &str, asked: &Work, latest: u64) {
 fn work_in_time<D: Disk + Drop, G: Digester + Drop>(
     rt: &HostRuntime,
     path: &str,
-    host: Host<FileStore<D>, G>,
+    host: Host<FileStore<D>, NoShelf, G>,
     latest: u64,
     clock: ClockGiven,
     asked: Work,
 ) -> Result<Done<FileStore<D>>, Fault>
-    requires rest { IsClean over_files host → IsAtRest (IsSoundHost G.digest_of) (seen over_files host) }
-    requires latest { IsClean over_files host → latest ≡ latest_of (seen over_files host).now }
+    requires rest { IsClean over_files without_packs host → IsAtRest (IsSoundHost G.digest_of) (seen over_files without_packs host) }
+    requires latest { IsClean over_files without_packs host → latest ≡ latest_of (seen over_files without_packs host).now }
     ensures { IfOk result (λ done. IsWorkedInTime G.digest_of clock asked (record { host = host }) done.connection done.printed) }
 {
     let reading = reading_of(rt, clock.at)?;
     if leaps(clock.leap, latest, reading) {
         let ahead = Ahead { latest, reading };
-        return Ok(held_back(rt, path, host.into_connection(), ahead)?);
+        return Ok(held_back(rt, path, host.into_connection().database, ahead)?);
     }
     tell_stamp(rt, path, &asked, latest);
     Ok(work_on::<D, G, Brand>(rt, host, reading, asked)?)
@@ -169,7 +198,14 @@ fn work_by<D: Disk + Drop, G: Digester + Drop>(
         done.connection done.printed) }
 {
     let latest = opened.latest;
-    work_in_time(rt, path, opened.into_host(digester), latest, clock, asked)
+    work_in_time(
+        rt,
+        path,
+        opened.into_host(NoShelf, digester),
+        latest,
+        clock,
+        asked,
+    )
 }
 
 /// Does the work with the digester of the function in the host's row.

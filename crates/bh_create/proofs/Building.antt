@@ -21,7 +21,8 @@ use Rattle.bh_view.specs.Sound.{IsSound}
 use Rattle.bh_view.specs.View.{view}
 use Rattle.bh_view.proofs.HostChanges.{created as host_created}
 use Rattle.sqlite.specs.Schema.{Schema}
-use Rattle.sqlite.specs.Effect.{IsDatabase}
+use Rattle.sqlite_trees.specs.Objects.{catalog_tree}
+use Rattle.sqlite_catalog.specs.Listing.{Lists}
 use Rattle.sqlite.specs.Table.{Table}
 use Rattle.sqlite.specs.Change.{created, indexed}
 use Rattle.sqlite.specs.State.{State, HasCleanDisk, Survives, Executes, CommitsBy}
@@ -33,13 +34,17 @@ use Rattle.bh_rows.specs.Index.{Indexes}
 use Rattle.bh_rows.proofs.IndexLemmas.{index_changes, index_grows}
 use Rattle.bh_rows.proofs.IndexErrors.{IsFreeIndex, blank_trouble}
 use Rattle.sqlite_schema.specs.declared.schema.Index.{Index}
-use Rattle.bh_schema.specs.Layer.{Standing, standing, IsIntact, IsOpen, IsStateClean, Leaves, IsInsideBy, IsMidst, Holds, HoldsBy, begun, committed}
+use Rattle.bh_base.specs.Layer.{Standing, standing, IsIntact, IsOpen, IsStateClean, Leaves, IsInsideBy, IsMidst, Holds, HoldsBy, begun, committed}
 use Rattle.bh_schema.specs.Garbage.{weight_added}
-use Rattle.bh_schema.proofs.Calls.{whole_again}
+use Rattle.bh_base.proofs.Calls.{whole_again}
 use Rattle.bh_schema.specs.Storage.{seen_in, left_in}
 use Rattle.bh_schema.proofs.Storing.{follows_then}
 use Rattle.bh_schema.proofs.Committing.{same_database}
-use Rattle.bh_schema.proofs.TurnLemmas.{follows}
+use Rattle.bh_base.proofs.TurnLemmas.{follows}
+use Rattle.bh_base.specs.Shown.{Backing, shown}
+use Rattle.bh_base.proofs.Blank.{blank_bare, grows_shown}
+use Rattle.bh_base.proofs.Endings.{disk_clean, changes_shown}
+use Rattle.bh_base.proofs.Lifting.{doubtless}
 use Rattle.bh_create.specs.Creation.{IsEmpty, IsNewHost, IsMaking, Keeps, Makes}
 use Rattle.bh_create.specs.Items.{before, after, IsTextOf, Lead}
 use Rattle.bh_create.specs.declared.tables.Item.{Item}
@@ -81,25 +86,35 @@ unfolding IsIntact
 if_intact new (Ok x) h = tt
 if_intact new (Err e) h = h
 
--- where nothing stands against the table, it fails in trouble alone
-module _ (before : Schema) (sql : List ℕ) (table : Table) (creates : Creates before sql table) (old new : State) (making : IsStateClean old → IsMaking before old) where
-  makes : (result : Result ℕ Error) → (HasCleanDisk new → Executes sql [] old new result) → Survives old new (CommitsBy sql [] old) → Makes (created before table) old new result
-  makes result runs s = made before (created before table) old new making result
-      (create_changes before sql table creates old new (blank_before before (created before table) old new making) result runs s)
-      (grows before sql table creates old new (blank_before before (created before table) old new making) result runs s)
+module _ (before after : Schema) (a : Backing) (old new : State) (making : IsStateClean (shown a old) → IsMaking before (shown a old)) where
+  bare_blank : IsTrue a.is_clean → HasCleanDisk old → IsTrue old.is_open → IsBlank before old
+  bare_blank clean was up = blank_bare a before old (blank_before before after (shown a old) (shown a new) making (doubtless old.is_clean a.is_clean was clean) up)
 
-  fails : IsFree before sql table → (result : Result ℕ Error) → (HasCleanDisk new → Executes sql [] old new result) → Survives old new (CommitsBy sql [] old) → IfErr result (λ e. IsIntact new → is_trouble e ≡ true)
-  fails free result runs s = if_intact new result (create_trouble before sql table creates free old new (λ clean up. (blank_before before (created before table) old new making clean up).schema_is) result runs s)
+-- where nothing stands against the table, it fails in trouble alone
+module _ (before : Schema) (sql : List ℕ) (table : Table) (creates : Creates before sql table) (a : Backing) (old new : State) (making : IsStateClean (shown a old) → IsMaking before (shown a old)) where
+  blank_table : IsTrue a.is_clean → HasCleanDisk old → IsTrue old.is_open → IsBlank before old
+  blank_table = bare_blank before (created before table) a old new making
+
+  makes : (result : Result ℕ Error) → (HasCleanDisk new → Executes sql [] old new result) → Survives old new (CommitsBy sql [] old) → Makes (created before table) (shown a old) (shown a new) result
+  makes result runs s = made before (created before table) (shown a old) (shown a new) making result
+      (changes_shown a old new result s (λ clean. create_changes before sql table creates old new (blank_table clean) result runs s))
+      (grows_shown a (created before table) old new result (λ clean. grows before sql table creates old new (blank_table clean) result runs s))
+
+  fails : IsFree before sql table → (result : Result ℕ Error) → (HasCleanDisk new → Executes sql [] old new result) → Survives old new (CommitsBy sql [] old) → IfErr result (λ e. IsIntact (shown a new) → is_trouble e ≡ true)
+  fails free result runs s = if_intact (shown a new) result (λ h. let clean = disk_clean a old new new h in create_trouble before sql table creates free old new (λ was up. (blank_table clean.1 was up).schema_is) result runs s clean.0)
 
 -- and so does an index
-module _ (before : Schema) (sql : List ℕ) (place : ℕ) (table : Table) (index : Index) (it : Indexes before sql place table index) (old new : State) (making : IsStateClean old → IsMaking before old) where
-  indexes : (result : Result ℕ Error) → (HasCleanDisk new → Executes sql [] old new result) → Survives old new (CommitsBy sql [] old) → Makes (indexed before table index) old new result
-  indexes result runs s = made before (indexed before table index) old new making result
-      (index_changes before sql place table index it old new (λ clean up. (blank_before before (indexed before table index) old new making clean up).schema_is) result runs s)
-      (index_grows before sql place table index it old new (blank_before before (indexed before table index) old new making) result runs s)
+module _ (before : Schema) (sql : List ℕ) (place : ℕ) (table : Table) (index : Index) (it : Indexes before sql place table index) (a : Backing) (old new : State) (making : IsStateClean (shown a old) → IsMaking before (shown a old)) where
+  blank_index : IsTrue a.is_clean → HasCleanDisk old → IsTrue old.is_open → IsBlank before old
+  blank_index = bare_blank before (indexed before table index) a old new making
 
-  index_fails : IsFreeIndex before sql table index → (result : Result ℕ Error) → (HasCleanDisk new → Executes sql [] old new result) → Survives old new (CommitsBy sql [] old) → IfErr result (λ e. IsIntact new → is_trouble e ≡ true)
-  index_fails free result runs s = if_intact new result (blank_trouble before sql place table index it free old new (blank_before before (indexed before table index) old new making) result runs s)
+  indexes : (result : Result ℕ Error) → (HasCleanDisk new → Executes sql [] old new result) → Survives old new (CommitsBy sql [] old) → Makes (indexed before table index) (shown a old) (shown a new) result
+  indexes result runs s = made before (indexed before table index) (shown a old) (shown a new) making result
+      (changes_shown a old new result s (λ clean. index_changes before sql place table index it old new (λ was up. (blank_index clean was up).schema_is) result runs s))
+      (grows_shown a (indexed before table index) old new result (λ clean. index_grows before sql place table index it old new (blank_index clean) result runs s))
+
+  index_fails : IsFreeIndex before sql table index → (result : Result ℕ Error) → (HasCleanDisk new → Executes sql [] old new result) → Survives old new (CommitsBy sql [] old) → IfErr result (λ e. IsIntact (shown a new) → is_trouble e ≡ true)
+  index_fails free result runs s = if_intact (shown a new) result (λ h. let clean = disk_clean a old new new h in blank_trouble before sql place table index it free old new (blank_index clean.1) result runs s clean.0)
 
 -- ---- the texts
 
@@ -110,14 +125,14 @@ pub index_text : (item : Item) {sql : List ℕ} {place : ℕ} {table : Table} {i
 index_text item {sql} {place} {table} {index} leads indexes free = inr (record { place = place; table = table; index = index; leads = leads; indexes = indexes; free = free })
 
 -- a run of a text makes its item
-module _ (item : Item) (sql : List ℕ) (old new : State) (making : IsStateClean old → IsMaking (before item) old) (result : Result ℕ Error) (runs : HasCleanDisk new → Executes sql [] old new result) (survives : Survives old new (CommitsBy sql [] old)) where
-  pub item_made : IsTextOf item sql → Makes (after item) old new result
-  item_made (inl it) = subst (λ schema. Makes schema old new result) it.leads (makes (before item) sql it.table it.creates old new making result runs survives)
-  item_made (inr it) = subst (λ schema. Makes schema old new result) it.leads (indexes (before item) sql it.place it.table it.index it.indexes old new making result runs survives)
+module _ (item : Item) (sql : List ℕ) (a : Backing) (old new : State) (making : IsStateClean (shown a old) → IsMaking (before item) (shown a old)) (result : Result ℕ Error) (runs : HasCleanDisk new → Executes sql [] old new result) (survives : Survives old new (CommitsBy sql [] old)) where
+  pub item_made : IsTextOf item sql → Makes (after item) (shown a old) (shown a new) result
+  item_made (inl it) = subst (λ schema. Makes schema (shown a old) (shown a new) result) it.leads (makes (before item) sql it.table it.creates a old new making result runs survives)
+  item_made (inr it) = subst (λ schema. Makes schema (shown a old) (shown a new) result) it.leads (indexes (before item) sql it.place it.table it.index it.indexes a old new making result runs survives)
 
-  pub item_fails : IsTextOf item sql → IfErr result (λ e. IsIntact new → is_trouble e ≡ true)
-  item_fails (inl it) = fails (before item) sql it.table it.creates old new making it.free result runs survives
-  item_fails (inr it) = index_fails (before item) sql it.place it.table it.index it.indexes old new making it.free result runs survives
+  pub item_fails : IsTextOf item sql → IfErr result (λ e. IsIntact (shown a new) → is_trouble e ≡ true)
+  item_fails (inl it) = fails (before item) sql it.table it.creates a old new making it.free result runs survives
+  item_fails (inr it) = index_fails (before item) sql it.place it.table it.index it.indexes a old new making it.free result runs survives
 
 -- ---- several calls
 
@@ -185,7 +200,7 @@ new_sound digest tables min_part max_body number is sound vacant =
     record { sound = sound; bodies = it.0; digests = it.1; bounded = λ t. subst IsBounded (sym (vacant t)) tt }
 
 -- and committed
-pub stands : (old new : State) (min_part max_body number : ℕ) (named : BlockDigest) → AreLimits min_part max_body → number ≤ 1 → number ≡ digest_number named → Holds (new_host min_part max_body number) (standing old) → IsDatabase (standing old).now
+pub stands : (old new : State) (min_part max_body number : ℕ) (named : BlockDigest) → AreLimits min_part max_body → number ≤ 1 → number ≡ digest_number named → Holds (new_host min_part max_body number) (standing old) → Lists ((standing old).now.trees catalog_tree) (standing old).now.schema
     → standing new ≡ committed (standing old) → ((db : Trees) → Leaves new db → db ≡ (standing new).kept.trees) → IsNewHost (record { min_part = min_part; max_body = max_body }) named new
 unfolding seen_in left_in
 stands old new min_part max_body number named good known same it stood is settled =

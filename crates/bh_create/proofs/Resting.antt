@@ -6,7 +6,7 @@ use Rattle.bh_storage.specs.Calls.{Seen, IsAtRest}
 use Rattle.bh_view.specs.Bodies.{IsSoundHost}
 use Rattle.bh_create.specs.Creation.{IsNewHost}
 use Rattle.bh_cache.specs.Kept.{KeptBlocks, no_blocks}
-use Rattle.bh_schema.specs.Layer.{IsStateClean}
+use Rattle.bh_base.specs.Layer.{IsStateClean}
 use Rattle.bh_schema.specs.Storage.{seen_in, beside}
 use Rattle.bh_schema.proofs.Storing.{AreBoth, both, beside_agreed}
 

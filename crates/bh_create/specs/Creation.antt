@@ -13,7 +13,7 @@ use Rattle.bh_view.specs.Bodies.{IsSoundHost}
 use Rattle.bh_view.specs.Laws.{new_host}
 use Rattle.bh_view.specs.View.{view, latest_of}
 use Rattle.bh_storage.specs.Calls.{IsAtRest}
-use Rattle.bh_schema.specs.Layer.{standing, IsStateClean, KeepsDisk}
+use Rattle.bh_base.specs.Layer.{standing, IsStateClean, KeepsDisk}
 use Rattle.bh_schema.specs.Storage.{seen_in, left_in}
 
 -- the database has no table, index or view

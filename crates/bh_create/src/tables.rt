@@ -1,13 +1,15 @@
 ghost use Rattle.std.specs.Prelude.{◌≡◌, true, IfErr};
-ghost use Rattle.sqlite.specs.Held.{state};
+ghost use Rattle.bh_base.specs.Connections.{state};
 ghost use Rattle.bh_rows.specs.Means.{is_trouble};
 ghost use Rattle.bh_tables.specs.Schema.{no_schema, third_schema};
 ghost use Rattle.bh_tables.specs.Made.{with_uses_by_count, with_retains, with_tallies, with_placed, with_garbage, with_unneeded};
-ghost use Rattle.bh_schema.specs.Layer.{IsIntact, IsStateClean};
+ghost use Rattle.bh_base.specs.Layer.{IsIntact, IsStateClean};
 ghost use Rattle.bh_create.specs.Creation.{IsMaking, Makes};
 ghost use Rattle.bh_create.specs.Items.{before, after, IsTextOf, Lead};
 
-use sqlite::{Alter, Connection, Error};
+use bh_base::connection::Connection;
+use bh_shelf::shelf::Shelf;
+use sqlite::{Alter, Error};
 
 /// A table or an index of a host's database, in this order.
 #[derive(Clone, Copy)]
@@ -139,20 +141,26 @@ impl Item {
 }
 
 /// Creates one, without rows, after those before it.
-fn create_item<S: Alter>(connection: &mut Connection<S>, item: Item) -> Result<usize, Error>
-    requires { IsStateClean (state S.Store connection.old) → IsMaking (before item) (state S.Store connection.old) }
-    ensures makes { Makes (after item) (state S.Store connection.old) (state S.Store connection.new) result }
-    ensures trouble { IfErr result (λ e. IsIntact (state S.Store connection.new) → is_trouble e ≡ true) }
+fn create_item<S: Alter, P: Shelf>(
+    connection: &mut Connection<S, P>,
+    item: Item,
+) -> Result<usize, Error>
+    requires { IsStateClean (state S.Store P.Shelf connection.old) → IsMaking (before item) (state S.Store P.Shelf connection.old) }
+    ensures makes { Makes (after item) (state S.Store P.Shelf connection.old) (state S.Store P.Shelf connection.new) result }
+    ensures trouble { IfErr result (λ e. IsIntact (state S.Store P.Shelf connection.new) → is_trouble e ≡ true) }
 {
-    connection.execute(item.text(), &[])
+    connection.database.execute(item.text(), &[])
 }
 
 /// Creates these, one after another, which are all that a host of version 1 has.
-fn create_all<S: Alter>(connection: &mut Connection<S>, items: &[Item]) -> Result<(), Error>
-    requires making { IsStateClean (state S.Store connection.old) → IsMaking no_schema (state S.Store connection.old) }
+fn create_all<S: Alter, P: Shelf>(
+    connection: &mut Connection<S, P>,
+    items: &[Item],
+) -> Result<(), Error>
+    requires making { IsStateClean (state S.Store P.Shelf connection.old) → IsMaking no_schema (state S.Store P.Shelf connection.old) }
     requires lead { Lead no_schema items.now with_uses_by_count }
-    ensures makes { Makes with_uses_by_count (state S.Store connection.old) (state S.Store connection.new) result }
-    ensures trouble { IfErr result (λ e. IsIntact (state S.Store connection.new) → is_trouble e ≡ true) }
+    ensures makes { Makes with_uses_by_count (state S.Store P.Shelf connection.old) (state S.Store P.Shelf connection.new) result }
+    ensures trouble { IfErr result (λ e. IsIntact (state S.Store P.Shelf connection.new) → is_trouble e ≡ true) }
 {
     for item in items {
         create_item(connection, *item)?;
@@ -162,19 +170,23 @@ fn create_all<S: Alter>(connection: &mut Connection<S>, items: &[Item]) -> Resul
 
 /// Creates the tables of a host of version 1 and their indexes, without rows. Their text never
 /// changes: existing files have it.
-pub fn create_first_tables<S: Alter>(connection: &mut Connection<S>) -> Result<(), Error>
-    requires { IsStateClean (state S.Store connection.old) → IsMaking no_schema (state S.Store connection.old) }
-    ensures makes { Makes with_uses_by_count (state S.Store connection.old) (state S.Store connection.new) result }
-    ensures trouble { IfErr result (λ e. IsIntact (state S.Store connection.new) → is_trouble e ≡ true) }
+pub fn create_first_tables<S: Alter, P: Shelf>(
+    connection: &mut Connection<S, P>,
+) -> Result<(), Error>
+    requires { IsStateClean (state S.Store P.Shelf connection.old) → IsMaking no_schema (state S.Store P.Shelf connection.old) }
+    ensures makes { Makes with_uses_by_count (state S.Store P.Shelf connection.old) (state S.Store P.Shelf connection.new) result }
+    ensures trouble { IfErr result (λ e. IsIntact (state S.Store P.Shelf connection.new) → is_trouble e ≡ true) }
 {
     create_all(connection, &FIRST)
 }
 
 /// Creates the tables of a host of version 2 and their indexes, without rows.
-pub fn create_second_tables<S: Alter>(connection: &mut Connection<S>) -> Result<(), Error>
-    requires { IsStateClean (state S.Store connection.old) → IsMaking no_schema (state S.Store connection.old) }
-    ensures makes { Makes with_retains (state S.Store connection.old) (state S.Store connection.new) result }
-    ensures trouble { IfErr result (λ e. IsIntact (state S.Store connection.new) → is_trouble e ≡ true) }
+pub fn create_second_tables<S: Alter, P: Shelf>(
+    connection: &mut Connection<S, P>,
+) -> Result<(), Error>
+    requires { IsStateClean (state S.Store P.Shelf connection.old) → IsMaking no_schema (state S.Store P.Shelf connection.old) }
+    ensures makes { Makes with_retains (state S.Store P.Shelf connection.old) (state S.Store P.Shelf connection.new) result }
+    ensures trouble { IfErr result (λ e. IsIntact (state S.Store P.Shelf connection.new) → is_trouble e ≡ true) }
 {
     create_first_tables(connection)?;
     create_item(connection, Item::Locks)?;
@@ -183,10 +195,12 @@ pub fn create_second_tables<S: Alter>(connection: &mut Connection<S>) -> Result<
 }
 
 /// Creates the tables of a host of version 3 and their indexes, without rows.
-pub fn create_third_tables<S: Alter>(connection: &mut Connection<S>) -> Result<(), Error>
-    requires { IsStateClean (state S.Store connection.old) → IsMaking no_schema (state S.Store connection.old) }
-    ensures makes { Makes with_tallies (state S.Store connection.old) (state S.Store connection.new) result }
-    ensures trouble { IfErr result (λ e. IsIntact (state S.Store connection.new) → is_trouble e ≡ true) }
+pub fn create_third_tables<S: Alter, P: Shelf>(
+    connection: &mut Connection<S, P>,
+) -> Result<(), Error>
+    requires { IsStateClean (state S.Store P.Shelf connection.old) → IsMaking no_schema (state S.Store P.Shelf connection.old) }
+    ensures makes { Makes with_tallies (state S.Store P.Shelf connection.old) (state S.Store P.Shelf connection.new) result }
+    ensures trouble { IfErr result (λ e. IsIntact (state S.Store P.Shelf connection.new) → is_trouble e ≡ true) }
 {
     create_second_tables(connection)?;
     create_item(connection, Item::Tallies)?;
@@ -194,10 +208,10 @@ pub fn create_third_tables<S: Alter>(connection: &mut Connection<S>) -> Result<(
 }
 
 /// Creates the tables of packs and of places in them, without rows, after those of version 3.
-fn create_pack_tables<S: Alter>(connection: &mut Connection<S>) -> Result<(), Error>
-    requires { IsStateClean (state S.Store connection.old) → IsMaking third_schema (state S.Store connection.old) }
-    ensures makes { Makes with_placed (state S.Store connection.old) (state S.Store connection.new) result }
-    ensures trouble { IfErr result (λ e. IsIntact (state S.Store connection.new) → is_trouble e ≡ true) }
+fn create_pack_tables<S: Alter, P: Shelf>(connection: &mut Connection<S, P>) -> Result<(), Error>
+    requires { IsStateClean (state S.Store P.Shelf connection.old) → IsMaking third_schema (state S.Store P.Shelf connection.old) }
+    ensures makes { Makes with_placed (state S.Store P.Shelf connection.old) (state S.Store P.Shelf connection.new) result }
+    ensures trouble { IfErr result (λ e. IsIntact (state S.Store P.Shelf connection.new) → is_trouble e ≡ true) }
 {
     create_item(connection, Item::Packs)?;
     create_item(connection, Item::Placed)?;
@@ -205,10 +219,12 @@ fn create_pack_tables<S: Alter>(connection: &mut Connection<S>) -> Result<(), Er
 }
 
 /// Creates the tables of a host of version 4 and their indexes, without rows.
-pub fn create_fourth_tables<S: Alter>(connection: &mut Connection<S>) -> Result<(), Error>
-    requires { IsStateClean (state S.Store connection.old) → IsMaking no_schema (state S.Store connection.old) }
-    ensures makes { Makes with_garbage (state S.Store connection.old) (state S.Store connection.new) result }
-    ensures trouble { IfErr result (λ e. IsIntact (state S.Store connection.new) → is_trouble e ≡ true) }
+pub fn create_fourth_tables<S: Alter, P: Shelf>(
+    connection: &mut Connection<S, P>,
+) -> Result<(), Error>
+    requires { IsStateClean (state S.Store P.Shelf connection.old) → IsMaking no_schema (state S.Store P.Shelf connection.old) }
+    ensures makes { Makes with_garbage (state S.Store P.Shelf connection.old) (state S.Store P.Shelf connection.new) result }
+    ensures trouble { IfErr result (λ e. IsIntact (state S.Store P.Shelf connection.new) → is_trouble e ≡ true) }
 {
     create_third_tables(connection)?;
     create_pack_tables(connection)?;
@@ -220,10 +236,10 @@ pub fn create_fourth_tables<S: Alter>(connection: &mut Connection<S>) -> Result<
 }
 
 /// Creates the tables of a host and their indexes, without rows.
-pub fn create_tables<S: Alter>(connection: &mut Connection<S>) -> Result<(), Error>
-    requires { IsStateClean (state S.Store connection.old) → IsMaking no_schema (state S.Store connection.old) }
-    ensures makes { Makes with_unneeded (state S.Store connection.old) (state S.Store connection.new) result }
-    ensures trouble { IfErr result (λ e. IsIntact (state S.Store connection.new) → is_trouble e ≡ true) }
+pub fn create_tables<S: Alter, P: Shelf>(connection: &mut Connection<S, P>) -> Result<(), Error>
+    requires { IsStateClean (state S.Store P.Shelf connection.old) → IsMaking no_schema (state S.Store P.Shelf connection.old) }
+    ensures makes { Makes with_unneeded (state S.Store P.Shelf connection.old) (state S.Store P.Shelf connection.new) result }
+    ensures trouble { IfErr result (λ e. IsIntact (state S.Store P.Shelf connection.new) → is_trouble e ≡ true) }
 {
     create_fourth_tables(connection)?;
     create_item(connection, Item::Unneeded)?;

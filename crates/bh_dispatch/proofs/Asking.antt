@@ -16,7 +16,7 @@ use Rattle.bh_storage.specs.declared.error.Trouble.{Trouble}
 use Rattle.bh_cache.specs.Kept.{KeptBlocks, Agrees}
 use Rattle.bh_memo.specs.Facts.{has_no_rule}
 use Rattle.bh_memo.proofs.Rules.{ruleless}
-use Rattle.bh_schema.specs.Layer.{IsStateClean}
+use Rattle.bh_base.specs.Layer.{IsStateClean}
 use Rattle.bh_schema.specs.Rows.{listed_rules}
 use Rattle.bh_schema.specs.Storage.{seen_in, beside}
 use Rattle.bh_schema.specs.Working.{tables_at, StillWorking}

@@ -1,15 +1,17 @@
 -- An answer that is there as a whole, and an object whose bytes are still to be read, as what an operation answers.
 use Rattle.std.proofs.Common.{◌≡◌, Option, Result, Ok, Err, subst}
 use Rattle.std.specs.Result.{result_map_both}
-use Rattle.sqlite.specs.Held.{Held, state}
+use Rattle.bh_base.specs.Connections.{state}
 use Rattle.sqlite_trees.specs.declared.store.Store.{Ghosts}
+use Rattle.bh_shelf.specs.declared.shelf.Shelf.{Ghosts as Shelves}
+use Rattle.bh_base.specs.declared.connection.Connection.{Connection}
 use Rattle.bh_types.specs.declared.rejection.Rejection.{Rejection}
 use Rattle.bh_http.specs.Bodies.{Coming, Gives, IsWhole}
 use Rattle.bh_http.proofs.BodyLemmas.{going_may}
 use Rattle.bh_model.specs.Operations as machine
 use Rattle.bh_model.specs.State.{Octets, State as Machine}
 use Rattle.bh_cache.specs.Kept.{KeptBlocks, Agrees}
-use Rattle.bh_schema.specs.Connections.{IsClean, tables}
+use Rattle.bh_base.specs.Connections.{IsClean, tables}
 use Rattle.bh_storage.specs.Answers.{answer_view, found_answer, offer_view}
 use Rattle.bh_storage.specs.Calls.{Carries, GivesStep, Operates, OperatesBy, UnlessSpoilt}
 use Rattle.bh_storage.specs.Plans.{IfPlanned, IsMeasured}
@@ -94,15 +96,15 @@ measured_from these others cleanly clean both (Err error) same h = tt
 
 -- ---- on a connection
 
-module _ {S : Type 0} (g : Ghosts S) (t : Octets) (old new : Held S) (step : Octets → Option Machine → Result machine.Outcome Rejection) (before after : Coming) (result : Answers) where
-  pub offered_on : (digest : Octets → Octets) (Says : Octets → Type 0) → OperatesOnBy g digest answer_view t step Says before after old new result → OperatesOnBy g digest (offer_view (tables g new)) t step Says before after old new (offered result)
+module _ {S P : Type 0} (g : Ghosts S) (k : Shelves P) (t : Octets) (old new : Connection S P) (step : Octets → Option Machine → Result machine.Outcome Rejection) (before after : Coming) (result : Answers) where
+  pub offered_on : (digest : Octets → Octets) (Says : Octets → Type 0) → OperatesOnBy g k digest answer_view t step Says before after old new result → OperatesOnBy g k digest (offer_view (tables g k new)) t step Says before after old new (offered result)
   offered_on digest Says h = record {
     works = record { within = h.works.within; opens = offered_spoilt result _ h.works.opens; working = offered_spoilt result _ h.works.working };
-    operates = offered_operates (tables g new) t step Says (IsClean g new) before after (tables g old) (tables g new) result h.operates;
+    operates = offered_operates (tables g k new) t step Says (IsClean g k new) before after (tables g k old) (tables g k new) result h.operates;
   }
 
   -- blocks in memory that agreed still do
-  pub keeps_blocks : (kept : KeptBlocks) → (IsClean g old → Agrees kept (tables g old).blocks) → OperatesOn g answer_view t step before after old new result → UnlessSpoilt (offered result) (IsClean g new → Agrees kept (tables g new).blocks)
+  pub keeps_blocks : (kept : KeptBlocks) → (IsClean g k old → Agrees kept (tables g k old).blocks) → OperatesOn g k answer_view t step before after old new result → UnlessSpoilt (offered result) (IsClean g k new → Agrees kept (tables g k new).blocks)
   keeps_blocks kept agrees h =
-      offered_spoilt result _ (kept_operated kept answer_view t step (λ _. Unit {0}) before after result (state g old) (state g new) (λ clean. agrees (h.works.within.follows.clean clean))
-      (says_nothing answer_view t step (λ _. Unit {0}) (IsClean g new) before after (tables g old) (tables g new) result (λ _. tt) h.operates))
+      offered_spoilt result _ (kept_operated kept answer_view t step (λ _. Unit {0}) before after result (state g k old) (state g k new) (λ clean. agrees (h.works.within.follows.clean clean))
+      (says_nothing answer_view t step (λ _. Unit {0}) (IsClean g k new) before after (tables g k old) (tables g k new) result (λ _. tt) h.operates))

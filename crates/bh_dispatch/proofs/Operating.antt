@@ -1,8 +1,10 @@
 -- What is carried out on a connection, told as an answer.
 use Rattle.std.proofs.Common.{◌≡◌, Bool, Option, Result, Ok, Err, refl, ap, sym, subst, IsTrue, MatchResult, IsOkAnd}
 use Rattle.std.specs.Result.{result_map_both}
-use Rattle.sqlite.specs.Held.{Held, state}
+use Rattle.bh_base.specs.Connections.{state}
 use Rattle.sqlite_trees.specs.declared.store.Store.{Ghosts}
+use Rattle.bh_shelf.specs.declared.shelf.Shelf.{Ghosts as Shelves}
+use Rattle.bh_base.specs.declared.connection.Connection.{Connection}
 use Rattle.bh_types.specs.Rejections.{plain, plainly}
 use Rattle.bh_types.specs.declared.error.RequestError.{RequestError}
 use Rattle.bh_types.specs.declared.error.RequestError.TheVariants as request
@@ -24,7 +26,7 @@ use Rattle.bh_storage.specs.declared.error.StepError.{StepError}
 use Rattle.bh_storage.specs.declared.error.StepError.TheVariants.{Refused, Failed}
 use Rattle.bh_storage.specs.declared.error.Trouble.{Trouble}
 use Rattle.bh_objects.proofs.Working.{no_call}
-use Rattle.bh_schema.specs.Connections.{IsClean, tables, StaysWithin, StaysOpen}
+use Rattle.bh_base.specs.Connections.{IsClean, tables, StaysWithin, StaysOpen}
 use Rattle.bh_schema.specs.Working.{Works, StillWorks, StillWorksBy, WorksOn}
 use Rattle.bh_view.specs.View.{view}
 use Rattle.bh_dispatch.specs.Operating.{CarriesOut, OperatesOn, OperatesOnBy}
@@ -33,21 +35,21 @@ use Rattle.bh_dispatch.proofs.Receiving.{spoilt_told, operates_told, says_nothin
 
 -- ---- what a call gave, told as an answer
 
-module _ {S : Type 0} (g : Ghosts S) (t : Octets) (old new : Held S) {X Y : Type 0} (shown : Y → machine.Answer) (made : X → Y) where
-  shown_made : {E : Type 0} (step : Option Machine → Result Step E) (outcome : Result X (StepError E)) → StaysWithin g old new → Unless outcome (StaysOpen g old new) → Unless outcome (StillWorks g old new)
-      → (IsClean g new → Carries (λ x. shown (made x)) t step (tables g old) (tables g new) outcome) → CarriesOut g shown t step old new (result_map_both made (λ e. e) outcome)
+module _ {S P : Type 0} (g : Ghosts S) (k : Shelves P) (t : Octets) (old new : Connection S P) {X Y : Type 0} (shown : Y → machine.Answer) (made : X → Y) where
+  shown_made : {E : Type 0} (step : Option Machine → Result Step E) (outcome : Result X (StepError E)) → StaysWithin g k old new → Unless outcome (StaysOpen g k old new) → Unless outcome (StillWorks g k old new)
+      → (IsClean g k new → Carries (λ x. shown (made x)) t step (tables g k old) (tables g k new) outcome) → CarriesOut g k shown t step old new (result_map_both made (λ e. e) outcome)
   shown_made step (Ok x) within opens working h = record { works = record { within = within; opens = opens; working = working }; carries = h }
   shown_made step (Err (Refused r)) within opens working h = record { works = record { within = within; opens = opens; working = working }; carries = h }
   shown_made step (Err (Failed trouble)) within opens working h = record { works = record { within = within; opens = opens; working = working }; carries = h }
 
-module _ {S : Type 0} (g : Ghosts S) (t : Octets) (old new : Held S) {X : Type 0} (made : X → Answer) where
-  pub carried : {E : Type 0} (step : Option Machine → Result Step E) (outcome : Result X (StepError E)) → StaysWithin g old new → Unless outcome (StaysOpen g old new) → Unless outcome (StillWorks g old new)
-      → (IsClean g new → Carries (λ x. answer_view (made x)) t step (tables g old) (tables g new) outcome) → CarriesOut g answer_view t step old new (result_map_both made (λ e. e) outcome)
-  carried step outcome within opens working h = shown_made g t old new answer_view made step outcome within opens working h
+module _ {S P : Type 0} (g : Ghosts S) (k : Shelves P) (t : Octets) (old new : Connection S P) {X : Type 0} (made : X → Answer) where
+  pub carried : {E : Type 0} (step : Option Machine → Result Step E) (outcome : Result X (StepError E)) → StaysWithin g k old new → Unless outcome (StaysOpen g k old new) → Unless outcome (StillWorks g k old new)
+      → (IsClean g k new → Carries (λ x. answer_view (made x)) t step (tables g k old) (tables g k new) outcome) → CarriesOut g k answer_view t step old new (result_map_both made (λ e. e) outcome)
+  carried step outcome within opens working h = shown_made g k t old new answer_view made step outcome within opens working h
 
   -- where its refusals tell nothing else
-  pub carried_plainly : (step : Option Machine → Result Step Refusal) (outcome : Result X (StepError Refusal)) → StaysWithin g old new → Unless outcome (StaysOpen g old new) → Unless outcome (StillWorks g old new)
-      → (IsClean g new → Carries (λ x. answer_view (made x)) t step (tables g old) (tables g new) outcome) → CarriesOut g answer_view t (λ s. plainly (step s)) old new (result_map_both made step_rejected outcome)
+  pub carried_plainly : (step : Option Machine → Result Step Refusal) (outcome : Result X (StepError Refusal)) → StaysWithin g k old new → Unless outcome (StaysOpen g k old new) → Unless outcome (StillWorks g k old new)
+      → (IsClean g k new → Carries (λ x. answer_view (made x)) t step (tables g k old) (tables g k new) outcome) → CarriesOut g k answer_view t (λ s. plainly (step s)) old new (result_map_both made step_rejected outcome)
   carried_plainly step (Ok x) within opens working h = record {
     works = record { within = within; opens = opens; working = working };
     carries = λ clean. (let k = h clean in record { gives = ap plainly k.gives; others = k.others; latest = k.latest; shared = k.shared });
@@ -57,12 +59,12 @@ module _ {S : Type 0} (g : Ghosts S) (t : Octets) (old new : Held S) {X : Type 0
 
   -- where its body comes in pieces
   pub received : (digest : Octets → Octets) (step : Octets → Option Machine → Result Step Refusal) (Says : Octets → Type 0) (before after : Coming) (outcome : Result (Outcome X Refusal) (StepError Refusal))
-      → StaysWithin g old new → UnlessSpoilt outcome (StaysOpen g old new) → UnlessSpoilt outcome (StillWorksBy g digest old new)
-      → OperatesBy (λ x. answer_view (made x)) t step Says (IsClean g new) before after (tables g old) (tables g new) outcome
-      → OperatesOnBy g digest answer_view t (λ bytes s. plainly (step bytes s)) Says before after old new (result_map_both (outcome_as made) step_rejected outcome)
+      → StaysWithin g k old new → UnlessSpoilt outcome (StaysOpen g k old new) → UnlessSpoilt outcome (StillWorksBy g k digest old new)
+      → OperatesBy (λ x. answer_view (made x)) t step Says (IsClean g k new) before after (tables g k old) (tables g k new) outcome
+      → OperatesOnBy g k digest answer_view t (λ bytes s. plainly (step bytes s)) Says before after old new (result_map_both (outcome_as made) step_rejected outcome)
   received digest step Says before after outcome within opens working h = record {
     works = record { within = within; opens = spoilt_told made outcome _ opens; working = spoilt_told made outcome _ working };
-    operates = operates_told t step Says (IsClean g new) before after (tables g old) (tables g new) (λ x. answer_view (made x)) made (λ _. refl) outcome h;
+    operates = operates_told t step Says (IsClean g k new) before after (tables g k old) (tables g k new) (λ x. answer_view (made x)) made (λ _. refl) outcome h;
   }
 
 pub map_is : {X Y E : Type 0} (made : X → Y) (Post : X → Y → Type 0) → ((x : X) (y : Y) → Post x y → y ≡ made x) → (outcome : Result X E) (result : Result Y E) → MatchResult outcome (λ x. IsOkAnd result (Post x)) (λ e. result ≡ Err e)
@@ -73,50 +75,50 @@ map_is made Post is (Err e) result h = h
 
 -- ---- where nothing was called
 
-module _ {S : Type 0} (g : Ghosts S) (c : Held S) (works : Works g c) where
-  pub still : (Done : Type 0 → Type 0) → ((P : Type 0) → P → Done P) → WorksOn g Done c c
+module _ {S P : Type 0} (g : Ghosts S) (k : Shelves P) (c : Connection S P) (works : Works g k c) where
+  pub still : (Done : Type 0 → Type 0) → ((P : Type 0) → P → Done P) → WorksOn g k Done c c
   still Done any = record {
-    within = no_call (state g c) (λ clean. (works clean).inside);
+    within = no_call (state g k c) (λ clean. (works clean).inside);
     opens = any _ (λ intact up. up);
     working = any _ (λ clean digest. record { is = works clean; limits = refl; digests = λ named. named });
   }
 
   module _ (t : Octets) where
-    pub undone : {E : Type 0} (step : Option Machine → Result Step E) (trouble : Trouble) → CarriesOut g answer_view t step c c (Err (Failed trouble))
+    pub undone : {E : Type 0} (step : Option Machine → Result Step E) (trouble : Trouble) → CarriesOut g k answer_view t step c c (Err (Failed trouble))
     undone step trouble = record { works = still _ (λ P _. tt); carries = λ _. tt }
 
     -- a document that can't be read
     pub unread : {X D : Type 0} (step : Option Machine → Result Step Rejection) (shown : X → D) (read : Result D Refusal) → ((r : Refusal) (s : Option Machine) → read ≡ Err r → step s ≡ Err (plain r)) → (error : RequestError) → Gives {X = X} shown (Err error) read
-        → CarriesOut g answer_view t step c c (Err (request_rejected error))
-    unread step shown read fails (request.Refused r) gives = record { works = still _ (λ P p. p); carries = λ _. (fails r (view (tables g c) t) gives, refl) }
+        → CarriesOut g k answer_view t step c c (Err (request_rejected error))
+    unread step shown read fails (request.Refused r) gives = record { works = still _ (λ P p. p); carries = λ _. (fails r (view (tables g k c) t) gives, refl) }
     unread step shown read fails request.OutOfMemory gives = undone step _
 
 -- ---- the same step
 
-pub by_step : {S : Type 0} (g : Ghosts S) (t : Octets) (old new : Held S) {X E : Type 0} {shown : X → machine.Answer} (step other : Option Machine → Result Step E) (result : Result X (StepError E)) → step ≡ other → CarriesOut g shown t step old new result → CarriesOut g shown t other old new result
-by_step g t old new {shown = shown} step other result same h = subst (λ (f : Option Machine → Result Step _). CarriesOut g shown t f old new result) same h
+pub by_step : {S P : Type 0} (g : Ghosts S) (k : Shelves P) (t : Octets) (old new : Connection S P) {X E : Type 0} {shown : X → machine.Answer} (step other : Option Machine → Result Step E) (result : Result X (StepError E)) → step ≡ other → CarriesOut g k shown t step old new result → CarriesOut g k shown t other old new result
+by_step g k t old new {shown = shown} step other result same h = subst (λ (f : Option Machine → Result Step _). CarriesOut g k shown t f old new result) same h
 
 -- a command on a tenant, by a text that names it
-pub commanded : {S : Type 0} (g : Ghosts S) (old new : Held S) (name text : Octets) → name ≡ text → IsTrue (is_tenant_name text) → {X Y : Type 0} (shown : Y → machine.Answer) (made : X → Y) (step : Option Machine → Result Step Refusal) (outcome : Result X (StepError Refusal))
-    → StaysWithin g old new → Unless outcome (StaysOpen g old new) → Unless outcome (StillWorks g old new) → (IsClean g new → Carries (λ x. shown (made x)) name step (tables g old) (tables g new) outcome)
-    → CarriesOut g shown text (λ s. require (is_tenant_name text) InvalidName >>= (λ _. step s)) old new (result_map_both made (λ e. e) outcome)
-commanded g old new name text same good shown made step outcome within opens working h =
+pub commanded : {S P : Type 0} (g : Ghosts S) (k : Shelves P) (old new : Connection S P) (name text : Octets) → name ≡ text → IsTrue (is_tenant_name text) → {X Y : Type 0} (shown : Y → machine.Answer) (made : X → Y) (step : Option Machine → Result Step Refusal) (outcome : Result X (StepError Refusal))
+    → StaysWithin g k old new → Unless outcome (StaysOpen g k old new) → Unless outcome (StillWorks g k old new) → (IsClean g k new → Carries (λ x. shown (made x)) name step (tables g k old) (tables g k new) outcome)
+    → CarriesOut g k shown text (λ s. require (is_tenant_name text) InvalidName >>= (λ _. step s)) old new (result_map_both made (λ e. e) outcome)
+commanded g k old new name text same good shown made step outcome within opens working h =
     let named : Bool → Option Machine → Result Step Refusal = λ b s. require b InvalidName >>= (λ _. step s) in
-    by_step g text old new step (named (is_tenant_name text)) _ (ap named (sym good))
-    (shown_made g text old new shown made step outcome within opens working (subst (λ t. IsClean g new → Carries (λ x. shown (made x)) t step (tables g old) (tables g new) outcome) same h))
+    by_step g k text old new step (named (is_tenant_name text)) _ (ap named (sym good))
+    (shown_made g k text old new shown made step outcome within opens working (subst (λ t. IsClean g k new → Carries (λ x. shown (made x)) t step (tables g k old) (tables g k new) outcome) same h))
 
 -- ---- a step whose body came
 
-module _ {S : Type 0} (g : Ghosts S) (old new : Held S) where
+module _ {S P : Type 0} (g : Ghosts S) (k : Shelves P) (old new : Connection S P) where
   -- what is refused or in trouble
-  pub works_err : (X Y : Type 0) {E : Type 0} (error : StepError E) → WorksOn g (Unless {X = X} {E = E} (Err error)) old new → WorksOn g (UnlessSpoilt {X = Y} {E = E} (Err error)) old new
+  pub works_err : (X Y : Type 0) {E : Type 0} (error : StepError E) → WorksOn g k (Unless {X = X} {E = E} (Err error)) old new → WorksOn g k (UnlessSpoilt {X = Y} {E = E} (Err error)) old new
   works_err X Y (Refused r) h = record { within = h.within; opens = h.opens; working = h.working }
   works_err X Y (Failed trouble) h = record { within = h.within; opens = tt; working = tt }
 
   -- a call whose promise holds of all functions holds of this one, and nothing is said of the bytes of what stores none
   pub operates_by_any : (digest : Octets → Octets) {X E : Type 0} (shown : X → machine.Answer) (t : Octets) (step : Octets → Option Machine → Result Step E) (Says : Octets → Type 0) (before after : Coming) (result : Result (Outcome X E) (StepError E))
-      → ((given : Octets) → Says given) → OperatesOn g shown t step before after old new result → OperatesOnBy g digest shown t step Says before after old new result
+      → ((given : Octets) → Says given) → OperatesOn g k shown t step before after old new result → OperatesOnBy g k digest shown t step Says before after old new result
   operates_by_any digest shown t step Says before after result says h = record {
-    works = record { within = h.works.within; opens = h.works.opens; working = spoilt_by_any digest (state g old) (state g new) result h.works.working };
-    operates = says_nothing shown t step Says (IsClean g new) before after (tables g old) (tables g new) result says h.operates;
+    works = record { within = h.works.within; opens = h.works.opens; working = spoilt_by_any digest (state g k old) (state g k new) result h.works.working };
+    operates = says_nothing shown t step Says (IsClean g k new) before after (tables g k old) (tables g k new) result says h.operates;
   }

@@ -10,7 +10,7 @@ use Rattle.bh_storage.specs.Plans.{to_come}
 use Rattle.bh_storage.specs.declared.plan.Plan.{Plan}
 use Rattle.bh_tables.specs.Typed.{Tables, IsHost, tables_in}
 use Rattle.bh_view.specs.Bodies.{HasBodies, IsSoundHost}
-use Rattle.bh_schema.specs.Layer.{Standing, standing, IsIntact, IsStateClean}
+use Rattle.bh_base.specs.Layer.{Standing, standing, IsIntact, IsStateClean}
 use Rattle.bh_schema.specs.Storage.{seen_in, beside}
 use Rattle.bh_schema.specs.Working.{tables_at}
 use Rattle.bh_schema.proofs.Storing.{AreBoth, both, agreeing, beside_agreed, seen_same, readable_host, readable_shows, plain_sound}

@@ -11,7 +11,7 @@ use Rattle.bh_model.specs.Operations as machine
 use Rattle.bh_model.specs.Operations.{Answer}
 use Rattle.bh_model.specs.QuotaLaws.{StaysBounded}
 use Rattle.bh_model.specs.State.{Octets, State as Machine}
-use Rattle.bh_schema.specs.Layer.{IsStateClean}
+use Rattle.bh_base.specs.Layer.{IsStateClean}
 use Rattle.bh_schema.specs.Storage.{seen_in, beside}
 use Rattle.bh_schema.specs.Working.{tables_at, StillWorking, StillWorkingBy}
 use Rattle.bh_schema.proofs.Storing.{AreBoth, both, shows_in, plain}

@@ -1,6 +1,8 @@
 -- A host as a storage, beside what is remembered of its tables.
 use Rattle.std.proofs.Common.{rules, ◌≡◌, ℕ, true, false, true≢false, is_ok, Option, Some, Result, Ok, Err, OnOk, IfOk, refl, sym, ap, ◌∙◌, subst}
 use Rattle.sqlite_trees.specs.declared.store.Store.{Ghosts}
+use Rattle.bh_shelf.specs.declared.shelf.Shelf.{Ghosts as Shelves}
+use Rattle.bh_base.specs.declared.connection.Connection.{Connection}
 use Rattle.bh_types.specs.Limits.{HostLimits}
 use Rattle.bh_types.specs.declared.access_key.AccessKeyId.{AccessKeyId}
 use Rattle.bh_types.specs.declared.bucket_state.BucketState.{BucketState}
@@ -45,110 +47,110 @@ use Rattle.bh_dispatch.specs.Seeing.{GoesOn, seen, RecallsOn}
 use Rattle.bh_dispatch.specs.declared.recalling.RecallingStorage.{RecallingStorage}
 use Rattle.bh_dispatch.specs.declared.storage.HostStorage.{HostStorage}
 
-module _ {S D : Type 0} (g : Ghosts S) where
-  abbrev pub IsClean : RecallingStorage S D → Type 0
-  IsClean r = storage.IsClean g r.storage.host
+module _ {S P D : Type 0} (g : Ghosts S) (k : Shelves P) where
+  abbrev pub IsClean : RecallingStorage S P D → Type 0
+  IsClean r = storage.IsClean g k r.storage.host
 
-  abbrev pub HostWithin : HostStorage S D → HostStorage S D → Type 0
-  HostWithin = Within (λ h. storage.IsIntact g h.host) (λ h. storage.IsOpen g h.host) (λ h. storage.seen g h.host) (λ h. storage.left g h.host)
+  abbrev pub HostWithin : HostStorage S P D → HostStorage S P D → Type 0
+  HostWithin = Within (λ h. storage.IsIntact g k h.host) (λ h. storage.IsOpen g k h.host) (λ h. storage.seen g k h.host) (λ h. storage.left g k h.host)
 
-  abbrev pub RecallsWithin : RecallingStorage S D → RecallingStorage S D → Type 0
-  RecallsWithin = Within (λ r. storage.IsIntact g r.storage.host) (λ r. storage.IsOpen g r.storage.host) (seen g) (λ r. storage.left g r.storage.host)
+  abbrev pub RecallsWithin : RecallingStorage S P D → RecallingStorage S P D → Type 0
+  RecallsWithin = Within (λ r. storage.IsIntact g k r.storage.host) (λ r. storage.IsOpen g k r.storage.host) (seen g k) (λ r. storage.left g k r.storage.host)
 
-  pub within : (old new : RecallingStorage S D) → HostWithin old.storage new.storage → RecallsWithin old new
+  pub within : (old new : RecallingStorage S P D) → HostWithin old.storage new.storage → RecallsWithin old new
   within old new w =
-      within_recalled (λ (h : HostStorage S D). storage.IsIntact g h.host) (λ h. storage.IsOpen g h.host) (λ h. storage.seen g h.host) (λ h. storage.left g h.host) (λ (r : RecallingStorage S D). r.storage) (λ r. r.memo) old new w
+      within_recalled (λ (h : HostStorage S P D). storage.IsIntact g k h.host) (λ h. storage.IsOpen g k h.host) (λ h. storage.seen g k h.host) (λ h. storage.left g k h.host) (λ (r : RecallingStorage S P D). r.storage) (λ r. r.memo) old new w
 
-  module _ (digest : Octets → Octets) (old new : RecallingStorage S D) where
+  module _ (digest : Octets → Octets) (old new : RecallingStorage S P D) where
     abbrev pub IsSo : Type 0
-    IsSo = IsClean new → holds new.memo (storage.seen g new.storage.host).now ≡ true
+    IsSo = IsClean new → holds new.memo (storage.seen g k new.storage.host).now ≡ true
 
-    pub on_ok : {X E : Type 0} (result : Result X E) → GoesOn g digest (OnOk result) old.storage new.storage → OnOk result IsSo → RecallsOn g digest (OnOk result) old new
+    pub on_ok : {X E : Type 0} (result : Result X E) → GoesOn g k digest (OnOk result) old.storage new.storage → OnOk result IsSo → RecallsOn g k digest (OnOk result) old new
     on_ok result s so =
-        goes_on (λ (h : HostStorage S D). storage.IsIntact g h.host) (λ h. storage.IsOpen g h.host) (λ h. storage.seen g h.host) (λ h. storage.left g h.host) (λ (r : RecallingStorage S D). r.storage) (λ r. r.memo) digest (OnOk result)
+        goes_on (λ (h : HostStorage S P D). storage.IsIntact g k h.host) (λ h. storage.IsOpen g k h.host) (λ h. storage.seen g k h.host) (λ h. storage.left g k h.host) (λ (r : RecallingStorage S P D). r.storage) (λ r. r.memo) digest (OnOk result)
         (ok_with result) old new s so
 
-    pub unless : {X E : Type 0} (result : Result X (StepError E)) → GoesOn g digest (Unless result) old.storage new.storage → Unless result IsSo → RecallsOn g digest (Unless result) old new
+    pub unless : {X E : Type 0} (result : Result X (StepError E)) → GoesOn g k digest (Unless result) old.storage new.storage → Unless result IsSo → RecallsOn g k digest (Unless result) old new
     unless result s so =
-        goes_on (λ (h : HostStorage S D). storage.IsIntact g h.host) (λ h. storage.IsOpen g h.host) (λ h. storage.seen g h.host) (λ h. storage.left g h.host) (λ (r : RecallingStorage S D). r.storage) (λ r. r.memo) digest (Unless result)
+        goes_on (λ (h : HostStorage S P D). storage.IsIntact g k h.host) (λ h. storage.IsOpen g k h.host) (λ h. storage.seen g k h.host) (λ h. storage.left g k h.host) (λ (r : RecallingStorage S P D). r.storage) (λ r. r.memo) digest (Unless result)
         (unless_with result) old new s so
 
-    pub unless_spoilt : {X E : Type 0} (result : Result (Outcome X E) (StepError E)) → GoesOn g digest (UnlessSpoilt result) old.storage new.storage → UnlessSpoilt result IsSo → RecallsOn g digest (UnlessSpoilt result) old new
+    pub unless_spoilt : {X E : Type 0} (result : Result (Outcome X E) (StepError E)) → GoesOn g k digest (UnlessSpoilt result) old.storage new.storage → UnlessSpoilt result IsSo → RecallsOn g k digest (UnlessSpoilt result) old new
     unless_spoilt result s so =
-        goes_on (λ (h : HostStorage S D). storage.IsIntact g h.host) (λ h. storage.IsOpen g h.host) (λ h. storage.seen g h.host) (λ h. storage.left g h.host) (λ (r : RecallingStorage S D). r.storage) (λ r. r.memo) digest (UnlessSpoilt result)
+        goes_on (λ (h : HostStorage S P D). storage.IsIntact g k h.host) (λ h. storage.IsOpen g k h.host) (λ h. storage.seen g k h.host) (λ h. storage.left g k h.host) (λ (r : RecallingStorage S P D). r.storage) (λ r. r.memo) digest (UnlessSpoilt result)
         (spoilt_with result) old new s so
 
   -- no call, and an answer
-  pub at_rest : (digest : Octets → Octets) (Finishes : Type 0 → Type 0) → ((A : Type 0) → A → Finishes A) → (r : RecallingStorage S D) → (IsClean r → IsWorking (IsSoundHost digest) (seen g r)) → RecallsOn g digest Finishes r r
+  pub at_rest : (digest : Octets → Octets) (Finishes : Type 0 → Type 0) → ((A : Type 0) → A → Finishes A) → (r : RecallingStorage S P D) → (IsClean r → IsWorking (IsSoundHost digest) (seen g k r)) → RecallsOn g k digest Finishes r r
   at_rest digest Finishes give r works =
-      stays_same (λ (h : HostStorage S D). storage.IsIntact g h.host) (λ h. storage.IsOpen g h.host) (λ h. storage.seen g h.host) (λ h. storage.left g h.host) (λ (r : RecallingStorage S D). r.storage) (λ r. r.memo) digest Finishes give r works
+      stays_same (λ (h : HostStorage S P D). storage.IsIntact g k h.host) (λ h. storage.IsOpen g k h.host) (λ h. storage.seen g k h.host) (λ h. storage.left g k h.host) (λ (r : RecallingStorage S P D). r.storage) (λ r. r.memo) digest Finishes give r works
 
   -- no call, of which nothing more is said
-  pub nothing_done : (r : RecallingStorage S D) → RecallsWithin r r
+  pub nothing_done : (r : RecallingStorage S P D) → RecallsWithin r r
   nothing_done r = record { intact = λ h. h; opened = λ intact h. h; survives = λ up intact x h. h; kept = λ clean. refl; limits = refl }
 
-  pub then : (a b c : RecallingStorage S D) → (storage.IsOpen g a.storage.host → storage.IsIntact g b.storage.host → storage.IsOpen g b.storage.host) → RecallsWithin a b → RecallsWithin b c → RecallsWithin a c
+  pub then : (a b c : RecallingStorage S P D) → (storage.IsOpen g k a.storage.host → storage.IsIntact g k b.storage.host → storage.IsOpen g k b.storage.host) → RecallsWithin a b → RecallsWithin b c → RecallsWithin a c
   then a b c opens one two =
-      within_then (λ (h : HostStorage S D). storage.IsIntact g h.host) (λ h. storage.IsOpen g h.host) (λ h. storage.seen g h.host) (λ h. storage.left g h.host) (λ (r : RecallingStorage S D). r.storage) (λ r. r.memo) a b c opens one two
+      within_then (λ (h : HostStorage S P D). storage.IsIntact g k h.host) (λ h. storage.IsOpen g k h.host) (λ h. storage.seen g k h.host) (λ h. storage.left g k h.host) (λ (r : RecallingStorage S P D). r.storage) (λ r. r.memo) a b c opens one two
 
-  module _ (digest : Octets → Octets) (old : RecallingStorage S D) (works : IsClean old → IsWorking (IsSoundHost digest) (seen g old)) where
+  module _ (digest : Octets → Octets) (old : RecallingStorage S P D) (works : IsClean old → IsWorking (IsSoundHost digest) (seen g k old)) where
     -- what holds where the host is clean
-    pub so : IsClean old → holds old.memo (storage.seen g old.storage.host).now ≡ true
-    so clean = works_holding old.memo (storage.seen g old.storage.host) (works clean)
+    pub so : IsClean old → holds old.memo (storage.seen g k old.storage.host).now ≡ true
+    so clean = works_holding old.memo (storage.seen g k old.storage.host) (works clean)
 
-    pub alone_is : IsClean old → seen g old ≡ storage.seen g old.storage.host
-    alone_is clean = works_alone old.memo (storage.seen g old.storage.host) (works clean)
+    pub alone_is : IsClean old → seen g k old ≡ storage.seen g k old.storage.host
+    alone_is clean = works_alone old.memo (storage.seen g k old.storage.host) (works clean)
 
-    pub host_works : IsClean old → IsWorking (IsSoundHost digest) (storage.seen g old.storage.host)
-    host_works clean = works_under old.memo (storage.seen g old.storage.host) (works clean)
+    pub host_works : IsClean old → IsWorking (IsSoundHost digest) (storage.seen g k old.storage.host)
+    host_works clean = works_under old.memo (storage.seen g k old.storage.host) (works clean)
 
-  module _ (digest : Octets → Octets) (old : RecallingStorage S D) (works : IsClean old → IsWorking (IsSoundHost digest) (seen g old)) (after : Facts) (b : HostStorage S D) (w : HostWithin old.storage b) where
+  module _ (digest : Octets → Octets) (old : RecallingStorage S P D) (works : IsClean old → IsWorking (IsSoundHost digest) (seen g k old)) (after : Facts) (b : HostStorage S P D) (w : HostWithin old.storage b) where
     abbrev Clean : Type 0
-    Clean = storage.IsClean g b.host
+    Clean = storage.IsClean g k b.host
 
     -- a host that is clean was so before
     pub first : Clean → IsClean old
     first clean = (w.intact clean.0, w.opened clean.0 clean.1)
 
-    pub was : Clean → seen g old ≡ storage.seen g old.storage.host
+    pub was : Clean → seen g k old ≡ storage.seen g k old.storage.host
     was clean = alone_is digest old works (first clean)
 
-    held : Clean → holds old.memo (storage.seen g old.storage.host).now ≡ true
+    held : Clean → holds old.memo (storage.seen g k old.storage.host).now ≡ true
     held clean = so digest old works (first clean)
 
     -- there is a new stamp, and it is remembered
-    pub stamped_so : (reading m : ℕ) → after ≡ record old.memo { latest = Some m } → (Clean → Stamps reading m (storage.seen g old.storage.host).now (storage.seen g b.host).now) → Clean → holds after (storage.seen g b.host).now ≡ true
+    pub stamped_so : (reading m : ℕ) → after ≡ record old.memo { latest = Some m } → (Clean → Stamps reading m (storage.seen g k old.storage.host).now (storage.seen g k b.host).now) → Clean → holds after (storage.seen g k b.host).now ≡ true
     stamped_so reading m is stamps clean =
         let it = stamps clean in
-        ap (λ f. holds f (storage.seen g b.host).now) is ∙ holds_stamped old.memo m (storage.seen g old.storage.host).now (storage.seen g b.host).now it.views it.latest (held clean)
+        ap (λ f. holds f (storage.seen g k b.host).now) is ∙ holds_stamped old.memo m (storage.seen g k old.storage.host).now (storage.seen g k b.host).now it.views it.latest (held clean)
 
-    module _ (t : Octets) (at : ℕ) (purges : Clean → Purges t at (storage.seen g old.storage.host).now (storage.seen g b.host).now) where
+    module _ (t : Octets) (at : ℕ) (purges : Clean → Purges t at (storage.seen g k old.storage.host).now (storage.seen g k b.host).now) where
       -- a tenant has rules, and what is remembered of it is forgotten
-      pub ruled_so : Forgets t old.memo after → Clean → holds after (storage.seen g b.host).now ≡ true
-      ruled_so forgets clean = let it = purges clean in holds_others t old.memo after (storage.seen g old.storage.host).now (storage.seen g b.host).now forgets it.others it.latest (held clean)
+      pub ruled_so : Forgets t old.memo after → Clean → holds after (storage.seen g k b.host).now ≡ true
+      ruled_so forgets clean = let it = purges clean in holds_others t old.memo after (storage.seen g k old.storage.host).now (storage.seen g k b.host).now forgets it.others it.latest (held clean)
 
       -- it has none, and that is remembered
-      pub quiet_so : AddsQuiet t old.memo after → (Clean → has_no_rule (view (storage.seen g old.storage.host).now t) ≡ true) → Clean → holds after (storage.seen g b.host).now ≡ true
+      pub quiet_so : AddsQuiet t old.memo after → (Clean → has_no_rule (view (storage.seen g k old.storage.host).now t) ≡ true) → Clean → holds after (storage.seen g k b.host).now ≡ true
       quiet_so adds none clean =
-          let a = (storage.seen g old.storage.host).now in
-          let same : (storage.seen g b.host).now ≡ a = (purges clean).is ∙ purged_same a t (host_works digest old works (first clean)).sound.sound (none clean) at in
-          holds_quiet t old.memo after (storage.seen g b.host).now adds (ap (λ (x : Tables). has_no_rule (view x t)) same ∙ none clean) (ap (holds old.memo) same ∙ held clean)
+          let a = (storage.seen g k old.storage.host).now in
+          let same : (storage.seen g k b.host).now ≡ a = (purges clean).is ∙ purged_same a t (host_works digest old works (first clean)).sound.sound (none clean) at in
+          holds_quiet t old.memo after (storage.seen g k b.host).now adds (ap (λ (x : Tables). has_no_rule (view x t)) same ∙ none clean) (ap (holds old.memo) same ∙ held clean)
 
     -- a bucket was asked for, and its state is remembered
     pub bucket_so : (t name : Octets) (state : BucketState) → AddsBucket (record { tenant = t; bucket = name; state = state }) old.memo after
-        → (Clean → (mode_of_bucket name (view (storage.seen g old.storage.host).now t) ≡ Ok state) × ((storage.seen g b.host).now ≡ (storage.seen g old.storage.host).now)) → Clean → holds after (storage.seen g b.host).now ≡ true
+        → (Clean → (mode_of_bucket name (view (storage.seen g k old.storage.host).now t) ≡ Ok state) × ((storage.seen g k b.host).now ≡ (storage.seen g k old.storage.host).now)) → Clean → holds after (storage.seen g k b.host).now ≡ true
     bucket_so t name state adds decided clean =
         let it = decided clean in
-        let a = (storage.seen g old.storage.host).now in
-        holds_bucket (record { tenant = t; bucket = name; state = state }) old.memo after (storage.seen g b.host).now adds
+        let a = (storage.seen g k old.storage.host).now in
+        holds_bucket (record { tenant = t; bucket = name; state = state }) old.memo after (storage.seen g k b.host).now adds
         (ap (λ (x : Tables). has_state name state (view x t)) it.1 ∙ state_by name state (view a t) it.0) (ap (holds old.memo) it.1 ∙ held clean)
 
     -- a key was accepted, and its secret is remembered
     pub secret_so : (key : AccessKeyId) (secret : Octets) → AddsSecret (record { key = key; secret = secret }) old.memo after
-        → (Clean → (authenticate key secret (view (storage.seen g old.storage.host).now key.tenant) ≡ Ok tt) × ((storage.seen g b.host).now ≡ (storage.seen g old.storage.host).now)) → Clean → holds after (storage.seen g b.host).now ≡ true
+        → (Clean → (authenticate key secret (view (storage.seen g k old.storage.host).now key.tenant) ≡ Ok tt) × ((storage.seen g k b.host).now ≡ (storage.seen g k old.storage.host).now)) → Clean → holds after (storage.seen g k b.host).now ≡ true
     secret_so key secret adds decided clean =
         let it = decided clean in
-        holds_secret (record { key = key; secret = secret }) old.memo after (storage.seen g b.host).now adds
+        holds_secret (record { key = key; secret = secret }) old.memo after (storage.seen g k b.host).now adds
         (ap (λ (x : Tables). is_accepted (record { key = key; secret = secret }) (view x key.tenant)) it.1 ∙ ap is_ok it.0) (ap (holds old.memo) it.1 ∙ held clean)
 
 -- ---- whether each fact is still so

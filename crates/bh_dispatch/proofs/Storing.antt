@@ -2,6 +2,8 @@
 use Rattle.std.proofs.Common.{◌≡◌, ℕ, ◌≤◌, true, length, Option, Result, Ok, Err, refl, sym, ap, ◌∙◌, subst, OnOk, IfOk}
 use Rattle.sqlite.specs.State.{State}
 use Rattle.sqlite_trees.specs.declared.store.Store.{Ghosts}
+use Rattle.bh_shelf.specs.declared.shelf.Shelf.{Ghosts as Shelves}
+use Rattle.bh_base.specs.declared.connection.Connection.{Connection}
 use Rattle.bh_types.specs.Limits.{HostLimits}
 use Rattle.bh_model.proofs.BoundLemmas.{used_stays_bounded}
 use Rattle.bh_model.specs.Runs.{purged_tenant}
@@ -21,7 +23,7 @@ use Rattle.bh_storage.specs.declared.error.StepError.TheVariants.{Refused, Faile
 use Rattle.bh_storage.specs.declared.report.SweepReport.{SweepReport}
 use Rattle.bh_storage.specs.Calls as calls
 use Rattle.bh_cache.specs.Kept.{KeptBlocks, Agrees}
-use Rattle.bh_schema.specs.Layer.{IsStateClean}
+use Rattle.bh_base.specs.Layer.{IsStateClean}
 use Rattle.bh_schema.specs.Storage.{seen_in, beside, IsIntact, IsOpen, seen, left, Keeps}
 use Rattle.bh_schema.specs.Working.{tables_at, IsWorking, StillWorking, StillWorkingBy}
 use Rattle.bh_cache.proofs.Agreeing.{agrees_grown}
@@ -104,9 +106,9 @@ opened I A B (Err (Failed trouble)) h = tt
 -- ---- a host's call
 
 -- as its storage's
-pub stored : {S D : Type 0} (g : Ghosts S) (old new : HostStorage S D) → Keeps g old.host new.host
-    → calls.Within (λ (h : HostStorage S D). IsIntact g h.host) (λ (h : HostStorage S D). IsOpen g h.host) (λ (h : HostStorage S D). seen g h.host) (λ (h : HostStorage S D). left g h.host) old new
-stored g old new k = record { intact = k.intact; opened = k.opened; survives = k.survives; kept = k.kept; limits = k.limits }
+pub stored : {S P D : Type 0} (g : Ghosts S) (k : Shelves P) (old new : HostStorage S P D) → Keeps g k old.host new.host
+    → calls.Within (λ (h : HostStorage S P D). IsIntact g k h.host) (λ (h : HostStorage S P D). IsOpen g k h.host) (λ (h : HostStorage S P D). seen g k h.host) (λ (h : HostStorage S P D). left g k h.host) old new
+stored g k old new h = record { intact = h.intact; opened = h.opened; survives = h.survives; kept = h.kept; limits = h.limits }
 
 -- what is left without the stale uploads shows the purged state
 pub purges : (old new : Tables) (t : Octets) (at : ℕ) → IsSound old → new ≡ rows_purged t at old → calls.Purges t at old new

@@ -1,8 +1,9 @@
 -- What an operation stores of its request's bytes.
 use Rattle.std.specs.Fn.{Once, FnOnceReturns}
 use Rattle.std.specs.Prelude.{◌≡◌, ℕ, Result}
-use Rattle.sqlite.specs.Held.{Held}
 use Rattle.sqlite_trees.specs.declared.store.Store.{Ghosts}
+use Rattle.bh_shelf.specs.declared.shelf.Shelf.{Ghosts as Shelves}
+use Rattle.bh_base.specs.declared.connection.Connection.{Connection}
 use Rattle.bh_http.specs.Bodies.{Coming, Gives}
 use Rattle.bh_model.specs.State.{Octets}
 use Rattle.bh_operation.specs.declared.operation.Operation.{Operation}
@@ -12,7 +13,7 @@ use Rattle.bh_view.specs.Bodies.{StoresPieces}
 use Rattle.bh_types.specs.Rejections.{plain}
 use Rattle.bh_types.specs.declared.refusal.Refusal.{Refusal}
 use Rattle.bh_types.specs.declared.rejection.Rejection.{Rejection}
-use Rattle.bh_schema.specs.Connections.{IsClean, tables}
+use Rattle.bh_base.specs.Connections.{IsClean, tables}
 use Rattle.bh_storage.specs.Calls.{IfDone}
 use Rattle.bh_storage.specs.declared.answer.Answer.{Answer}
 use Rattle.bh_storage.specs.declared.answer.Offer.{Offer}
@@ -27,11 +28,11 @@ StoresBody digest size body (Store operation) old new = StoresPieces digest size
 StoresBody digest size body operation old new = Unit {0}
 
 -- a call on a connection, which received some bytes of a body, cut them so if its operation was done
-pub record CutsBody {S X E : Type 0} (g : Ghosts S) (digest : Octets → Octets) (size : ℕ) (operation : Operation) (before after : Coming)
-    (old new : Held S) (result : Result (Outcome X E) (StepError E)) : Type 0 where
+pub record CutsBody {S P X E : Type 0} (g : Ghosts S) (k : Shelves P) (digest : Octets → Octets) (size : ℕ) (operation : Operation)
+    (before after : Coming) (old new : Connection S P) (result : Result (Outcome X E) (StepError E)) : Type 0 where
   pub given : Octets
   pub gives : Gives before after given
-  pub cut : IfDone result (IsClean g new → StoresBody digest size given operation (tables g old) (tables g new))
+  pub cut : IfDone result (IsClean g k new → StoresBody digest size given operation (tables g k old) (tables g k new))
 
 -- the result of a call is converted so
 abbrev pub Makes : {X F : Type 0} → Once F (X × Unit {0}) Answer → F → (X → Answer) → Type 0

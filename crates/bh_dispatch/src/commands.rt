@@ -5,23 +5,26 @@ ghost use Rattle.bh_storage.specs.Answers.{command_answer_view};
 ghost use Rattle.bh_schema.specs.Working.{Works};
 ghost use Rattle.bh_dispatch.specs.Operating.{CarriesOut};
 
+use bh_base::connection::Connection;
+use bh_shelf::shelf::Shelf;
 use bh_storage::answer::CommandAnswer;
 use bh_storage::error::StepError;
 use bh_types::moment::Moment;
 use bh_types::names::TenantName;
 use bh_types::refusal::Refusal;
 use bh_usage::{keys, usage};
-use sqlite::{Alter, Connection};
+use sqlite::Alter;
 use std::alloc::Global;
 
 /// How many bytes a tenant uses. Refusals: InvalidName, NoSuchTenant.
-pub fn show_usage<S: Alter>(
-    connection: &mut Connection<S>,
+pub fn show_usage<S: Alter, P: Shelf>(
+    connection: &mut Connection<S, P>,
     alloc: Global,
     tenant: &str,
 ) -> Result<CommandAnswer, StepError<Refusal>>
-    requires { Works S.Store connection.old }
-    ensures { CarriesOut S.Store command_answer_view tenant.now (machine.show_usage tenant.now) connection.old connection.new result }
+    requires { Works S.Store P.Shelf connection.old }
+    ensures { CarriesOut S.Store P.Shelf command_answer_view tenant.now
+        (machine.show_usage tenant.now) connection.old connection.new result }
 {
     match TenantName::read(alloc, tenant)? {
         Some(tenant) => usage(connection, &tenant).map(CommandAnswer::Used),
@@ -31,15 +34,15 @@ pub fn show_usage<S: Alter>(
 
 /// Removes a tenant at a moment, with its buckets and all in them if `with_objects`. Refusals:
 /// InvalidName, NoSuchTenant, TenantNotEmpty, TenantRetained.
-pub fn remove_tenant<S: Alter>(
-    connection: &mut Connection<S>,
+pub fn remove_tenant<S: Alter, P: Shelf>(
+    connection: &mut Connection<S, P>,
     alloc: Global,
     tenant: &str,
     at: Moment,
     with_objects: bool,
 ) -> Result<CommandAnswer, StepError<Refusal>>
-    requires { Works S.Store connection.old }
-    ensures { CarriesOut S.Store command_answer_view tenant.now (machine.remove_tenant at tenant.now with_objects)
+    requires { Works S.Store P.Shelf connection.old }
+    ensures { CarriesOut S.Store P.Shelf command_answer_view tenant.now (machine.remove_tenant at tenant.now with_objects)
         connection.old connection.new result }
 {
     let Some(tenant) = TenantName::read(alloc, tenant)? else {
@@ -50,13 +53,14 @@ pub fn remove_tenant<S: Alter>(
 }
 
 /// Names a tenant's access keys. Refusals: InvalidName, NoSuchTenant.
-pub fn show_keys<S: Alter>(
-    connection: &mut Connection<S>,
+pub fn show_keys<S: Alter, P: Shelf>(
+    connection: &mut Connection<S, P>,
     alloc: Global,
     tenant: &str,
 ) -> Result<CommandAnswer, StepError<Refusal>>
-    requires { Works S.Store connection.old }
-    ensures { CarriesOut S.Store command_answer_view tenant.now (machine.show_keys tenant.now) connection.old connection.new result }
+    requires { Works S.Store P.Shelf connection.old }
+    ensures { CarriesOut S.Store P.Shelf command_answer_view tenant.now
+        (machine.show_keys tenant.now) connection.old connection.new result }
 {
     let Some(tenant) = TenantName::read(alloc, tenant)? else {
         return Err(StepError::Refused(Refusal::InvalidName));

@@ -6,7 +6,7 @@ ghost use Rattle.bh_machine.specs.Machine.{document_operated};
 ghost use Rattle.bh_model.specs.State.{Octets};
 ghost use Rattle.bh_view.specs.View.{latest_of};
 ghost use Rattle.bh_storage.specs.Answers.{answer_view};
-ghost use Rattle.bh_schema.specs.Connections.{IsClean, tables};
+ghost use Rattle.bh_base.specs.Connections.{IsClean, tables};
 ghost use Rattle.bh_schema.specs.Working.{Works};
 ghost use Rattle.bh_dispatch.specs.Documents.{TakenAs};
 ghost use Rattle.bh_dispatch.specs.Operating.{CarriesOut, OperatesOn};
@@ -14,18 +14,20 @@ ghost use Rattle.bh_dispatch.specs.Operating.{CarriesOut, OperatesOn};
 use crate::answers::told;
 use crate::asked::Asked;
 use crate::uploads::complete_upload;
+use bh_base::connection::Connection;
 use bh_docs::read::DOCUMENT_END;
 use bh_docs::{read_lifecycle, read_retention, read_versioning};
 use bh_http::body::{Body, collect};
 use bh_objects::bodies::refused_whole;
 use bh_objects::{buckets, retention};
 use bh_operation::operation::DocumentOperation;
+use bh_shelf::shelf::Shelf;
 use bh_storage::answer::Answer;
 use bh_storage::error::{Outcome, StepError, Trouble};
 use bh_types::refusal::Refusal;
 use bh_types::rejection::Rejection;
 use bh_uploads::lifecycle;
-use sqlite::{Alter, Connection};
+use sqlite::Alter;
 use std::alloc::Global;
 
 /// A request's document, read whole. If it is longer than the maximum, it is read without being
@@ -45,16 +47,16 @@ fn take_document<B: Body>(alloc: Global, body: &mut B) -> Result<Vec<u8>, StepEr
 }
 
 /// Carries out an operation with its document.
-fn carry_out_document<S: Alter>(
-    connection: &mut Connection<S>,
+fn carry_out_document<S: Alter, P: Shelf>(
+    connection: &mut Connection<S, P>,
     alloc: Global,
     asked: &Asked<'_>,
     operation: &DocumentOperation,
     document: &[u8],
 ) -> Result<Answer, StepError<Rejection>>
-    requires working { Works S.Store connection.old }
-    requires early { IsClean S.Store connection.old → asked.now.at ≤ latest_of (tables S.Store connection.old) }
-    ensures { CarriesOut S.Store answer_view asked.now.tenant.now
+    requires working { Works S.Store P.Shelf connection.old }
+    requires early { IsClean S.Store P.Shelf connection.old → asked.now.at ≤ latest_of (tables S.Store P.Shelf connection.old) }
+    ensures { CarriesOut S.Store P.Shelf answer_view asked.now.tenant.now
         (document_operated asked.now.limits asked.now.at document.now operation.now) connection.old connection.new result }
 {
     let tenant = asked.tenant;
@@ -88,17 +90,17 @@ fn carry_out_document<S: Alter>(
 
 /// Carries out an operation whose body is a document, after that was received. Fails with
 /// MalformedJson if it is longer than `DOCUMENT_END`.
-pub fn operate_document<S: Alter, B: Body>(
-    connection: &mut Connection<S>,
+pub fn operate_document<S: Alter, P: Shelf, B: Body>(
+    connection: &mut Connection<S, P>,
     alloc: Global,
     asked: &Asked<'_>,
     operation: &DocumentOperation,
     body: &mut B,
 ) -> Result<Outcome<Answer, Rejection>, StepError<Rejection>>
-    requires working { Works S.Store connection.old }
-    requires early { IsClean S.Store connection.old → asked.now.at ≤ latest_of (tables S.Store connection.old) }
+    requires working { Works S.Store P.Shelf connection.old }
+    requires early { IsClean S.Store P.Shelf connection.old → asked.now.at ≤ latest_of (tables S.Store P.Shelf connection.old) }
     requires going { (B.coming body.old).broken ≡ None }
-    ensures { OperatesOn S.Store answer_view asked.now.tenant.now
+    ensures { OperatesOn S.Store P.Shelf answer_view asked.now.tenant.now
         (λ document. document_operated asked.now.limits asked.now.at document operation.now)
         (B.coming body.old) (B.coming body.new) connection.old connection.new result }
 {

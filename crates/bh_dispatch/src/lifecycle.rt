@@ -5,22 +5,24 @@ ghost use Rattle.bh_schema.specs.Working.{Works};
 ghost use Rattle.bh_dispatch.specs.Operating.{CarriesOut};
 
 use crate::answers::told;
+use bh_base::connection::Connection;
 use bh_operation::operation::LifecycleOperation;
+use bh_shelf::shelf::Shelf;
 use bh_storage::answer::Answer;
 use bh_storage::error::StepError;
 use bh_types::names::TenantName;
 use bh_types::rejection::Rejection;
 use bh_uploads::lifecycle;
-use sqlite::{Alter, Connection};
+use sqlite::Alter;
 
 /// Carries out an operation on a bucket's rule, without a document.
-pub fn operate_lifecycle<S: Alter>(
-    connection: &mut Connection<S>,
+pub fn operate_lifecycle<S: Alter, P: Shelf>(
+    connection: &mut Connection<S, P>,
     tenant: &TenantName,
     operation: &LifecycleOperation,
 ) -> Result<Answer, StepError<Rejection>>
-    requires { Works S.Store connection.old }
-    ensures { CarriesOut S.Store answer_view tenant.now (lifecycle_operated operation.now) connection.old connection.new result }
+    requires { Works S.Store P.Shelf connection.old }
+    ensures { CarriesOut S.Store P.Shelf answer_view tenant.now (lifecycle_operated operation.now) connection.old connection.new result }
 {
     match operation {
         LifecycleOperation::GetLifecycle(bucket) => {

@@ -10,11 +10,13 @@ ghost use Rattle.bh_dispatch.specs.Operating.{CarriesOut};
 
 use crate::answers::told;
 use crate::operations::bytes_of;
+use bh_base::connection::Connection;
 use bh_listing::objects::list_objects;
 use bh_listing::versions::list_versions;
 use bh_operation::operation::ListingOperation;
 use bh_operation::page::{Page, UploadMarker, VersionMarker};
 use bh_pages::gathering::PageAsked;
+use bh_shelf::shelf::Shelf;
 use bh_storage::answer::Answer;
 use bh_storage::error::StepError;
 use bh_types::id::UploadId;
@@ -22,7 +24,7 @@ use bh_types::names::TenantName;
 use bh_types::rejection::Rejection;
 use bh_types::wanted::Wanted;
 use bh_upload_listing::uploads::list_uploads;
-use sqlite::{Alter, Connection};
+use sqlite::Alter;
 use std::alloc::Global;
 
 /// A request for the page after this key.
@@ -59,14 +61,14 @@ fn upload_after(after: &Option<UploadMarker>) -> (Option<&[u8]>, Option<UploadId
 }
 
 /// Returns a page of a bucket's contents.
-pub fn operate_listing<S: Alter>(
-    connection: &mut Connection<S>,
+pub fn operate_listing<S: Alter, P: Shelf>(
+    connection: &mut Connection<S, P>,
     alloc: Global,
     tenant: &TenantName,
     operation: &ListingOperation,
 ) -> Result<Answer, StepError<Rejection>>
-    requires { Works S.Store connection.old }
-    ensures { CarriesOut S.Store answer_view tenant.now (listing_operated operation.now) connection.old connection.new result }
+    requires { Works S.Store P.Shelf connection.old }
+    ensures { CarriesOut S.Store P.Shelf answer_view tenant.now (listing_operated operation.now) connection.old connection.new result }
 {
     match operation {
         ListingOperation::ListObjectsV2 {

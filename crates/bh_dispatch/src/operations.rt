@@ -9,7 +9,7 @@ ghost use Rattle.bh_storage.specs.Answers.{answer_view, offer_view};
 ghost use Rattle.bh_storage.specs.Plans.{IfPlanned, IsMeasured};
 ghost use Rattle.bh_storage.specs.Calls.{UnlessSpoilt};
 ghost use Rattle.bh_cache.specs.Kept.{Agrees};
-ghost use Rattle.bh_schema.specs.Connections.{IsClean, tables};
+ghost use Rattle.bh_base.specs.Connections.{IsClean, tables};
 ghost use Rattle.bh_schema.specs.Working.{Works};
 ghost use Rattle.bh_dispatch.specs.Operating.{CarriesOut, HasBlocks, OperatesOn, OperatesOnBy};
 ghost use Rattle.bh_dispatch.specs.Stored.{StoresBody};
@@ -20,6 +20,7 @@ use crate::documents::operate_document;
 use crate::lifecycle::operate_lifecycle;
 use crate::listings::operate_listing;
 use crate::uploads::operate_upload;
+use bh_base::connection::Connection;
 use bh_http::body::{Body, drain};
 use bh_objects::bodies::Blocks;
 use bh_objects::copies::NewCopy;
@@ -32,6 +33,7 @@ use bh_operation::operation::{
 };
 use bh_operation::text::Bytes;
 use bh_schema::host::Digester;
+use bh_shelf::shelf::Shelf;
 use bh_storage::answer::{Answer, Offer};
 use bh_storage::error::{Outcome, StepError, Trouble};
 use bh_types::limits::Limits;
@@ -43,7 +45,7 @@ use bh_uploads::parts;
 use bh_uploads::parts::NewPart;
 use bh_uploads::reads::NamedUpload;
 use bh_usage::usage;
-use sqlite::{Alter, Connection};
+use sqlite::Alter;
 use std::alloc::Global;
 
 /// The bytes that are there.
@@ -57,14 +59,14 @@ pub fn bytes_of(bytes: &Option<Bytes>) -> Option<&[u8]>
 }
 
 /// Carries out an operation on all buckets of a tenant.
-fn operate_service<S: Alter>(
-    connection: &mut Connection<S>,
+fn operate_service<S: Alter, P: Shelf>(
+    connection: &mut Connection<S, P>,
     alloc: Global,
     tenant: &TenantName,
     operation: &ServiceOperation,
 ) -> Result<Answer, StepError<Rejection>>
-    requires { Works S.Store connection.old }
-    ensures { CarriesOut S.Store answer_view tenant.now (service_operated operation.now) connection.old connection.new result }
+    requires { Works S.Store P.Shelf connection.old }
+    ensures { CarriesOut S.Store P.Shelf answer_view tenant.now (service_operated operation.now) connection.old connection.new result }
 {
     match operation {
         ServiceOperation::ListBuckets => {
@@ -78,14 +80,14 @@ fn operate_service<S: Alter>(
 }
 
 /// Carries out an operation on a bucket itself.
-fn operate_bucket<S: Alter>(
-    connection: &mut Connection<S>,
+fn operate_bucket<S: Alter, P: Shelf>(
+    connection: &mut Connection<S, P>,
     asked: &Asked<'_>,
     operation: &BucketOperation,
 ) -> Result<Answer, StepError<Rejection>>
-    requires working { Works S.Store connection.old }
-    requires early { IsClean S.Store connection.old → asked.now.at ≤ latest_of (tables S.Store connection.old) }
-    ensures { CarriesOut S.Store answer_view asked.now.tenant.now (bucket_operated asked.now.at operation.now)
+    requires working { Works S.Store P.Shelf connection.old }
+    requires early { IsClean S.Store P.Shelf connection.old → asked.now.at ≤ latest_of (tables S.Store P.Shelf connection.old) }
+    ensures { CarriesOut S.Store P.Shelf answer_view asked.now.tenant.now (bucket_operated asked.now.at operation.now)
         connection.old connection.new result }
 {
     let tenant = asked.tenant;
@@ -115,16 +117,16 @@ fn operate_bucket<S: Alter>(
     }
 }
 
-fn copy_object<S: Alter>(
-    connection: &mut Connection<S>,
+fn copy_object<S: Alter, P: Shelf>(
+    connection: &mut Connection<S, P>,
     asked: &Asked<'_>,
     object: &ObjectName,
     source: &CopySource,
     date: Option<Option<Moment>>,
 ) -> Result<Answer, StepError<Rejection>>
-    requires working { Works S.Store connection.old }
-    requires early { IsClean S.Store connection.old → asked.now.at ≤ latest_of (tables S.Store connection.old) }
-    ensures { CarriesOut S.Store answer_view asked.now.tenant.now
+    requires working { Works S.Store P.Shelf connection.old }
+    requires early { IsClean S.Store P.Shelf connection.old → asked.now.at ≤ latest_of (tables S.Store P.Shelf connection.old) }
+    ensures { CarriesOut S.Store P.Shelf answer_view asked.now.tenant.now
         (λ s. plainly (machine.copy_object asked.now.at object.now.bucket object.now.key
         source.now.object.bucket source.now.object.key source.now.version date s))
         connection.old connection.new result }
@@ -143,14 +145,14 @@ fn copy_object<S: Alter>(
 }
 
 /// Carries out an operation on an object, without its bytes.
-fn operate_object<S: Alter>(
-    connection: &mut Connection<S>,
+fn operate_object<S: Alter, P: Shelf>(
+    connection: &mut Connection<S, P>,
     asked: &Asked<'_>,
     operation: &ObjectOperation,
 ) -> Result<Answer, StepError<Rejection>>
-    requires working { Works S.Store connection.old }
-    requires early { IsClean S.Store connection.old → asked.now.at ≤ latest_of (tables S.Store connection.old) }
-    ensures { CarriesOut S.Store answer_view asked.now.tenant.now (object_operated asked.now.at operation.now)
+    requires working { Works S.Store P.Shelf connection.old }
+    requires early { IsClean S.Store P.Shelf connection.old → asked.now.at ≤ latest_of (tables S.Store P.Shelf connection.old) }
+    ensures { CarriesOut S.Store P.Shelf answer_view asked.now.tenant.now (object_operated asked.now.at operation.now)
         connection.old connection.new result }
 {
     let tenant = asked.tenant;
@@ -179,15 +181,15 @@ fn operate_object<S: Alter>(
 }
 
 /// Carries out an operation that doesn't need its request's body.
-fn carry_out<S: Alter>(
-    connection: &mut Connection<S>,
+fn carry_out<S: Alter, P: Shelf>(
+    connection: &mut Connection<S, P>,
     alloc: Global,
     asked: &Asked<'_>,
     operation: &BareOperation,
 ) -> Result<Answer, StepError<Rejection>>
-    requires working { Works S.Store connection.old }
-    requires early { IsClean S.Store connection.old → asked.now.at ≤ latest_of (tables S.Store connection.old) }
-    ensures { CarriesOut S.Store answer_view asked.now.tenant.now (bare_operated asked.now.at operation.now)
+    requires working { Works S.Store P.Shelf connection.old }
+    requires early { IsClean S.Store P.Shelf connection.old → asked.now.at ≤ latest_of (tables S.Store P.Shelf connection.old) }
+    ensures { CarriesOut S.Store P.Shelf answer_view asked.now.tenant.now (bare_operated asked.now.at operation.now)
         connection.old connection.new result }
 {
     match operation {
@@ -208,17 +210,17 @@ fn carry_out<S: Alter>(
 
 /// Carries out an operation that ignores its request's body, after that was received. None of its
 /// bytes is stored.
-fn operate_bare<S: Alter, B: Body>(
-    connection: &mut Connection<S>,
+fn operate_bare<S: Alter, P: Shelf, B: Body>(
+    connection: &mut Connection<S, P>,
     alloc: Global,
     asked: &Asked<'_>,
     operation: &BareOperation,
     body: &mut B,
 ) -> Result<Outcome<Answer, Rejection>, StepError<Rejection>>
-    requires working { Works S.Store connection.old }
-    requires early { IsClean S.Store connection.old → asked.now.at ≤ latest_of (tables S.Store connection.old) }
+    requires working { Works S.Store P.Shelf connection.old }
+    requires early { IsClean S.Store P.Shelf connection.old → asked.now.at ≤ latest_of (tables S.Store P.Shelf connection.old) }
     requires going { (B.coming body.old).broken ≡ None }
-    ensures { OperatesOn S.Store answer_view asked.now.tenant.now (λ _. bare_operated asked.now.at operation.now)
+    ensures { OperatesOn S.Store P.Shelf answer_view asked.now.tenant.now (λ _. bare_operated asked.now.at operation.now)
         (B.coming body.old) (B.coming body.new) connection.old connection.new result }
 {
     match drain(body) {
@@ -231,20 +233,21 @@ fn operate_bare<S: Alter, B: Body>(
 }
 
 /// Finds an object, after the request's body was received. The object's bytes are still to be read.
-fn get_object<S: Alter, B: Body>(
-    connection: &mut Connection<S>,
+fn get_object<S: Alter, P: Shelf, B: Body>(
+    connection: &mut Connection<S, P>,
     tenant: &TenantName,
     object: &ObjectName,
     version: Wanted,
     range: Option<&[u8]>,
     body: &mut B,
 ) -> Result<Outcome<Offer, Rejection>, StepError<Rejection>>
-    requires working { Works S.Store connection.old }
+    requires working { Works S.Store P.Shelf connection.old }
     requires going { (B.coming body.old).broken ≡ None }
-    ensures found { OperatesOn S.Store (offer_view (tables S.Store connection.new)) tenant.now
+    ensures found { OperatesOn S.Store P.Shelf (offer_view (tables S.Store P.Shelf connection.new)) tenant.now
         (λ _. machine.get_object object.now.bucket object.now.key version (option_copied range.entry))
         (B.coming body.old) (B.coming body.new) connection.old connection.new result }
-    ensures measured { IfPlanned result (λ found. IsClean S.Store connection.new → IsMeasured (tables S.Store connection.new) found) }
+    ensures measured { IfPlanned result (λ found. IsClean S.Store P.Shelf connection.new
+        → IsMeasured (tables S.Store P.Shelf connection.new) found) }
 {
     match drain(body) {
         Ok(()) => {
@@ -257,24 +260,25 @@ fn get_object<S: Alter, B: Body>(
 }
 
 /// Stores the bytes of an object or of a part while they are received.
-fn operate_store<S: Alter, D: Digester, B: Body>(
-    connection: &mut Connection<S>,
+fn operate_store<S: Alter, P: Shelf, D: Digester, B: Body>(
+    connection: &mut Connection<S, P>,
     alloc: Global,
     blocks: &Blocks<'_, '_, D>,
     asked: &Asked<'_>,
     operation: &StoreOperation,
     body: &mut B,
 ) -> Result<Outcome<Answer, Rejection>, StepError<Rejection>>
-    requires working { Works S.Store connection.old }
-    requires blocks { HasBlocks S.Store D.digest_of blocks.now.cache.now blocks.now.size connection.old }
-    requires early { IsClean S.Store connection.old → asked.now.at ≤ latest_of (tables S.Store connection.old) }
+    requires working { Works S.Store P.Shelf connection.old }
+    requires blocks { HasBlocks S.Store P.Shelf D.digest_of blocks.now.cache.now blocks.now.size connection.old }
+    requires early { IsClean S.Store P.Shelf connection.old → asked.now.at ≤ latest_of (tables S.Store P.Shelf connection.old) }
     requires going { (B.coming body.old).broken ≡ None }
-    ensures operated { OperatesOnBy S.Store D.digest_of answer_view asked.now.tenant.now
+    ensures operated { OperatesOnBy S.Store P.Shelf D.digest_of answer_view asked.now.tenant.now
         (λ bytes. store_operated asked.now.at bytes operation.now)
-        (λ bytes. StoresPieces D.digest_of blocks.now.size bytes (tables S.Store connection.old) (tables S.Store connection.new))
+        (λ bytes. StoresPieces D.digest_of blocks.now.size bytes (tables S.Store P.Shelf connection.old)
+        (tables S.Store P.Shelf connection.new))
         (B.coming body.old) (B.coming body.new) connection.old connection.new result }
-    ensures kept { UnlessSpoilt result (IsClean S.Store connection.new
-        → Agrees blocks.now.cache.now (tables S.Store connection.new).blocks) }
+    ensures kept { UnlessSpoilt result (IsClean S.Store P.Shelf connection.new
+        → Agrees blocks.now.cache.now (tables S.Store P.Shelf connection.new).blocks) }
 {
     match operation {
         StoreOperation::PutObject {
@@ -320,8 +324,8 @@ fn operate_store<S: Alter, D: Digester, B: Body>(
 /// the last stamp. The bytes of objects and parts are stored while they are received. A document is
 /// read whole, up to `DOCUMENT_END` bytes. If an object is found, the answer is a plan of its
 /// bytes.
-pub fn operate<S: Alter, D: Digester, B: Body>(
-    connection: &mut Connection<S>,
+pub fn operate<S: Alter, P: Shelf, D: Digester, B: Body>(
+    connection: &mut Connection<S, P>,
     alloc: Global,
     blocks: &Blocks<'_, '_, D>,
     limits: Limits,
@@ -330,18 +334,19 @@ pub fn operate<S: Alter, D: Digester, B: Body>(
     operation: &Operation,
     body: &mut B,
 ) -> Result<Outcome<Offer, Rejection>, StepError<Rejection>>
-    requires working { Works S.Store connection.old }
-    requires blocks { HasBlocks S.Store D.digest_of blocks.now.cache.now blocks.now.size connection.old }
-    requires early { IsClean S.Store connection.old → at ≤ latest_of (tables S.Store connection.old) }
+    requires working { Works S.Store P.Shelf connection.old }
+    requires blocks { HasBlocks S.Store P.Shelf D.digest_of blocks.now.cache.now blocks.now.size connection.old }
+    requires early { IsClean S.Store P.Shelf connection.old → at ≤ latest_of (tables S.Store P.Shelf connection.old) }
     requires going { (B.coming body.old).broken ≡ None }
-    ensures operated { OperatesOnBy S.Store D.digest_of (offer_view (tables S.Store connection.new)) tenant.now
+    ensures operated { OperatesOnBy S.Store P.Shelf D.digest_of (offer_view (tables S.Store P.Shelf connection.new)) tenant.now
         (λ bytes. operated limits at bytes operation.now)
         (λ bytes. StoresBody D.digest_of blocks.now.size bytes operation.now
-        (tables S.Store connection.old) (tables S.Store connection.new))
+        (tables S.Store P.Shelf connection.old) (tables S.Store P.Shelf connection.new))
         (B.coming body.old) (B.coming body.new) connection.old connection.new result }
-    ensures measured { IfPlanned result (λ found. IsClean S.Store connection.new → IsMeasured (tables S.Store connection.new) found) }
-    ensures kept { UnlessSpoilt result (IsClean S.Store connection.new
-        → Agrees blocks.now.cache.now (tables S.Store connection.new).blocks) }
+    ensures measured { IfPlanned result (λ found. IsClean S.Store P.Shelf connection.new
+        → IsMeasured (tables S.Store P.Shelf connection.new) found) }
+    ensures kept { UnlessSpoilt result (IsClean S.Store P.Shelf connection.new
+        → Agrees blocks.now.cache.now (tables S.Store P.Shelf connection.new).blocks) }
 {
     let asked = Asked { limits, tenant, at };
     match operation {

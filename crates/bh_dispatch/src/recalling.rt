@@ -22,6 +22,7 @@ use bh_memo::memo::Memo;
 use bh_operation::address::ObjectName;
 use bh_operation::operation::Operation;
 use bh_schema::host::{Digester, Host};
+use bh_shelf::shelf::Shelf;
 use bh_storage::answer::{CommandAnswer, FoundVersion, Offer};
 use bh_storage::error::{Outcome, StepError, Trouble};
 use bh_storage::plan::Plan;
@@ -41,15 +42,15 @@ use std::alloc::Global;
 
 /// A host as a storage that remembers facts of its tables.
 #[derive(Drop)]
-pub struct RecallingStorage<S: Alter + Drop, D: Digester + Drop> {
-    pub storage: HostStorage<S, D>,
+pub struct RecallingStorage<S: Alter + Drop, P: Shelf + Drop, D: Digester + Drop> {
+    pub storage: HostStorage<S, P, D>,
     /// The remembered facts of its tables.
     pub memo: Memo,
 }
 
-impl<S: Alter + Drop, D: Digester + Drop> RecallingStorage<S, D> {
+impl<S: Alter + Drop, P: Shelf + Drop, D: Digester + Drop> RecallingStorage<S, P, D> {
     /// Nothing is remembered yet.
-    pub fn new(alloc: Global, host: Host<S, D>) -> RecallingStorage<S, D>
+    pub fn new(alloc: Global, host: Host<S, P, D>) -> RecallingStorage<S, P, D>
         ensures storage { result.storage ≡ record { host = host } }
         ensures memo { result.memo ≡ nothing }
     {
@@ -65,11 +66,11 @@ impl<S: Alter + Drop, D: Digester + Drop> RecallingStorage<S, D> {
         tenant: &TenantName,
         bucket: &BucketName,
     ) -> Result<BucketState, StepError<Refusal>>
-        requires { IsClean S.Store self.old.storage.host → IsWorking (IsSoundHost D.digest_of) (seen S.Store self.old) }
-        ensures goes_on { RecallsOn S.Store D.digest_of (Unless result) self.old self.new }
-        ensures decides { IsClean S.Store self.new.storage.host
-            → Decides (λ state. state) (mode_in bucket.now (view (seen S.Store self.old).now tenant.now))
-            (seen S.Store self.old).now (seen S.Store self.new).now result }
+        requires { IsClean S.Store P.Shelf self.old.storage.host → IsWorking (IsSoundHost D.digest_of) (seen S.Store P.Shelf self.old) }
+        ensures goes_on { RecallsOn S.Store P.Shelf D.digest_of (Unless result) self.old self.new }
+        ensures decides { IsClean S.Store P.Shelf self.new.storage.host
+            → Decides (λ state. state) (mode_in bucket.now (view (seen S.Store P.Shelf self.old).now tenant.now))
+            (seen S.Store P.Shelf self.old).now (seen S.Store P.Shelf self.new).now result }
     {
         if let Some(state) = self.memo.state(tenant, bucket) {
             return Ok(state);
@@ -88,13 +89,14 @@ impl<S: Alter + Drop, D: Digester + Drop> RecallingStorage<S, D> {
         version: Wanted,
         range: Option<&[u8]>,
     ) -> Result<FoundVersion, StepError<Rejection>>
-        requires { IsClean S.Store self.old.storage.host → IsWorking (IsSoundHost D.digest_of) (seen S.Store self.old) }
-        ensures goes_on { RecallsOn S.Store D.digest_of (Unless result) self.old self.new }
-        ensures carries { IsClean S.Store self.new.storage.host
-            → Carries (found_answer (seen S.Store self.new).now) tenant.now
+        requires { IsClean S.Store P.Shelf self.old.storage.host → IsWorking (IsSoundHost D.digest_of) (seen S.Store P.Shelf self.old) }
+        ensures goes_on { RecallsOn S.Store P.Shelf D.digest_of (Unless result) self.old self.new }
+        ensures carries { IsClean S.Store P.Shelf self.new.storage.host
+            → Carries (found_answer (seen S.Store P.Shelf self.new).now) tenant.now
             (machine.get_object object.now.bucket object.now.key version (option_copied range.entry))
-            (seen S.Store self.old).now (seen S.Store self.new).now result }
-        ensures measured { IfOk result (λ found. IsClean S.Store self.new.storage.host → IsMeasured (seen S.Store self.new).now found) }
+            (seen S.Store P.Shelf self.old).now (seen S.Store P.Shelf self.new).now result }
+        ensures measured { IfOk result (λ found. IsClean S.Store P.Shelf self.new.storage.host
+            → IsMeasured (seen S.Store P.Shelf self.new).now found) }
     {
         let state = self.bucket_state(tenant, &object.bucket)?;
         self.storage
@@ -111,14 +113,15 @@ impl<S: Alter + Drop, D: Digester + Drop> RecallingStorage<S, D> {
         body: &mut B,
     ) -> Result<Outcome<Offer, Rejection>, StepError<Rejection>>
         requires going { (B.coming body.old).broken ≡ None }
-        requires working { IsClean S.Store self.old.storage.host → IsWorking (IsSoundHost D.digest_of) (seen S.Store self.old) }
-        ensures goes_on { RecallsOn S.Store D.digest_of (UnlessSpoilt result) self.old self.new }
-        ensures operates { Operates (offer_view (seen S.Store self.new).now) tenant.now
+        requires working { IsClean S.Store P.Shelf self.old.storage.host
+            → IsWorking (IsSoundHost D.digest_of) (seen S.Store P.Shelf self.old) }
+        ensures goes_on { RecallsOn S.Store P.Shelf D.digest_of (UnlessSpoilt result) self.old self.new }
+        ensures operates { Operates (offer_view (seen S.Store P.Shelf self.new).now) tenant.now
             (λ _. machine.get_object object.now.bucket object.now.key version (option_copied range.entry))
-            (IsClean S.Store self.new.storage.host) (B.coming body.old) (B.coming body.new)
-            (seen S.Store self.old).now (seen S.Store self.new).now result }
-        ensures measured { IfPlanned result (λ found. IsClean S.Store self.new.storage.host
-            → IsMeasured (seen S.Store self.new).now found) }
+            (IsClean S.Store P.Shelf self.new.storage.host) (B.coming body.old) (B.coming body.new)
+            (seen S.Store P.Shelf self.old).now (seen S.Store P.Shelf self.new).now result }
+        ensures measured { IfPlanned result (λ found. IsClean S.Store P.Shelf self.new.storage.host
+            → IsMeasured (seen S.Store P.Shelf self.new).now found) }
     {
         match drain(body) {
             Ok(()) => {
@@ -142,16 +145,17 @@ impl<S: Alter + Drop, D: Digester + Drop> RecallingStorage<S, D> {
     ) -> Result<Outcome<Offer, Rejection>, StepError<Rejection>>
         requires positive { 1 ≤ size }
         requires going { (B.coming body.old).broken ≡ None }
-        requires working { IsClean S.Store self.old.storage.host → IsWorking (IsSoundHost D.digest_of) (seen S.Store self.old) }
-        requires early { IsClean S.Store self.old.storage.host → at ≤ latest_of (seen S.Store self.old).now }
-        ensures goes_on { RecallsOn S.Store D.digest_of (UnlessSpoilt result) self.old self.new }
-        ensures operates { Operates (offer_view (seen S.Store self.new).now) tenant.now
-            (λ given. operated (seen S.Store self.old).limits at given operation.now)
-            (IsClean S.Store self.new.storage.host) (B.coming body.old) (B.coming body.new)
-            (seen S.Store self.old).now (seen S.Store self.new).now result }
-        ensures measured { IfPlanned result (λ found. IsClean S.Store self.new.storage.host
-            → IsMeasured (seen S.Store self.new).now found) }
-        ensures cuts { CutsBody S.Store D.digest_of size operation.now (B.coming body.old) (B.coming body.new)
+        requires working { IsClean S.Store P.Shelf self.old.storage.host
+            → IsWorking (IsSoundHost D.digest_of) (seen S.Store P.Shelf self.old) }
+        requires early { IsClean S.Store P.Shelf self.old.storage.host → at ≤ latest_of (seen S.Store P.Shelf self.old).now }
+        ensures goes_on { RecallsOn S.Store P.Shelf D.digest_of (UnlessSpoilt result) self.old self.new }
+        ensures operates { Operates (offer_view (seen S.Store P.Shelf self.new).now) tenant.now
+            (λ given. operated (seen S.Store P.Shelf self.old).limits at given operation.now)
+            (IsClean S.Store P.Shelf self.new.storage.host) (B.coming body.old) (B.coming body.new)
+            (seen S.Store P.Shelf self.old).now (seen S.Store P.Shelf self.new).now result }
+        ensures measured { IfPlanned result (λ found. IsClean S.Store P.Shelf self.new.storage.host
+            → IsMeasured (seen S.Store P.Shelf self.new).now found) }
+        ensures cuts { CutsBody S.Store P.Shelf D.digest_of size operation.now (B.coming body.old) (B.coming body.new)
             self.old.storage.host.connection self.new.storage.host.connection result }
     {
         match operation {
@@ -173,20 +177,20 @@ impl<S: Alter + Drop, D: Digester + Drop> RecallingStorage<S, D> {
     }
 }
 
-impl<S: Alter + Drop, D: Digester + Drop> Storage for RecallingStorage<S, D> {
+impl<S: Alter + Drop, P: Shelf + Drop, D: Digester + Drop> Storage for RecallingStorage<S, P, D> {
     ghost use Rattle.bh_schema.specs.Storage as storage;
     ghost use Rattle.bh_memo.specs.Recalled.{recalled};
     ghost use Rattle.bh_view.specs.Bodies.{IsSoundHost};
 
-    ghost seen = { λ r. recalled r.memo (storage.seen S.Store r.storage.host) };
+    ghost seen = { λ r. recalled r.memo (storage.seen S.Store P.Shelf r.storage.host) };
 
-    ghost IsIntact = { λ r. storage.IsIntact S.Store r.storage.host };
+    ghost IsIntact = { λ r. storage.IsIntact S.Store P.Shelf r.storage.host };
 
-    ghost IsOpen = { λ r. storage.IsOpen S.Store r.storage.host };
+    ghost IsOpen = { λ r. storage.IsOpen S.Store P.Shelf r.storage.host };
 
     ghost IsSoundStore = { IsSoundHost D.digest_of };
 
-    ghost left = { λ r. storage.left S.Store r.storage.host };
+    ghost left = { λ r. storage.left S.Store P.Shelf r.storage.host };
 
     fn limits(&self) -> Limits {
         self.storage.limits()
@@ -257,16 +261,17 @@ impl<S: Alter + Drop, D: Digester + Drop> Storage for RecallingStorage<S, D> {
         body: &mut B,
     ) -> Result<Outcome<Offer, Rejection>, StepError<Rejection>>
         requires going { (B.coming body.old).broken ≡ None }
-        requires working { IsClean S.Store self.old.storage.host → IsWorking (IsSoundHost D.digest_of) (seen S.Store self.old) }
-        requires early { IsClean S.Store self.old.storage.host → at ≤ latest_of (seen S.Store self.old).now }
-        ensures goes_on { RecallsOn S.Store D.digest_of (UnlessSpoilt result) self.old self.new }
-        ensures operates { Operates (offer_view (seen S.Store self.new).now) tenant.now
-            (λ given. operated (seen S.Store self.old).limits at given operation.now)
-            (IsClean S.Store self.new.storage.host) (B.coming body.old) (B.coming body.new)
-            (seen S.Store self.old).now (seen S.Store self.new).now result }
-        ensures measured { IfPlanned result (λ found. IsClean S.Store self.new.storage.host
-            → IsMeasured (seen S.Store self.new).now found) }
-        ensures cuts { CutsBody S.Store D.digest_of self.old.storage.host.cache.tuning.block_size operation.now
+        requires working { IsClean S.Store P.Shelf self.old.storage.host
+            → IsWorking (IsSoundHost D.digest_of) (seen S.Store P.Shelf self.old) }
+        requires early { IsClean S.Store P.Shelf self.old.storage.host → at ≤ latest_of (seen S.Store P.Shelf self.old).now }
+        ensures goes_on { RecallsOn S.Store P.Shelf D.digest_of (UnlessSpoilt result) self.old self.new }
+        ensures operates { Operates (offer_view (seen S.Store P.Shelf self.new).now) tenant.now
+            (λ given. operated (seen S.Store P.Shelf self.old).limits at given operation.now)
+            (IsClean S.Store P.Shelf self.new.storage.host) (B.coming body.old) (B.coming body.new)
+            (seen S.Store P.Shelf self.old).now (seen S.Store P.Shelf self.new).now result }
+        ensures measured { IfPlanned result (λ found. IsClean S.Store P.Shelf self.new.storage.host
+            → IsMeasured (seen S.Store P.Shelf self.new).now found) }
+        ensures cuts { CutsBody S.Store P.Shelf D.digest_of self.old.storage.host.cache.tuning.block_size operation.now
             (B.coming body.old) (B.coming body.new) self.old.storage.host.connection self.new.storage.host.connection result }
     {
         let size = block_size_of(&self.storage.host.cache);

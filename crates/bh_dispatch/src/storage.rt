@@ -21,6 +21,7 @@ use bh_objects::{gets, reads};
 use bh_operation::address::ObjectName;
 use bh_operation::operation::Operation;
 use bh_schema::host::{Digester, Host};
+use bh_shelf::shelf::Shelf;
 use bh_storage::answer::{CommandAnswer, FoundVersion, Offer};
 use bh_storage::error::{Outcome, StepError, Trouble};
 use bh_storage::plan::Plan;
@@ -49,12 +50,12 @@ pub(crate) fn block_size_of(cache: &BlockCache) -> u64
 
 /// A host as a storage of buckets and objects.
 #[derive(Drop)]
-pub struct HostStorage<S: Alter + Drop, D: Digester + Drop> {
+pub struct HostStorage<S: Alter + Drop, P: Shelf + Drop, D: Digester + Drop> {
     /// Its database, limits and settings.
-    pub host: Host<S, D>,
+    pub host: Host<S, P, D>,
 }
 
-impl<S: Alter + Drop, D: Digester + Drop> HostStorage<S, D> {
+impl<S: Alter + Drop, P: Shelf + Drop, D: Digester + Drop> HostStorage<S, P, D> {
     /// Removes a tenant's uploads that are stale at a moment, and returns whether any of its
     /// buckets has a rule.
     pub fn purge_telling(
@@ -63,12 +64,12 @@ impl<S: Alter + Drop, D: Digester + Drop> HostStorage<S, D> {
         tenant: &TenantName,
         at: Moment,
     ) -> Result<bool, Trouble>
-        requires { Works S.Store D.digest_of self.old.host }
-        ensures goes_on { GoesOn S.Store D.digest_of (OnOk result) self.old self.new }
-        ensures purges { OnOk result (IsClean S.Store self.new.host
-            → Purges tenant.now at (seen S.Store self.old.host).now (seen S.Store self.new.host).now) }
-        ensures ruled { IfOk result (λ ruled. IsClean S.Store self.new.host → ruled ≡ false
-            → has_no_rule (view (seen S.Store self.old.host).now tenant.now) ≡ true) }
+        requires { Works S.Store P.Shelf D.digest_of self.old.host }
+        ensures goes_on { GoesOn S.Store P.Shelf D.digest_of (OnOk result) self.old self.new }
+        ensures purges { OnOk result (IsClean S.Store P.Shelf self.new.host
+            → Purges tenant.now at (seen S.Store P.Shelf self.old.host).now (seen S.Store P.Shelf self.new.host).now) }
+        ensures ruled { IfOk result (λ ruled. IsClean S.Store P.Shelf self.new.host → ruled ≡ false
+            → has_no_rule (view (seen S.Store P.Shelf self.old.host).now tenant.now) ≡ true) }
     {
         bh_uploads::purge::purge(&mut self.host.connection, alloc, tenant, at)
     }
@@ -79,11 +80,11 @@ impl<S: Alter + Drop, D: Digester + Drop> HostStorage<S, D> {
         tenant: &TenantName,
         bucket: &BucketName,
     ) -> Result<BucketState, StepError<Refusal>>
-        requires { Works S.Store D.digest_of self.old.host }
-        ensures goes_on { GoesOn S.Store D.digest_of (Unless result) self.old self.new }
-        ensures decides { IsClean S.Store self.new.host
-            → Decides (λ state. state) (mode_in bucket.now (view (seen S.Store self.old.host).now tenant.now))
-            (seen S.Store self.old.host).now (seen S.Store self.new.host).now result }
+        requires { Works S.Store P.Shelf D.digest_of self.old.host }
+        ensures goes_on { GoesOn S.Store P.Shelf D.digest_of (Unless result) self.old self.new }
+        ensures decides { IsClean S.Store P.Shelf self.new.host
+            → Decides (λ state. state) (mode_in bucket.now (view (seen S.Store P.Shelf self.old.host).now tenant.now))
+            (seen S.Store P.Shelf self.old.host).now (seen S.Store P.Shelf self.new.host).now result }
     {
         reads::bucket_state(&mut self.host.connection, tenant, bucket)
     }
@@ -98,16 +99,18 @@ impl<S: Alter + Drop, D: Digester + Drop> HostStorage<S, D> {
         range: Option<&[u8]>,
         state: BucketState,
     ) -> Result<FoundVersion, StepError<Rejection>>
-        requires working { Works S.Store D.digest_of self.old.host }
-        requires state { IsClean S.Store self.old.host
-            → mode_in object.now.bucket (view (seen S.Store self.old.host).now tenant.now) ≡ Ok state }
-        ensures goes_on { GoesOn S.Store D.digest_of (Unless result) self.old self.new }
-        ensures same { Unless result (IsClean S.Store self.new.host → (seen S.Store self.new.host).now ≡ (seen S.Store self.old.host).now) }
-        ensures carries { IsClean S.Store self.new.host
-            → Carries (found_answer (seen S.Store self.new.host).now) tenant.now
+        requires working { Works S.Store P.Shelf D.digest_of self.old.host }
+        requires state { IsClean S.Store P.Shelf self.old.host
+            → mode_in object.now.bucket (view (seen S.Store P.Shelf self.old.host).now tenant.now) ≡ Ok state }
+        ensures goes_on { GoesOn S.Store P.Shelf D.digest_of (Unless result) self.old self.new }
+        ensures same { Unless result (IsClean S.Store P.Shelf self.new.host
+            → (seen S.Store P.Shelf self.new.host).now ≡ (seen S.Store P.Shelf self.old.host).now) }
+        ensures carries { IsClean S.Store P.Shelf self.new.host
+            → Carries (found_answer (seen S.Store P.Shelf self.new.host).now) tenant.now
             (machine.get_object object.now.bucket object.now.key version (option_copied range.entry))
-            (seen S.Store self.old.host).now (seen S.Store self.new.host).now result }
-        ensures measured { IfOk result (λ found. IsClean S.Store self.new.host → IsMeasured (seen S.Store self.new.host).now found) }
+            (seen S.Store P.Shelf self.old.host).now (seen S.Store P.Shelf self.new.host).now result }
+        ensures measured { IfOk result (λ found. IsClean S.Store P.Shelf self.new.host
+            → IsMeasured (seen S.Store P.Shelf self.new.host).now found) }
     {
         let (bucket, key) = (&object.bucket, &object.key);
         let connection = &mut self.host.connection;
@@ -127,15 +130,16 @@ impl<S: Alter + Drop, D: Digester + Drop> HostStorage<S, D> {
     ) -> Result<Outcome<Offer, Rejection>, StepError<Rejection>>
         requires positive { 1 ≤ size }
         requires going { (B.coming body.old).broken ≡ None }
-        requires working { Works S.Store D.digest_of self.old.host }
-        requires early { IsClean S.Store self.old.host → at ≤ latest_of (seen S.Store self.old.host).now }
-        ensures goes_on { GoesOn S.Store D.digest_of (UnlessSpoilt result) self.old self.new }
-        ensures operates { Operates (offer_view (seen S.Store self.new.host).now) tenant.now
-            (λ given. operated (seen S.Store self.old.host).limits at given operation.now)
-            (IsClean S.Store self.new.host) (B.coming body.old) (B.coming body.new)
-            (seen S.Store self.old.host).now (seen S.Store self.new.host).now result }
-        ensures measured { IfPlanned result (λ found. IsClean S.Store self.new.host → IsMeasured (seen S.Store self.new.host).now found) }
-        ensures cuts { CutsBody S.Store D.digest_of size operation.now (B.coming body.old) (B.coming body.new)
+        requires working { Works S.Store P.Shelf D.digest_of self.old.host }
+        requires early { IsClean S.Store P.Shelf self.old.host → at ≤ latest_of (seen S.Store P.Shelf self.old.host).now }
+        ensures goes_on { GoesOn S.Store P.Shelf D.digest_of (UnlessSpoilt result) self.old self.new }
+        ensures operates { Operates (offer_view (seen S.Store P.Shelf self.new.host).now) tenant.now
+            (λ given. operated (seen S.Store P.Shelf self.old.host).limits at given operation.now)
+            (IsClean S.Store P.Shelf self.new.host) (B.coming body.old) (B.coming body.new)
+            (seen S.Store P.Shelf self.old.host).now (seen S.Store P.Shelf self.new.host).now result }
+        ensures measured { IfPlanned result (λ found. IsClean S.Store P.Shelf self.new.host
+            → IsMeasured (seen S.Store P.Shelf self.new.host).now found) }
+        ensures cuts { CutsBody S.Store P.Shelf D.digest_of size operation.now (B.coming body.old) (B.coming body.new)
             self.old.host.connection self.new.host.connection result }
     {
         let host = &mut self.host;
@@ -157,19 +161,19 @@ impl<S: Alter + Drop, D: Digester + Drop> HostStorage<S, D> {
     }
 }
 
-impl<S: Alter + Drop, D: Digester + Drop> Storage for HostStorage<S, D> {
+impl<S: Alter + Drop, P: Shelf + Drop, D: Digester + Drop> Storage for HostStorage<S, P, D> {
     ghost use Rattle.bh_schema.specs.Storage as storage;
     ghost use Rattle.bh_view.specs.Bodies.{IsSoundHost};
 
-    ghost seen = { λ h. storage.seen S.Store h.host };
+    ghost seen = { λ h. storage.seen S.Store P.Shelf h.host };
 
-    ghost IsIntact = { λ h. storage.IsIntact S.Store h.host };
+    ghost IsIntact = { λ h. storage.IsIntact S.Store P.Shelf h.host };
 
-    ghost IsOpen = { λ h. storage.IsOpen S.Store h.host };
+    ghost IsOpen = { λ h. storage.IsOpen S.Store P.Shelf h.host };
 
     ghost IsSoundStore = { IsSoundHost D.digest_of };
 
-    ghost left = { λ h. storage.left S.Store h.host };
+    ghost left = { λ h. storage.left S.Store P.Shelf h.host };
 
     fn limits(&self) -> Limits {
         self.host.limits
@@ -214,15 +218,16 @@ impl<S: Alter + Drop, D: Digester + Drop> Storage for HostStorage<S, D> {
         body: &mut B,
     ) -> Result<Outcome<Offer, Rejection>, StepError<Rejection>>
         requires going { (B.coming body.old).broken ≡ None }
-        requires working { Works S.Store D.digest_of self.old.host }
-        requires early { IsClean S.Store self.old.host → at ≤ latest_of (seen S.Store self.old.host).now }
-        ensures goes_on { GoesOn S.Store D.digest_of (UnlessSpoilt result) self.old self.new }
-        ensures operates { Operates (offer_view (seen S.Store self.new.host).now) tenant.now
-            (λ given. operated (seen S.Store self.old.host).limits at given operation.now)
-            (IsClean S.Store self.new.host) (B.coming body.old) (B.coming body.new)
-            (seen S.Store self.old.host).now (seen S.Store self.new.host).now result }
-        ensures measured { IfPlanned result (λ found. IsClean S.Store self.new.host → IsMeasured (seen S.Store self.new.host).now found) }
-        ensures cuts { CutsBody S.Store D.digest_of self.old.host.cache.tuning.block_size operation.now
+        requires working { Works S.Store P.Shelf D.digest_of self.old.host }
+        requires early { IsClean S.Store P.Shelf self.old.host → at ≤ latest_of (seen S.Store P.Shelf self.old.host).now }
+        ensures goes_on { GoesOn S.Store P.Shelf D.digest_of (UnlessSpoilt result) self.old self.new }
+        ensures operates { Operates (offer_view (seen S.Store P.Shelf self.new.host).now) tenant.now
+            (λ given. operated (seen S.Store P.Shelf self.old.host).limits at given operation.now)
+            (IsClean S.Store P.Shelf self.new.host) (B.coming body.old) (B.coming body.new)
+            (seen S.Store P.Shelf self.old.host).now (seen S.Store P.Shelf self.new.host).now result }
+        ensures measured { IfPlanned result (λ found. IsClean S.Store P.Shelf self.new.host
+            → IsMeasured (seen S.Store P.Shelf self.new.host).now found) }
+        ensures cuts { CutsBody S.Store P.Shelf D.digest_of self.old.host.cache.tuning.block_size operation.now
             (B.coming body.old) (B.coming body.new) self.old.host.connection self.new.host.connection result }
     {
         let size = block_size_of(&self.host.cache);

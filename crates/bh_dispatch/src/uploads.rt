@@ -4,17 +4,19 @@ ghost use Rattle.bh_types.specs.Rejections.{plainly};
 ghost use Rattle.bh_machine.specs.Machine.{finish_upload, upload_operated};
 ghost use Rattle.bh_model.specs.Listings as listings;
 ghost use Rattle.bh_view.specs.View.{latest_of};
-ghost use Rattle.bh_schema.specs.Connections.{IsClean, tables};
+ghost use Rattle.bh_base.specs.Connections.{IsClean, tables};
 ghost use Rattle.bh_storage.specs.Answers.{answer_view};
 ghost use Rattle.bh_schema.specs.Working.{Works};
 ghost use Rattle.bh_dispatch.specs.Operating.{CarriesOut};
 
 use crate::answers::told;
 use crate::asked::Asked;
+use bh_base::connection::Connection;
 use bh_docs::read_complete;
 use bh_operation::address::ObjectName;
 use bh_operation::operation::UploadOperation;
 use bh_operation::page::PartPage;
+use bh_shelf::shelf::Shelf;
 use bh_storage::answer::Answer;
 use bh_storage::error::StepError;
 use bh_types::id::UploadId;
@@ -24,21 +26,21 @@ use bh_upload_listing::parts::{self, PartsAsked};
 use bh_uploads::begin::NewUpload;
 use bh_uploads::reads::NamedUpload;
 use bh_uploads::{abort, begin, complete};
-use sqlite::{Alter, Connection};
+use sqlite::Alter;
 use std::alloc::Global;
 
 /// The document names the parts; all but the last have at least the minimum size.
-pub fn complete_upload<'a, S: Alter>(
-    connection: &mut Connection<S>,
+pub fn complete_upload<'a, S: Alter, P: Shelf>(
+    connection: &mut Connection<S, P>,
     alloc: Global,
     asked: &Asked<'a>,
     object: &'a ObjectName,
     upload: Option<UploadId>,
     document: &[u8],
 ) -> Result<Answer, StepError<Rejection>>
-    requires working { Works S.Store connection.old }
-    requires early { IsClean S.Store connection.old → asked.now.at ≤ latest_of (tables S.Store connection.old) }
-    ensures { CarriesOut S.Store answer_view asked.now.tenant.now
+    requires working { Works S.Store P.Shelf connection.old }
+    requires early { IsClean S.Store P.Shelf connection.old → asked.now.at ≤ latest_of (tables S.Store P.Shelf connection.old) }
+    ensures { CarriesOut S.Store P.Shelf answer_view asked.now.tenant.now
         (λ s. plainly (finish_upload asked.now.limits asked.now.at object.now.bucket object.now.key upload document.now s))
         connection.old connection.new result }
 {
@@ -63,16 +65,16 @@ pub fn complete_upload<'a, S: Alter>(
     )
 }
 
-fn list_parts<S: Alter>(
-    connection: &mut Connection<S>,
+fn list_parts<S: Alter, P: Shelf>(
+    connection: &mut Connection<S, P>,
     alloc: Global,
     tenant: &TenantName,
     object: &ObjectName,
     upload: Option<UploadId>,
     page: PartPage,
 ) -> Result<Answer, StepError<Rejection>>
-    requires { Works S.Store connection.old }
-    ensures { CarriesOut S.Store answer_view tenant.now
+    requires { Works S.Store P.Shelf connection.old }
+    ensures { CarriesOut S.Store P.Shelf answer_view tenant.now
         (λ s. plainly (listings.list_parts object.now.bucket object.now.key upload page.size page.after s))
         connection.old connection.new result }
 {
@@ -93,15 +95,15 @@ fn list_parts<S: Alter>(
 }
 
 /// Carries out an operation on a multipart upload, without a document or a part's bytes.
-pub fn operate_upload<S: Alter>(
-    connection: &mut Connection<S>,
+pub fn operate_upload<S: Alter, P: Shelf>(
+    connection: &mut Connection<S, P>,
     alloc: Global,
     asked: &Asked<'_>,
     operation: &UploadOperation,
 ) -> Result<Answer, StepError<Rejection>>
-    requires working { Works S.Store connection.old }
-    requires early { IsClean S.Store connection.old → asked.now.at ≤ latest_of (tables S.Store connection.old) }
-    ensures { CarriesOut S.Store answer_view asked.now.tenant.now (upload_operated asked.now.at operation.now)
+    requires working { Works S.Store P.Shelf connection.old }
+    requires early { IsClean S.Store P.Shelf connection.old → asked.now.at ≤ latest_of (tables S.Store P.Shelf connection.old) }
+    ensures { CarriesOut S.Store P.Shelf answer_view asked.now.tenant.now (upload_operated asked.now.at operation.now)
         connection.old connection.new result }
 {
     let tenant = asked.tenant;

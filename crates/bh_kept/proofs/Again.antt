@@ -45,6 +45,6 @@ module _ {D : Type 0} {g : Ghosts D} (c : Held (FileStore D g)) where
         was_open = held.was_open;
         opens = opened.0;
         live = opened.1;
-        same = same_database (file_state again).committed (file_state c).committed (opened.1 up).1 (live held.was_open).1 trees;
+        same = same_database (file_state again).committed (file_state c).committed (opened.1 up).1.lists (live held.was_open).1.lists trees;
         leaves = λ db may. subst (recovers c.store) (sym (settled_at again.store stays db up may ∙ trees)) (stays_at c.store stays held.was_open);
       }

@@ -12,7 +12,7 @@ use Rattle.bh_cache.specs.Kept.{KeptBlocks}
 use Rattle.bh_memo.specs.Facts.{Facts}
 use Rattle.bh_memo.specs.Recalled.{recalled}
 use Rattle.bh_memo.proofs.Recalling.{rests_alone, rests_under}
-use Rattle.bh_schema.specs.Layer.{Standing, IsInside, begun, standing, taken_back}
+use Rattle.bh_base.specs.Layer.{Standing, IsInside, begun, standing, taken_back}
 use Rattle.bh_schema.specs.Storage.{beside, seen_in, shown}
 use Rattle.bh_schema.proofs.Storing.{plain_sound, readable_host, readable_shows}
 

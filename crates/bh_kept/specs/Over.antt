@@ -1,4 +1,6 @@
 -- A storage that stands over a host in files.
+use Rattle.bh_shelf.specs.declared.no_shelf.NoShelf.{NoShelf}
+use Rattle.bh_base.specs.Connections.{without_packs}
 use Rattle.std.specs.Prelude.{◌≡◌, ◌↔◌, Some}
 use Rattle.sqlite_disk.specs.declared.Disk as disk
 use Rattle.sqlite_store.specs.declared.store.FileStore.{FileStore}
@@ -17,19 +19,19 @@ module _ {D G H : Type 0} {g : disk.Ghosts D} (IsIntact IsOpen : H → Type 0) (
     (left : H → Tables → Type 0) where
   -- it is intact and open exactly if the host is, and a crash leaves what it may leave of the host.
   -- At rest it shows what the host shows
-  pub record StandsOver (h : H) (beneath : Host (FileStore D g) G) : Type 0 where
-    pub intact : IsIntact h ↔ host.IsIntact over_files beneath
-    pub opened : IsOpen h ↔ host.IsOpen over_files beneath
-    pub leaves : (x : Tables) → left h x ↔ host.left over_files beneath x
-    pub same : IsAtRest IsSound (seen h) → seen h ≡ host.seen over_files beneath
+  pub record StandsOver (h : H) (beneath : Host (FileStore D g) NoShelf G) : Type 0 where
+    pub intact : IsIntact h ↔ host.IsIntact over_files without_packs beneath
+    pub opened : IsOpen h ↔ host.IsOpen over_files without_packs beneath
+    pub leaves : (x : Tables) → left h x ↔ host.left over_files without_packs beneath x
+    pub same : IsAtRest IsSound (seen h) → seen h ≡ host.seen over_files without_packs beneath
 
 module _ {D G : Type 0} {g : disk.Ghosts D} where
   -- a storage that remembers facts of its tables
-  abbrev pub RecallingStandsOver : Ghosts (RecallingStorage (FileStore D g) G) → Type 0
-  RecallingStandsOver s = (it : RecallingStorage (FileStore D g) G)
+  abbrev pub RecallingStandsOver : Ghosts (RecallingStorage (FileStore D g) NoShelf G) → Type 0
+  RecallingStandsOver s = (it : RecallingStorage (FileStore D g) NoShelf G)
       → StandsOver s.IsIntact s.IsOpen s.IsSoundStore s.seen s.left it it.storage.host
 
   -- a host that is served, unless it was lost
   abbrev pub KeptStandsOver : {K : Type 0} {d : digester.Ghosts G} {k : size.Ghosts K} → Ghosts (KeptHost D G K g d k) → Type 0
-  KeptStandsOver {K} {d} {k} s = (kept : KeptHost D G K g d k) (it : RecallingStorage (FileStore D g) G)
+  KeptStandsOver {K} {d} {k} s = (kept : KeptHost D G K g d k) (it : RecallingStorage (FileStore D g) NoShelf G)
       → kept.storage ≡ Some it → StandsOver s.IsIntact s.IsOpen s.IsSoundStore s.seen s.left kept it.storage.host

@@ -2,37 +2,39 @@
 //! cached stays: nothing has changed.
 
 ghost use Rattle.std.specs.Prelude.{◌≡◌, IfSome};
-ghost use Rattle.sqlite.specs.Held.{state};
-ghost use Rattle.bh_schema.specs.Connections.{IsClean, IsIntact, stands, tables, HasHost, StaysWithin};
+ghost use Rattle.bh_base.specs.Connections.{state};
+ghost use Rattle.bh_base.specs.Connections.{IsClean, IsIntact, stands, tables, HasHost, StaysWithin};
 ghost use Rattle.bh_schema.specs.Garbage.{garbage_in};
-ghost use Rattle.bh_schema.specs.Layer.{LeavesNothingNew, taken_back};
+ghost use Rattle.bh_base.specs.Layer.{LeavesNothingNew, taken_back};
 
+use bh_base::connection::Connection;
 use bh_schema::rows::garbage::garbage_bytes;
-use bh_schema::rows::transactions::{begin, take_back};
-use sqlite::{Alter, Connection};
+use bh_shelf::shelf::Shelf;
+use sqlite::Alter;
 
 /// How many bytes the blocks have that no reference names. `None` if memory or the store failed.
-pub(crate) fn count<S: Alter>(connection: &mut Connection<S>) -> Option<u64>
-    requires { HasHost S.Store connection.old }
-    ensures intact { IsIntact S.Store connection.new → IsIntact S.Store connection.old }
-    ensures clean { IsClean S.Store connection.new → IsClean S.Store connection.old }
-    ensures back { IsClean S.Store connection.new → stands S.Store connection.new ≡ taken_back (stands S.Store connection.old) }
-    ensures survives { LeavesNothingNew (state S.Store connection.old) (state S.Store connection.new) }
-    ensures counted { IfSome result (λ n. IsClean S.Store connection.new → n ≡ garbage_in (tables S.Store connection.old)) }
+pub(crate) fn count<S: Alter, P: Shelf>(connection: &mut Connection<S, P>) -> Option<u64>
+    requires { HasHost S.Store P.Shelf connection.old }
+    ensures intact { IsIntact S.Store P.Shelf connection.new → IsIntact S.Store P.Shelf connection.old }
+    ensures clean { IsClean S.Store P.Shelf connection.new → IsClean S.Store P.Shelf connection.old }
+    ensures back { IsClean S.Store P.Shelf connection.new
+        → stands S.Store P.Shelf connection.new ≡ taken_back (stands S.Store P.Shelf connection.old) }
+    ensures survives { LeavesNothingNew (state S.Store P.Shelf connection.old) (state S.Store P.Shelf connection.new) }
+    ensures counted { IfSome result (λ n. IsClean S.Store P.Shelf connection.new → n ≡ garbage_in (tables S.Store P.Shelf connection.old)) }
 {
     let counted = look(connection);
-    take_back(connection);
+    connection.take_back();
     counted
 }
 
 /// The same, in a transaction that is left open, if it could be opened.
-fn look<S: Alter>(connection: &mut Connection<S>) -> Option<u64>
-    requires { HasHost S.Store connection.old }
-    ensures within { StaysWithin S.Store connection.old connection.new }
-    ensures survives { LeavesNothingNew (state S.Store connection.old) (state S.Store connection.new) }
-    ensures counted { IfSome result (λ n. IsClean S.Store connection.new → n ≡ garbage_in (tables S.Store connection.old)) }
+fn look<S: Alter, P: Shelf>(connection: &mut Connection<S, P>) -> Option<u64>
+    requires { HasHost S.Store P.Shelf connection.old }
+    ensures within { StaysWithin S.Store P.Shelf connection.old connection.new }
+    ensures survives { LeavesNothingNew (state S.Store P.Shelf connection.old) (state S.Store P.Shelf connection.new) }
+    ensures counted { IfSome result (λ n. IsClean S.Store P.Shelf connection.new → n ≡ garbage_in (tables S.Store P.Shelf connection.old)) }
 {
-    match begin(connection) {
+    match connection.begin() {
         Ok(_) => garbage_bytes(connection).ok(),
         Err(_) => None,
     }

@@ -3,8 +3,10 @@
 ghost use Rattle.std.specs.Prelude.{◌≡◌, ◌≤◌, ℕ, Some, option_map};
 ghost use Rattle.bh_memo.specs.Facts.{nothing};
 
+use bh_base::connection::Connection as Joined;
 use bh_dispatch::recalling::RecallingStorage;
 use bh_schema::host::{Digester, Host};
+use bh_shelf::no_shelf::NoShelf;
 use bh_types::limits::Limits;
 use sqlite::{Connection, FileStore};
 use sqlite_disk::Disk;
@@ -26,7 +28,7 @@ impl BlockSize for Brand {
 pub struct KeptHost<'a, D: Disk + Drop, G: Digester + Drop, K: BlockSize> {
     pub(crate) rt: &'a HostRuntime,
     /// The host, until it is lost.
-    pub storage: Option<RecallingStorage<FileStore<D>, G>>,
+    pub storage: Option<RecallingStorage<FileStore<D>, NoShelf, G>>,
     /// The limits that it was created with.
     pub limits: Limits,
     pub(crate) block_size: u64,
@@ -37,7 +39,7 @@ pub struct KeptHost<'a, D: Disk + Drop, G: Digester + Drop, K: BlockSize> {
 
 impl<'a, D: Disk + Drop, G: Digester + Drop, K: BlockSize> KeptHost<'a, D, G, K> {
     /// A host that is in its files, with the block size of its settings.
-    pub fn new(rt: &'a HostRuntime, host: Host<FileStore<D>, G>) -> KeptHost<'a, D, G, K>
+    pub fn new(rt: &'a HostRuntime, host: Host<FileStore<D>, NoShelf, G>) -> KeptHost<'a, D, G, K>
         requires { host.cache.tuning.block_size ≡ K.size }
         ensures { result.storage ≡ Some (record { storage = record { host = host }; memo = nothing }) }
     {
@@ -53,7 +55,7 @@ impl<'a, D: Disk + Drop, G: Digester + Drop, K: BlockSize> KeptHost<'a, D, G, K>
 
     /// The host's database, unless the host was lost.
     pub fn into_connection(self) -> Option<Connection<FileStore<D>>>
-        ensures { result ≡ option_map (λ it. it.storage.host.connection) self.entry.storage }
+        ensures { result ≡ option_map (λ it. it.storage.host.connection.database) self.entry.storage }
     {
         let KeptHost {
             rt: _,
@@ -63,7 +65,10 @@ impl<'a, D: Disk + Drop, G: Digester + Drop, K: BlockSize> KeptHost<'a, D, G, K>
             size: _,
         } = self;
         match storage {
-            Some(kept) => Some(kept.storage.host.into_connection()),
+            Some(kept) => {
+                let Joined { database, packs: _ } = kept.storage.host.into_connection();
+                Some(database)
+            }
             None => None,
         }
     }

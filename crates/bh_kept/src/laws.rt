@@ -6,6 +6,7 @@ ghost use Rattle.bh_kept.specs.Over.{RecallingStandsOver, KeptStandsOver};
 use crate::host::{BlockSize, KeptHost};
 use bh_dispatch::recalling::RecallingStorage;
 use bh_schema::host::Digester;
+use bh_shelf::no_shelf::NoShelf;
 use bh_storage::storage::Storage;
 use sqlite::FileStore;
 use sqlite_disk::Disk;
@@ -13,6 +14,6 @@ use sqlite_disk::Disk;
 /// A storage that remembers facts and one that is served stand over their host: a crash leaves of
 /// them what it may leave of the host, and at rest they show what the host shows.
 pub fn stands_over<'a, D: Disk + Drop, G: Digester + Drop, K: BlockSize>()
-    ensures recalling { RecallingStandsOver ⟦<RecallingStorage<FileStore<D>, G> as Storage>⟧ }
+    ensures recalling { RecallingStandsOver ⟦<RecallingStorage<FileStore<D>, NoShelf, G> as Storage>⟧ }
     ensures kept { KeptStandsOver ⟦<KeptHost<'a, D, G, K> as Storage>⟧ }
 {}

@@ -12,6 +12,7 @@ ghost use Rattle.bh_kept.specs.Cutting.{Cuts, KeepsTuning};
 use crate::copying::{CopiedHost, CopyFile, copy_and_open};
 use crate::counting::count;
 use crate::host::{BlockSize, KeptHost};
+use bh_base::connection::Connection as Joined;
 use bh_cache::blocks::BlockCache;
 use bh_connection::{BackUp, CacheUses};
 use bh_dispatch::recalling::RecallingStorage;
@@ -219,11 +220,15 @@ impl<'a, D: Disk + Drop, G: Digester + Drop, K: BlockSize> BackUp for KeptHost<'
             cache,
         } = host;
         self.limits = limits;
-        let CopiedHost { copy, connection } = copy_and_open(self.rt, connection, to);
+        let Joined { database, packs } = connection;
+        let CopiedHost { copy, connection } = copy_and_open(self.rt, database, to);
         self.storage = Some(RecallingStorage {
             storage: HostStorage {
                 host: Host {
-                    connection: connection?,
+                    connection: Joined {
+                        database: connection?,
+                        packs,
+                    },
                     digester,
                     limits,
                     cache: BlockCache::new(cache.tuning()),

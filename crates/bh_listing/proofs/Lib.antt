@@ -1,3 +1,4 @@
+pub mod Refusing
 pub mod RowLemmas
 pub mod VersionTexts
 pub mod UploadTexts

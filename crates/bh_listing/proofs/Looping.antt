@@ -6,7 +6,7 @@ use Rattle.bh_tables.specs.Typed.{VersionRow}
 use Rattle.bh_pages.specs.Gathered.{past_name}
 use Rattle.bh_pages.specs.Seen.{Shown, seen_line}
 use Rattle.sqlite.specs.State.{State}
-use Rattle.bh_schema.specs.Layer.{standing, IsIntact, IsOpen, IsStateClean, IsInside, StateWithin}
+use Rattle.bh_base.specs.Layer.{standing, IsIntact, IsOpen, IsStateClean, IsInside, StateWithin}
 use Rattle.bh_schema.specs.Working.{IsWorking}
 use Rattle.bh_schema.proofs.Storing.{within_then}
 use Rattle.bh_objects.proofs.Working.{no_call}

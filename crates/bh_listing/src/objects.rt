@@ -2,7 +2,7 @@
 
 ghost use Rattle.std.specs.Prelude.{map, IfOk};
 ghost use Rattle.bh_schema.specs.Calls.{MayRead};
-ghost use Rattle.bh_schema.specs.Connections.{IsClean, tables, StaysWithin, StaysOpen};
+ghost use Rattle.bh_base.specs.Connections.{IsClean, tables, StaysWithin, StaysOpen};
 ghost use Rattle.bh_schema.specs.Working.{Works, StillWorks};
 ghost use Rattle.bh_model.specs.Listings.{list_objects};
 ghost use Rattle.bh_model.specs.Operations.{Objects};
@@ -17,31 +17,33 @@ ghost use Rattle.bh_listing.specs.Told.{asked_view};
 use crate::lines::object_lines;
 use crate::rows::Keyed;
 use crate::tell::tell;
+use bh_base::connection::Connection;
 use bh_docs::ObjectsPage;
 use bh_objects::reads::bucket_state;
 use bh_pages::gathering::{Listed, ObjectLine, PageAsked, past};
 use bh_pages::reading::Reading;
+use bh_shelf::shelf::Shelf;
 use bh_storage::error::{StepError, Trouble};
 use bh_types::bucket::BucketName;
 use bh_types::names::TenantName;
 use bh_types::refusal::Refusal;
-use sqlite::{Alter, Connection};
+use sqlite::Alter;
 use std::alloc::Global;
 
 /// The entries of a page of a bucket's objects, and one more if there is one.
-fn gather_objects<S: Alter>(
-    connection: &mut Connection<S>,
+fn gather_objects<S: Alter, P: Shelf>(
+    connection: &mut Connection<S, P>,
     alloc: Global,
     tenant: &str,
     bucket: &str,
     asked: &PageAsked<'_>,
 ) -> Result<Vec<Listed<ObjectLine>>, Trouble>
-    requires working { Works S.Store connection.old }
-    ensures reads { MayRead S.Store connection.old connection.new result }
-    ensures gathered { IfOk result (λ entries. IsClean S.Store connection.new
+    requires working { Works S.Store P.Shelf connection.old }
+    ensures reads { MayRead S.Store P.Shelf connection.old connection.new result }
+    ensures gathered { IfOk result (λ entries. IsClean S.Store P.Shelf connection.new
         → IsPage asked.now.max (map seen_entry entries.items)
         (listing asked.now (map row_shown
-        (bucket_rows tenant.now bucket.now asked.now.prefix.now (tables S.Store connection.old).versions)))) }
+        (bucket_rows tenant.now bucket.now asked.now.prefix.now (tables S.Store P.Shelf connection.old).versions)))) }
 {
     let upto = past(alloc, asked.prefix, 255)?;
     let mut reading = Reading::begin(alloc, asked)?;
@@ -63,20 +65,20 @@ fn gather_objects<S: Alter>(
 }
 
 /// S3's ListObjectsV2: a page of a bucket's objects. Refusal: NoSuchBucket.
-pub fn list_objects<S: Alter>(
-    connection: &mut Connection<S>,
+pub fn list_objects<S: Alter, P: Shelf>(
+    connection: &mut Connection<S, P>,
     alloc: Global,
     tenant: &TenantName,
     bucket: &BucketName,
     asked: &PageAsked<'_>,
 ) -> Result<ObjectsPage, StepError<Refusal>>
-    requires working { Works S.Store connection.old }
-    ensures within { StaysWithin S.Store connection.old connection.new }
-    ensures opens { Unless result (StaysOpen S.Store connection.old connection.new) }
-    ensures working { Unless result (StillWorks S.Store connection.old connection.new) }
-    ensures carries { IsClean S.Store connection.new
+    requires working { Works S.Store P.Shelf connection.old }
+    ensures within { StaysWithin S.Store P.Shelf connection.old connection.new }
+    ensures opens { Unless result (StaysOpen S.Store P.Shelf connection.old connection.new) }
+    ensures working { Unless result (StillWorks S.Store P.Shelf connection.old connection.new) }
+    ensures carries { IsClean S.Store P.Shelf connection.new
         → Carries (λ page. Objects (page_view page)) tenant.now (list_objects bucket.now (asked_view asked.now) (token_of asked.now))
-        (tables S.Store connection.old) (tables S.Store connection.new) result }
+        (tables S.Store P.Shelf connection.old) (tables S.Store P.Shelf connection.new) result }
 {
     bucket_state(connection, tenant, bucket)?;
     let entries = gather_objects(connection, alloc, tenant.as_str(), bucket.as_str(), asked)?;

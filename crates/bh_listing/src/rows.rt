@@ -2,16 +2,18 @@
 
 ghost use Rattle.std.specs.Prelude.{◌≡◌, ◌<◌, ◌^◌, List, map, IfOk, IfErr};
 ghost use Rattle.bh_schema.specs.Calls.{Reads, MayRead};
-ghost use Rattle.bh_schema.specs.Connections.{IsClean, tables, InTransaction, IsTrouble};
+ghost use Rattle.bh_base.specs.Connections.{IsClean, tables, InTransaction, IsTrouble};
 ghost use Rattle.bh_listing.specs.Texts.{Queried, Shows, keyed_params, later_params, rows_placed};
 
 use crate::from_row::{FromRow, read_rows};
+use bh_base::connection::Connection;
 use bh_pages::places::Place;
 use bh_schema::rows::number::number;
 use bh_schema::trouble::or_trouble;
+use bh_shelf::shelf::Shelf;
 use bh_storage::error::Trouble;
 use sqlite::types::ToSql;
-use sqlite::{Alter, Connection, Error, Row};
+use sqlite::{Alter, Connection as Database, Error, Row};
 use std::alloc::Global;
 
 /// The rows of a bucket with a key from one text on and before another.
@@ -27,15 +29,11 @@ pub struct Keyed<'a> {
 
 impl Keyed<'_> {
     /// The rows of the query with these parameters.
-    pub fn query<S: Alter>(
-        &self,
-        connection: &mut Connection<S>,
-        sql: &str,
-    ) -> Result<Vec<Row>, Error>
+    pub fn query<S: Alter>(&self, database: &mut Database<S>, sql: &str) -> Result<Vec<Row>, Error>
         requires { self.now.count < 2 ^ 63 }
-        ensures { Queried S.Store connection.old connection.new sql.now (keyed_params self.now) result }
+        ensures { Queried S.Store database.old database.new sql.now (keyed_params self.now) result }
     {
-        connection.query_all(
+        database.query_all(
             sql,
             &[
                 self.tenant.to_sql(),
@@ -61,16 +59,12 @@ pub struct Later<'a> {
 
 impl Later<'_> {
     /// The rows of the query with these parameters.
-    pub fn query<S: Alter>(
-        &self,
-        connection: &mut Connection<S>,
-        sql: &str,
-    ) -> Result<Vec<Row>, Error>
+    pub fn query<S: Alter>(&self, database: &mut Database<S>, sql: &str) -> Result<Vec<Row>, Error>
         requires early { self.now.after < 2 ^ 63 }
         requires small { self.now.count < 2 ^ 63 }
-        ensures { Queried S.Store connection.old connection.new sql.now (later_params self.now) result }
+        ensures { Queried S.Store database.old database.new sql.now (later_params self.now) result }
     {
-        connection.query_all(
+        database.query_all(
             sql,
             &[
                 self.tenant.to_sql(),
@@ -88,25 +82,31 @@ pub trait PlacedRow: FromRow {
     ghost rows: { Shows };
 
     /// The first rows with keys in a range.
-    fn keyed<S: Alter>(connection: &mut Connection<S>, at: &Keyed<'_>) -> Result<Vec<Row>, Error>
-        requires inside { InTransaction S.Store connection.old }
+    fn keyed<S: Alter, P: Shelf>(
+        connection: &mut Connection<S, P>,
+        at: &Keyed<'_>,
+    ) -> Result<Vec<Row>, Error>
+        requires inside { InTransaction S.Store P.Shelf connection.old }
         requires small { at.now.count < 2 ^ 63 }
-        ensures reads { Reads S.Store connection.old connection.new result }
-        ensures rows { IfOk result (λ shown. IsClean S.Store connection.new
+        ensures reads { Reads S.Store P.Shelf connection.old connection.new result }
+        ensures rows { IfOk result (λ shown. IsClean S.Store P.Shelf connection.new
             → shown.items ≡ rows.keyed at.now.tenant.now at.now.bucket.now at.now.from.now at.now.upto.now at.now.count
-            (tables S.Store connection.old)) }
-        ensures trouble { IfErr result (IsTrouble S.Store connection.old connection.new) };
+            (tables S.Store P.Shelf connection.old)) }
+        ensures trouble { IfErr result (IsTrouble S.Store P.Shelf connection.old connection.new) };
 
     /// The first rows of a key after a number.
-    fn later<S: Alter>(connection: &mut Connection<S>, at: &Later<'_>) -> Result<Vec<Row>, Error>
-        requires inside { InTransaction S.Store connection.old }
+    fn later<S: Alter, P: Shelf>(
+        connection: &mut Connection<S, P>,
+        at: &Later<'_>,
+    ) -> Result<Vec<Row>, Error>
+        requires inside { InTransaction S.Store P.Shelf connection.old }
         requires early { at.now.after < 2 ^ 63 }
         requires small { at.now.count < 2 ^ 63 }
-        ensures reads { Reads S.Store connection.old connection.new result }
-        ensures rows { IfOk result (λ shown. IsClean S.Store connection.new
+        ensures reads { Reads S.Store P.Shelf connection.old connection.new result }
+        ensures rows { IfOk result (λ shown. IsClean S.Store P.Shelf connection.new
             → shown.items ≡ rows.later at.now.tenant.now at.now.bucket.now at.now.key.now at.now.after at.now.count
-            (tables S.Store connection.old)) }
-        ensures trouble { IfErr result (IsTrouble S.Store connection.old connection.new) };
+            (tables S.Store P.Shelf connection.old)) }
+        ensures trouble { IfErr result (IsTrouble S.Store P.Shelf connection.old connection.new) };
 }
 
 /// The keys of a bucket that a listing reads.
@@ -119,19 +119,19 @@ pub struct Keys<'a> {
 }
 
 /// At most `count` rows, from a place on.
-fn placed_rows<L: PlacedRow, S: Alter>(
-    connection: &mut Connection<S>,
+fn placed_rows<L: PlacedRow, S: Alter, P: Shelf>(
+    connection: &mut Connection<S, P>,
     keys: &Keys<'_>,
     place: &Place,
     count: u64,
 ) -> Result<Vec<Row>, Trouble>
-    requires inside { InTransaction S.Store connection.old }
+    requires inside { InTransaction S.Store P.Shelf connection.old }
     requires small { count < 2 ^ 63 }
-    ensures reads { MayRead S.Store connection.old connection.new result }
-    ensures rows { IfOk result (λ shown. IsClean S.Store connection.new
+    ensures reads { MayRead S.Store P.Shelf connection.old connection.new result }
+    ensures rows { IfOk result (λ shown. IsClean S.Store P.Shelf connection.new
         → shown.items ≡ rows_placed L.rows keys.now.tenant.now keys.now.bucket.now place.now.key.items place.now.after keys.now.upto.now
         count
-        (tables S.Store connection.old)) }
+        (tables S.Store P.Shelf connection.old)) }
 {
     let Keys {
         tenant,
@@ -171,21 +171,21 @@ fn placed_rows<L: PlacedRow, S: Alter>(
 }
 
 /// The values of at most `count` rows, from a place on, in the order of the listing.
-pub fn lines_at<L: PlacedRow + Drop, S: Alter>(
-    connection: &mut Connection<S>,
+pub fn lines_at<L: PlacedRow + Drop, S: Alter, P: Shelf>(
+    connection: &mut Connection<S, P>,
     alloc: Global,
     keys: &Keys<'_>,
     place: &Place,
     count: u64,
 ) -> Result<Vec<L>, Trouble>
-    requires inside { InTransaction S.Store connection.old }
+    requires inside { InTransaction S.Store P.Shelf connection.old }
     requires small { count < 2 ^ 63 }
-    ensures reads { MayRead S.Store connection.old connection.new result }
-    ensures lines { IfOk result (λ lines. IsClean S.Store connection.new → (rs : List L.FromRow.Of)
+    ensures reads { MayRead S.Store P.Shelf connection.old connection.new result }
+    ensures lines { IfOk result (λ lines. IsClean S.Store P.Shelf connection.new → (rs : List L.FromRow.Of)
         → rows_placed L.rows keys.now.tenant.now keys.now.bucket.now place.now.key.items place.now.after keys.now.upto.now count
-        (tables S.Store connection.old) ≡ map (L.FromRow.columns).shown rs
+        (tables S.Store P.Shelf connection.old) ≡ map (L.FromRow.columns).shown rs
         → map (L.FromRow.columns).see lines.items ≡ map (L.FromRow.columns).told rs) }
 {
-    let rows = placed_rows::<L, S>(connection, keys, place, count)?;
+    let rows = placed_rows::<L, S, P>(connection, keys, place, count)?;
     or_trouble(read_rows(alloc, &rows))
 }

@@ -4,7 +4,7 @@ ghost use Rattle.std.specs.Prelude.{◌≡◌, map, option_map, Some, IfOk};
 ghost use Rattle.bh_types.specs.declared.wanted.Wanted.TheVariants.{Named};
 ghost use Rattle.bh_view.specs.Wanted.{wanted_row};
 ghost use Rattle.bh_schema.specs.Calls.{MayRead};
-ghost use Rattle.bh_schema.specs.Connections.{IsClean, tables, StaysWithin, StaysOpen};
+ghost use Rattle.bh_base.specs.Connections.{IsClean, tables, StaysWithin, StaysOpen};
 ghost use Rattle.bh_schema.specs.Working.{Works, StillWorks};
 ghost use Rattle.bh_model.specs.Listings.{list_versions};
 ghost use Rattle.bh_model.specs.Operations.{Versions};
@@ -19,6 +19,7 @@ ghost use Rattle.bh_listing.specs.Versions.{place_view};
 
 use crate::rows::{Keys, lines_at};
 use crate::tell::tell;
+use bh_base::connection::Connection;
 use bh_docs::VersionsPage;
 use bh_objects::ids::number_of;
 use bh_objects::reads::bucket_state;
@@ -27,13 +28,14 @@ use bh_pages::places::Place;
 use bh_pages::versions::{ShownVersion, VersionLine, VersionReading};
 use bh_schema::rows::versions::version_of_id;
 use bh_schema::trouble::or_trouble;
+use bh_shelf::shelf::Shelf;
 use bh_storage::error::{StepError, Trouble};
 use bh_types::bucket::BucketName;
 use bh_types::id::VersionId;
 use bh_types::names::TenantName;
 use bh_types::refusal::Refusal;
 use bh_types::wanted::Wanted;
-use sqlite::{Alter, Connection};
+use sqlite::Alter;
 use std::alloc::{AllocError, Global};
 
 /// The position at which a page begins.
@@ -89,18 +91,18 @@ fn start_older(alloc: Global, key: &[u8], seq: u64) -> Result<Start, AllocError>
 }
 
 /// The entry number of a key's version with this id, if there is one.
-fn seq_of<S: Alter>(
-    connection: &mut Connection<S>,
+fn seq_of<S: Alter, P: Shelf>(
+    connection: &mut Connection<S, P>,
     tenant: &str,
     bucket: &str,
     key: &[u8],
     id: VersionId,
 ) -> Result<Option<u64>, Trouble>
-    requires { Works S.Store connection.old }
-    ensures reads { MayRead S.Store connection.old connection.new result }
-    ensures seq { IfOk result (λ seq. IsClean S.Store connection.new
+    requires { Works S.Store P.Shelf connection.old }
+    ensures reads { MayRead S.Store P.Shelf connection.old connection.new result }
+    ensures seq { IfOk result (λ seq. IsClean S.Store P.Shelf connection.new
         → seq ≡ option_map (λ v. v.seq)
-        (wanted_row tenant.now bucket.now key.now (Named id) (tables S.Store connection.old).versions)) }
+        (wanted_row tenant.now bucket.now key.now (Named id) (tables S.Store P.Shelf connection.old).versions)) }
 {
     let Some(number) = number_of(id) else {
         return Ok(None);
@@ -112,20 +114,20 @@ fn seq_of<S: Alter>(
 }
 
 /// The position of the page after a marker. The marker's version may be missing.
-fn start_of<S: Alter>(
-    connection: &mut Connection<S>,
+fn start_of<S: Alter, P: Shelf>(
+    connection: &mut Connection<S, P>,
     alloc: Global,
     tenant: &str,
     bucket: &str,
     asked: &PageAsked<'_>,
     version: Wanted,
 ) -> Result<Start, Trouble>
-    requires working { Works S.Store connection.old }
-    ensures reads { MayRead S.Store connection.old connection.new result }
+    requires working { Works S.Store P.Shelf connection.old }
+    ensures reads { MayRead S.Store P.Shelf connection.old connection.new result }
     ensures under { IfOk result (λ start. IsUnder asked.now.prefix.now start.place.key.items start.place.after) }
-    ensures begins { IfOk result (λ start. IsClean S.Store connection.new
-        → listed_from asked.now (seen_start start) (own_rows tenant.now bucket.now (tables S.Store connection.old).versions)
-        ≡ versions_of_rows asked.now version (own_rows tenant.now bucket.now (tables S.Store connection.old).versions)) }
+    ensures begins { IfOk result (λ start. IsClean S.Store P.Shelf connection.new
+        → listed_from asked.now (seen_start start) (own_rows tenant.now bucket.now (tables S.Store P.Shelf connection.old).versions)
+        ≡ versions_of_rows asked.now version (own_rows tenant.now bucket.now (tables S.Store P.Shelf connection.old).versions)) }
 {
     let Some((key, id)) = marked_version(asked, version) else {
         return Ok(start_past(alloc, asked)?);
@@ -137,20 +139,20 @@ fn start_of<S: Alter>(
 }
 
 /// The entries of a page of a bucket's versions from here on, and one more if there is one.
-fn gather_versions<S: Alter>(
-    connection: &mut Connection<S>,
+fn gather_versions<S: Alter, P: Shelf>(
+    connection: &mut Connection<S, P>,
     alloc: Global,
     tenant: &str,
     bucket: &str,
     asked: &PageAsked<'_>,
     start: Start,
 ) -> Result<Vec<Listed<ShownVersion>>, Trouble>
-    requires working { Works S.Store connection.old }
+    requires working { Works S.Store P.Shelf connection.old }
     requires under { IsUnder asked.now.prefix.now start.place.key.items start.place.after }
-    ensures reads { MayRead S.Store connection.old connection.new result }
-    ensures gathered { IfOk result (λ entries. IsClean S.Store connection.new
+    ensures reads { MayRead S.Store P.Shelf connection.old connection.new result }
+    ensures gathered { IfOk result (λ entries. IsClean S.Store P.Shelf connection.new
         → IsPage asked.now.max (map seen_entry entries.items)
-        (listed_from asked.now (seen_start start) (own_rows tenant.now bucket.now (tables S.Store connection.old).versions))) }
+        (listed_from asked.now (seen_start start) (own_rows tenant.now bucket.now (tables S.Store P.Shelf connection.old).versions))) }
 {
     let upto = past(alloc, asked.prefix, 255)?;
     let keys = Keys {
@@ -176,19 +178,19 @@ fn gather_versions<S: Alter>(
 }
 
 /// The entries of a page of a bucket's versions, and one more if there is one.
-fn page_entries<S: Alter>(
-    connection: &mut Connection<S>,
+fn page_entries<S: Alter, P: Shelf>(
+    connection: &mut Connection<S, P>,
     alloc: Global,
     tenant: &str,
     bucket: &str,
     asked: &PageAsked<'_>,
     version: Wanted,
 ) -> Result<Vec<Listed<ShownVersion>>, Trouble>
-    requires working { Works S.Store connection.old }
-    ensures reads { MayRead S.Store connection.old connection.new result }
-    ensures gathered { IfOk result (λ entries. IsClean S.Store connection.new
+    requires working { Works S.Store P.Shelf connection.old }
+    ensures reads { MayRead S.Store P.Shelf connection.old connection.new result }
+    ensures gathered { IfOk result (λ entries. IsClean S.Store P.Shelf connection.new
         → IsPage asked.now.max (map seen_entry entries.items)
-        (versions_of_rows asked.now version (own_rows tenant.now bucket.now (tables S.Store connection.old).versions))) }
+        (versions_of_rows asked.now version (own_rows tenant.now bucket.now (tables S.Store P.Shelf connection.old).versions))) }
 {
     let start = start_of(connection, alloc, tenant, bucket, asked, version)?;
     gather_versions(connection, alloc, tenant, bucket, asked, start)
@@ -196,22 +198,22 @@ fn page_entries<S: Alter>(
 
 /// S3's ListObjectVersions: a page of a bucket's versions and delete markers. Refusal:
 /// NoSuchBucket.
-pub fn list_versions<S: Alter>(
-    connection: &mut Connection<S>,
+pub fn list_versions<S: Alter, P: Shelf>(
+    connection: &mut Connection<S, P>,
     alloc: Global,
     tenant: &TenantName,
     bucket: &BucketName,
     asked: &PageAsked<'_>,
     version: Wanted,
 ) -> Result<VersionsPage, StepError<Refusal>>
-    requires working { Works S.Store connection.old }
-    ensures within { StaysWithin S.Store connection.old connection.new }
-    ensures opens { Unless result (StaysOpen S.Store connection.old connection.new) }
-    ensures working { Unless result (StillWorks S.Store connection.old connection.new) }
-    ensures carries { IsClean S.Store connection.new
+    requires working { Works S.Store P.Shelf connection.old }
+    ensures within { StaysWithin S.Store P.Shelf connection.old connection.new }
+    ensures opens { Unless result (StaysOpen S.Store P.Shelf connection.old connection.new) }
+    ensures working { Unless result (StillWorks S.Store P.Shelf connection.old connection.new) }
+    ensures carries { IsClean S.Store P.Shelf connection.new
         → Carries (λ page. Versions (versions_view page)) tenant.now
         (list_versions bucket.now (asked_view asked.now) (place_view asked.now version))
-        (tables S.Store connection.old) (tables S.Store connection.new) result }
+        (tables S.Store P.Shelf connection.old) (tables S.Store P.Shelf connection.new) result }
 {
     bucket_state(connection, tenant, bucket)?;
     let entries = page_entries(

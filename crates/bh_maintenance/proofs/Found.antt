@@ -18,7 +18,7 @@ use Rattle.bh_tables.specs.Schema.{Octets, first_schema, second_schema, third_sc
 use Rattle.bh_tables.specs.Typed.{Tables}
 use Rattle.bh_tables.proofs.HostTests.{opened_host, other_schema, unlike_second, unlike_third, unlike_fourth, second_unlike_first, third_unlike_first, third_unlike_second, fourth_unlike_first, fourth_unlike_second, fourth_unlike_third}
 use Rattle.bh_view.specs.Bodies.{IsSoundHost}
-use Rattle.bh_schema.specs.Layer.{standing, IsIntact, IsOpen, IsStateClean, KeepsDisk}
+use Rattle.bh_base.specs.Layer.{standing, IsIntact, IsOpen, IsStateClean, KeepsDisk}
 use Rattle.bh_schema.specs.Storage.{seen_in}
 use Rattle.bh_blocks.specs.Digests.{digest_by}
 use Rattle.bh_migration.specs.Migration.{Settles}

@@ -6,4 +6,5 @@ mod Moving
 mod Opened
 pub mod Refused
 mod Saved
+mod Standing
 mod Verdicts

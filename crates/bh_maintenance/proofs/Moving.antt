@@ -18,8 +18,8 @@ use Rattle.bh_tables.proofs.HostTests.{host_shows}
 use Rattle.bh_view.specs.Bodies.{IsSoundHost}
 use Rattle.bh_view.specs.View.{view, latest_of, limits_in}
 use Rattle.bh_storage.specs.Calls.{IsAtRest}
-use Rattle.bh_schema.specs.Connections.{tables}
-use Rattle.bh_schema.specs.Layer.{Standing, standing, IsStateClean, KeepsDisk, Unwinds, taken_back}
+use Rattle.bh_base.specs.Databases.{tables}
+use Rattle.bh_base.specs.Layer.{Standing, standing, IsStateClean, KeepsDisk, Unwinds, taken_back}
 use Rattle.bh_schema.specs.Storage.{shown, seen_in}
 use Rattle.bh_schema.proofs.Storing.{sound_host}
 use Rattle.bh_blocks.specs.Digests.{digest_by}

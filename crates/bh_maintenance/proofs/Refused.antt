@@ -6,7 +6,7 @@ use Rattle.sqlite.specs.State.{State}
 use Rattle.bh_types.specs.Limits.{HostLimits}
 use Rattle.bh_types.specs.declared.refusal.Refusal.{Refusal}
 use Rattle.bh_types.specs.declared.refusal.Refusal.TheVariants.{NotAHostFile, Unavailable}
-use Rattle.bh_schema.specs.Layer.{standing, IsOpen, IsStateClean, KeepsDisk, LeavesNothingNew, taken_back}
+use Rattle.bh_base.specs.Layer.{standing, IsOpen, IsStateClean, KeepsDisk, LeavesNothingNew, taken_back}
 use Rattle.bh_open.specs.Opening.{IsHostOf, LeavesOver}
 use Rattle.bh_maintenance.specs.Printing.{IsRefusal}
 use Rattle.bh_maintenance.specs.Found.{IsNotFound}

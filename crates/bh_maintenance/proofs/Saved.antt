@@ -10,7 +10,7 @@ use Rattle.sqlite.specs.Closing.{HoldsAlone, IsCopied}
 use Rattle.sqlite.specs.Effect.{Database}
 use Rattle.sqlite.specs.Files.{file_state, image_of}
 use Rattle.sqlite.specs.Held.{Held}
-use Rattle.bh_schema.specs.Layer.{Standing, standing, IsIntact, IsOpen, IsStateClean}
+use Rattle.bh_base.specs.Layer.{Standing, standing, IsIntact, IsOpen, IsStateClean}
 use Rattle.bh_tables.specs.Schema.{host_schema}
 use Rattle.bh_file.specs.Opened.{IsOpenedOn}
 use Rattle.bh_backup.specs.Copies.{IsFileOf}

@@ -11,7 +11,7 @@ use Rattle.bh_tables.specs.Typed.{HostRow, tables_in}
 use Rattle.bh_tables.proofs.HostTests.{host_opens, first_opens, second_opens, third_opens, fourth_opens, opened_host, other_schema, unlike_second, unlike_third, unlike_fourth, second_unlike_first, third_unlike_first, third_unlike_second, fourth_unlike_first, fourth_unlike_second, fourth_unlike_third}
 use Rattle.bh_view.specs.Bodies.{IsSoundHost}
 use Rattle.bh_view.specs.Grouped.{first}
-use Rattle.bh_schema.specs.Layer.{Standing, standing, IsStateClean, KeepsDisk}
+use Rattle.bh_base.specs.Layer.{Standing, standing, IsStateClean, KeepsDisk}
 use Rattle.bh_blocks.specs.Digests.{digest_by}
 use Rattle.bh_open.specs.Opening.{digest_in, Tells}
 use Rattle.bh_open.specs.Versions.{schema_of, IsHostsSchema, IsHostWith}

@@ -10,7 +10,7 @@ use Rattle.sqlite.specs.Files.{file_state}
 use Rattle.sqlite.specs.Held.{Held}
 use Rattle.bh_types.specs.declared.refusal.Refusal.TheVariants.{NotAHostFile}
 use Rattle.bh_tables.specs.Schema.{host_schema}
-use Rattle.bh_schema.specs.Layer.{standing}
+use Rattle.bh_base.specs.Layer.{standing}
 use Rattle.bh_file.specs.Opened.{IsOpenedOn}
 use Rattle.bh_backup.specs.Copies.{IsFileOf}
 use Rattle.bh_maintenance.specs.Printing.{IsLine, IsRefusal}

@@ -12,7 +12,7 @@ use Rattle.sqlite.specs.Held.{Held, state}
 use Rattle.bh_tables.specs.Hosts.{tables_opened}
 use Rattle.bh_tables.specs.Schema.{Octets}
 use Rattle.bh_view.specs.Bodies.{IsSoundHost}
-use Rattle.bh_schema.specs.Layer.{standing, IsStateClean}
+use Rattle.bh_base.specs.Layer.{standing, IsStateClean}
 use Rattle.bh_file.specs.Opened.{IsOpenedOn}
 use Rattle.bh_maintenance.specs.Printing.{IsLine}
 use Rattle.bh_maintenance.specs.Found.{IsSoundByItsRow}

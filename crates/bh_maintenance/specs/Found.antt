@@ -14,7 +14,7 @@ use Rattle.bh_tables.specs.Typed.{Tables}
 use Rattle.bh_view.specs.Bodies.{IsSoundHost}
 use Rattle.bh_view.specs.View.{latest_of}
 use Rattle.bh_storage.specs.Calls.{IsAtRest}
-use Rattle.bh_schema.specs.Layer.{standing, IsOpen, IsStateClean, KeepsDisk, LeavesNothingNew, Unwinds}
+use Rattle.bh_base.specs.Layer.{standing, IsOpen, IsStateClean, KeepsDisk, LeavesNothingNew, Unwinds}
 use Rattle.bh_schema.specs.Storage.{seen_in}
 use Rattle.bh_migration.specs.Migration.{Settles}
 use Rattle.bh_open.specs.Opening.{digest_in, IsHostOf, LeavesOver}

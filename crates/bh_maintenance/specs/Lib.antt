@@ -4,5 +4,6 @@ pub mod Clocks
 pub mod Endings
 pub mod Files
 pub mod Found
+pub mod Joined
 pub mod Moves
 pub mod Printing

@@ -22,7 +22,7 @@ use Rattle.bh_tables.specs.Schema.{Octets}
 use Rattle.bh_tables.specs.Typed.{TenantRow, Tables}
 use Rattle.bh_view.specs.Bodies.{IsSoundHost}
 use Rattle.bh_view.specs.View.{view, latest_of, limits_in}
-use Rattle.bh_schema.specs.Layer.{standing, IsStateClean, KeepsDisk, Unwinds}
+use Rattle.bh_base.specs.Layer.{standing, IsStateClean, KeepsDisk, Unwinds}
 use Rattle.bh_create.specs.Creation.{IsNewHost}
 use Rattle.bh_blocks.specs.Digests.{digest_by}
 use Rattle.bh_tenant_rows.specs.Brought.{IsBrought}

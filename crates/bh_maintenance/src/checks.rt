@@ -6,7 +6,7 @@ ghost use Rattle.sqlite.specs.Held.{state};
 ghost use Rattle.sqlite_trees.specs.View.{IsClean};
 ghost use Rattle.sqlite_wal.specs.Files.{image_at};
 ghost use Rattle.bh_blocks.specs.Digests.{digest_by};
-ghost use Rattle.bh_schema.specs.Layer.{IsStateClean};
+ghost use Rattle.bh_base.specs.Layer.{IsStateClean};
 ghost use Rattle.bh_open.specs.Versions.{IsHostsSchema};
 ghost use Rattle.bh_maintenance.specs.Checks.{IsVerdict, IsSoundBy, IsFoundSound, IsChecked};
 

@@ -5,6 +5,7 @@ ghost use Rattle.sqlite.specs.Files.{over_files};
 ghost use Rattle.sqlite_wal.specs.Files.{image_at};
 ghost use Rattle.bh_maintenance.specs.Files.{HoldsSoundHost};
 ghost use Rattle.bh_maintenance.specs.Found.{IsReadyByRow};
+ghost use Rattle.bh_maintenance.specs.Joined.{alone};
 ghost use Rattle.bh_maintenance.specs.Moves.{IsLike, Exports, ExportsTo, SavesMoved, IsExportedFrom, IsExported};
 ghost use Rattle.bh_maintenance.specs.Printing.{IsFault};
 
@@ -12,15 +13,18 @@ use crate::ending::{Done, Ended, let_go};
 use crate::fault::Fault;
 use crate::files::{host_in, open};
 use crate::hosts::why_not_found;
+use crate::joined::Joined;
 use crate::leftovers::Making;
 use crate::moves::move_and_tell;
 use crate::printed::Printed;
 use crate::remarks::tell;
 use bh_backup::{BackupFault, Saved, refuse_foreign, refuse_taken, save};
+use bh_base::connection::Connection as Packed;
 use bh_blocks::digester::Sha256Digester;
 use bh_create::create;
 use bh_file::{HostFile, Meter, Work};
 use bh_open::Opened;
+use bh_shelf::no_shelf::NoShelf;
 use bh_types::limits::Tuning;
 use sqlite::{Alter, Connection, FileStore, Files, Start};
 use sqlite_disk::Disk;
@@ -70,16 +74,20 @@ fn or_unsaved(rt: &HostRuntime, to: &str, outcome: Result<(), BackupFault>) -> R
 /// A new host in an empty database, with another host's limits and digest function, or `fault`.
 fn host_like<S: Alter + Drop, T: Alter + Drop>(
     rt: &HostRuntime,
-    host: &Opened<S>,
+    host: &Joined<S>,
     path: &str,
     connection: Connection<T>,
-) -> Result<Result<Opened<T>, Done<T>>, AllocError>
-    ensures { IfOk result (λ made. MatchResult made (IsLike T.Store host.now) (λ done. IsFault done.printed)) }
+) -> Result<Result<Joined<T>, Done<T>>, AllocError>
+    ensures { IfOk result (λ made. MatchResult made (λ it. IsLike T.Store (alone host.now) (alone it)) (λ done. IsFault done.printed)) }
 {
     // There are no blocks yet, so any digester will do.
     let (limits, tuning) = (host.limits, Tuning::default());
+    let connection = Packed {
+        database: connection,
+        packs: NoShelf,
+    };
     match create(connection, Sha256Digester, host.digest, limits, tuning) {
-        Ok(made) => Ok(Ok(Opened {
+        Ok(made) => Ok(Ok(Joined {
             connection: made.into_connection(),
             limits,
             tuning,
@@ -90,7 +98,7 @@ fn host_like<S: Alter + Drop, T: Alter + Drop>(
             tell(rt, path, &why_not_found(None, error.cause));
             Ok(Err(Done {
                 printed: Printed::fault(rt.alloc())?,
-                connection: error.connection,
+                connection: error.connection.database,
             }))
         }
     }
@@ -99,14 +107,15 @@ fn host_like<S: Alter + Drop, T: Alter + Drop>(
 /// Copies a tenant of a host to a new one with the same settings, and prints `export`.
 fn bring_to<S: Alter + Drop, T: Alter + Drop>(
     rt: &HostRuntime,
-    host: &mut Opened<S>,
+    host: &mut Joined<S>,
     path: &str,
-    made: Opened<T>,
+    made: Joined<T>,
     tenant: &str,
 ) -> Result<Done<T>, AllocError>
-    requires host { IsReadyByRow S.Store host.old }
-    requires made { IsLike T.Store host.old made }
-    ensures { IfOk result (λ done. Exports S.Store tenant.now host.old host.new.connection done.printed T.Store done.connection) }
+    requires host { IsReadyByRow S.Store (alone host.old) }
+    requires made { IsLike T.Store (alone host.old) (alone made) }
+    ensures { IfOk result (λ done. Exports S.Store tenant.now (alone host.old) host.new.connection.database done.printed T.Store
+        done.connection) }
 {
     let mut made = made;
     let line = Printed::line(rt.alloc(), b"export")?;
@@ -114,20 +123,21 @@ fn bring_to<S: Alter + Drop, T: Alter + Drop>(
     let printed = move_and_tell(rt, path, host, &mut made, tenant, line, meter)?;
     Ok(Done {
         printed,
-        connection: made.connection,
+        connection: made.connection.database,
     })
 }
 
 /// Copies a tenant to a new host in an empty database.
 fn fill<S: Alter + Drop, T: Alter + Drop>(
     rt: &HostRuntime,
-    host: &mut Opened<S>,
+    host: &mut Joined<S>,
     path: &str,
     connection: Connection<T>,
     tenant: &str,
 ) -> Result<Done<T>, AllocError>
-    requires { IsReadyByRow S.Store host.old }
-    ensures { IfOk result (λ done. Exports S.Store tenant.now host.old host.new.connection done.printed T.Store done.connection) }
+    requires { IsReadyByRow S.Store (alone host.old) }
+    ensures { IfOk result (λ done. Exports S.Store tenant.now (alone host.old) host.new.connection.database done.printed T.Store
+        done.connection) }
 {
     match host_like(rt, host, path, connection)? {
         Ok(made) => bring_to(rt, host, path, made, tenant),
@@ -169,15 +179,15 @@ fn save_moved<D: Disk + Drop, W: Start>(
 /// Fills the file in which the tenant's host is made, and copies it to the new one.
 fn export_to<S: Alter + Drop, U: Start, W: Start>(
     rt: &HostRuntime,
-    host: &mut Opened<S>,
+    host: &mut Joined<S>,
     path: &str,
     tenant: &str,
     to: &str,
     made_start: U,
     to_start: W,
 ) -> Result<Made<HostFile<U>, HostFile<W>>, Fault>
-    requires { IsReadyByRow S.Store host.old }
-    ensures { IfOk result (λ it. ExportsTo S.Store tenant.now host.old host.new.connection it.printed
+    requires { IsReadyByRow S.Store (alone host.old) }
+    ensures { IfOk result (λ it. ExportsTo S.Store tenant.now (alone host.old) host.new.connection.database it.printed
         ⟦<HostFile<U> as Disk>⟧ ⟦<HostFile<W> as Disk>⟧ it.files it.copy) }
 {
     let connection = open(rt, path, made_start)?;
@@ -199,7 +209,7 @@ fn export_from<D: Disk + Drop, U: Start, W: Start>(
     ensures { IfOk result (λ it. MatchOption it.files ⊥ (IsExportedFrom ⟦<HostFile<U> as Disk>⟧ ⟦<HostFile<W> as Disk>⟧
         tenant.now host it.printed it.made it.copy)) }
 {
-    let mut host = host;
+    let mut host = Joined::of(host);
     let making = Making::of(rt, to)?;
     or_unsaved(rt, to, making.clear(rt))?;
     let path = making.file.as_str();
@@ -212,7 +222,7 @@ fn export_from<D: Disk + Drop, U: Start, W: Start>(
     } = outcome?;
     Ok(Exported {
         printed,
-        files: Some(let_go(host.connection)),
+        files: Some(let_go(host.connection.database)),
         made: files,
         copy,
     })

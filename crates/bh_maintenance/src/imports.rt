@@ -8,6 +8,7 @@ ghost use Rattle.bh_blocks.specs.Digests.{digest_by};
 ghost use Rattle.bh_maintenance.specs.Clocks.{is_beyond, moment_of};
 ghost use Rattle.bh_maintenance.specs.Files.{HoldsSoundHost};
 ghost use Rattle.bh_maintenance.specs.Found.{IsReadyByRow};
+ghost use Rattle.bh_maintenance.specs.Joined.{alone};
 ghost use Rattle.bh_maintenance.specs.Moves.{Stays, TellsName, HasNoName, IsOneName, Imports, IsImportedInto, ImportsTo, IsImportedOf};
 ghost use Rattle.bh_maintenance.specs.Moves.{IsImported};
 ghost use Rattle.bh_maintenance.specs.Printing.{IsLine};
@@ -16,6 +17,7 @@ use crate::clocks::{ClockRead, is_beyond, moment_of};
 use crate::ending::{Done, Ended, close, leave, let_go};
 use crate::fault::Fault;
 use crate::files::host_in;
+use crate::joined::Joined;
 use crate::moves::move_and_tell;
 use crate::printed::Printed;
 use crate::remarks::{Ahead, Remark, tell};
@@ -77,14 +79,14 @@ fn name_or_told(
 fn name_in<S: Alter + Drop>(
     rt: &HostRuntime,
     path: &str,
-    host: &mut Opened<S>,
+    host: &mut Joined<S>,
 ) -> Result<Result<String, Printed>, AllocError>
-    requires { IsReadyByRow S.Store host.old }
+    requires { IsReadyByRow S.Store (alone host.old) }
     ensures same { host.new ≡ record host.old { connection = host.new.connection } }
-    ensures stays { Stays S.Store host.old.connection host.new.connection }
+    ensures stays { Stays S.Store host.old.connection.database host.new.connection.database }
     ensures name { IfOk result (λ found. MatchResult found
-        (λ name. IsOneName S.Store host.old.connection host.new.connection (string_bytes name))
-        (HasNoName S.Store host.old.connection host.new.connection)) }
+        (λ name. IsOneName S.Store host.old.connection.database host.new.connection.database (string_bytes name))
+        (HasNoName S.Store host.old.connection.database host.new.connection.database)) }
 {
     let found = sole_tenant(&mut host.connection);
     name_or_told(rt, path, found)
@@ -104,15 +106,16 @@ fn import_one<S: Alter + Drop, T: Alter + Drop>(
     rt: &HostRuntime,
     path: &str,
     from_path: &str,
-    from: &mut Opened<S>,
-    to: &mut Opened<T>,
+    from: &mut Joined<S>,
+    to: &mut Joined<T>,
     clock: ClockRead,
 ) -> Result<Printed, AllocError>
-    requires from { IsReadyByRow S.Store from.old }
-    requires to { IsReadyByRow T.Store to.old }
+    requires from { IsReadyByRow S.Store (alone from.old) }
+    requires to { IsReadyByRow T.Store (alone to.old) }
     requires limits { from.old.limits ≡ to.old.limits }
     requires in_time { is_beyond clock.leap (moment_of clock to.old.latest) from.old.latest ≡ false }
-    ensures { IfOk result (Imports clock S.Store T.Store from.old to.old from.new.connection to.new.connection) }
+    ensures { IfOk result (Imports clock S.Store T.Store (alone from.old) (alone to.old) from.new.connection.database
+        to.new.connection.database) }
 {
     match name_in(rt, from_path, from)? {
         Ok(tenant) => {
@@ -131,13 +134,14 @@ fn import_from<S: Alter + Drop, T: Alter + Drop>(
     rt: &HostRuntime,
     path: &str,
     from_path: &str,
-    from: &mut Opened<S>,
-    to: &mut Opened<T>,
+    from: &mut Joined<S>,
+    to: &mut Joined<T>,
     clock: ClockRead,
 ) -> Result<Printed, AllocError>
-    requires from { IsReadyByRow S.Store from.old }
-    requires to { IsReadyByRow T.Store to.old }
-    ensures { IfOk result (Imports clock S.Store T.Store from.old to.old from.new.connection to.new.connection) }
+    requires from { IsReadyByRow S.Store (alone from.old) }
+    requires to { IsReadyByRow T.Store (alone to.old) }
+    ensures { IfOk result (Imports clock S.Store T.Store (alone from.old) (alone to.old) from.new.connection.database
+        to.new.connection.database) }
 {
     if from.limits != to.limits {
         tell(rt, from_path, &Remark::OtherLimits);
@@ -160,20 +164,20 @@ fn import_into<S: Alter + Drop, D: Disk + Drop>(
     rt: &HostRuntime,
     path: &str,
     from_path: &str,
-    from: &mut Opened<S>,
+    from: &mut Joined<S>,
     to: Opened<FileStore<D>>,
     clock: ClockRead,
 ) -> Result<Ended<D>, AllocError>
-    requires from { IsReadyByRow S.Store from.old }
+    requires from { IsReadyByRow S.Store (alone from.old) }
     requires to { IsReadyByRow over_files to }
     ensures { IfOk result (λ ended. MatchOption ended.files ⊥
-        (IsImportedInto clock S.Store from.old from.new.connection to ended.printed)) }
+        (IsImportedInto clock S.Store (alone from.old) from.new.connection.database to ended.printed)) }
 {
-    let mut to = to;
+    let mut to = Joined::of(to);
     let printed = import_from(rt, path, from_path, from, &mut to, clock)?;
     let (printed, left) = leave(Done {
         printed,
-        connection: to.connection,
+        connection: to.connection.database,
     });
     Ok(Ended {
         printed,
@@ -187,13 +191,13 @@ fn import_to<F: Alter + Drop, S: Start>(
     path: &str,
     start: S,
     from_path: &str,
-    from: &mut Opened<F>,
+    from: &mut Joined<F>,
     clock: ClockRead,
 ) -> Result<Ended<HostFile<S>>, Fault>
     requires host { HoldsSoundHost (image_at S.Start) }
-    requires from { IsReadyByRow F.Store from.old }
-    ensures { IfOk result (λ ended. ImportsTo clock F.Store from.old from.new.connection ⟦<HostFile<S> as Disk>⟧ (image_at S.Start)
-        ended.printed ended.files) }
+    requires from { IsReadyByRow F.Store (alone from.old) }
+    ensures { IfOk result (λ ended. ImportsTo clock F.Store (alone from.old) from.new.connection.database ⟦<HostFile<S> as Disk>⟧
+        (image_at S.Start) ended.printed ended.files) }
 {
     match host_in(rt, path, start)? {
         Ok(to) => Ok(import_into(rt, path, from_path, from, to, clock)?),
@@ -215,12 +219,12 @@ fn import_given<E: Disk + Drop, S: Start>(
     ensures { IfOk result (λ it. MatchOption it.given ⊥ (IsImportedOf clock from ⟦<HostFile<S> as Disk>⟧ (image_at S.Start)
         it.printed it.files)) }
 {
-    let mut from = from;
+    let mut from = Joined::of(from);
     let Ended { printed, files } = import_to(rt, path, start, from_path, &mut from, clock)?;
     Ok(Imported {
         printed,
         files,
-        given: Some(let_go(from.connection)),
+        given: Some(let_go(from.connection.database)),
     })
 }
 

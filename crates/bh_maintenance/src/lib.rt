@@ -11,6 +11,7 @@ pub mod fault;
 pub mod files;
 pub mod hosts;
 mod imports;
+mod joined;
 mod leftovers;
 mod moves;
 pub mod printed;

@@ -3,15 +3,16 @@
 ghost use Rattle.std.specs.Prelude.{IfOk};
 ghost use Rattle.bh_blocks.specs.Digests.{digest_by};
 ghost use Rattle.bh_maintenance.specs.Found.{IsReadyBy};
+ghost use Rattle.bh_maintenance.specs.Joined.{alone};
 ghost use Rattle.bh_maintenance.specs.Moves.{Tells, Moves, TellsMove};
 
 use crate::counted::Counted;
+use crate::joined::Joined;
 use crate::printed::Printed;
 use crate::remarks::{Remark, tell};
 use bh_blocks::digester::{FastDigester, Sha256Digester};
 use bh_file::Meter;
 use bh_moved::move_tenant;
-use bh_open::Opened;
 use bh_schema::host::Digester;
 use bh_types::block_digest::BlockDigest;
 use bh_types::limits::Tuning;
@@ -21,16 +22,16 @@ use std::alloc::{AllocError, Global};
 
 /// Moves a tenant into a host, with the digester of its blocks.
 fn move_with<S: Alter + Drop, T: Alter + Drop, D: Digester>(
-    from: &mut Opened<S>,
-    to: &mut Opened<T>,
+    from: &mut Joined<S>,
+    to: &mut Joined<T>,
     alloc: Global,
     digester: &D,
     tenant: &str,
 ) -> Result<Option<Refusal>, Error>
-    requires from { IsReadyBy S.Store (digest_by from.old.digest) from.old }
-    requires to { IsReadyBy T.Store D.digest_of to.old }
-    ensures { Moves S.Store T.Store from.old.connection to.old.connection from.new.connection to.new.connection
-        D.digest_of tenant.now result }
+    requires from { IsReadyBy S.Store (digest_by from.old.digest) (alone from.old) }
+    requires to { IsReadyBy T.Store D.digest_of (alone to.old) }
+    ensures { Moves S.Store T.Store from.old.connection.database to.old.connection.database from.new.connection.database
+        to.new.connection.database D.digest_of tenant.now result }
 {
     let size = Tuning::default().block_size;
     move_tenant(
@@ -45,17 +46,17 @@ fn move_with<S: Alter + Drop, T: Alter + Drop, D: Digester>(
 
 /// Moves a tenant into a host, and counts the bytes of its blocks.
 fn move_by<S: Alter + Drop, T: Alter + Drop, D: Digester>(
-    from: &mut Opened<S>,
-    to: &mut Opened<T>,
+    from: &mut Joined<S>,
+    to: &mut Joined<T>,
     alloc: Global,
     digester: &D,
     tenant: &str,
     meter: Meter,
 ) -> Result<Option<Refusal>, Error>
-    requires from { IsReadyBy S.Store (digest_by from.old.digest) from.old }
-    requires to { IsReadyBy T.Store D.digest_of to.old }
-    ensures { Moves S.Store T.Store from.old.connection to.old.connection from.new.connection to.new.connection
-        D.digest_of tenant.now result }
+    requires from { IsReadyBy S.Store (digest_by from.old.digest) (alone from.old) }
+    requires to { IsReadyBy T.Store D.digest_of (alone to.old) }
+    ensures { Moves S.Store T.Store from.old.connection.database to.old.connection.database from.new.connection.database
+        to.new.connection.database D.digest_of tenant.now result }
 {
     let counted = Counted::new(digester, meter);
     let moved = move_with(from, to, alloc, &counted, tenant);
@@ -65,16 +66,16 @@ fn move_by<S: Alter + Drop, T: Alter + Drop, D: Digester>(
 
 /// Moves a tenant, with the digester of the function in the host's row.
 fn move_by_digest<S: Alter + Drop, T: Alter + Drop>(
-    from: &mut Opened<S>,
-    to: &mut Opened<T>,
+    from: &mut Joined<S>,
+    to: &mut Joined<T>,
     alloc: Global,
     tenant: &str,
     meter: Meter,
 ) -> Result<Option<Refusal>, Error>
-    requires from { IsReadyBy S.Store (digest_by from.old.digest) from.old }
-    requires to { IsReadyBy T.Store (digest_by to.old.digest) to.old }
-    ensures { Moves S.Store T.Store from.old.connection to.old.connection from.new.connection to.new.connection
-        (digest_by to.old.digest) tenant.now result }
+    requires from { IsReadyBy S.Store (digest_by from.old.digest) (alone from.old) }
+    requires to { IsReadyBy T.Store (digest_by to.old.digest) (alone to.old) }
+    ensures { Moves S.Store T.Store from.old.connection.database to.old.connection.database from.new.connection.database
+        to.new.connection.database (digest_by to.old.digest) tenant.now result }
 {
     match to.digest {
         BlockDigest::Sha256 => move_by(from, to, alloc, &Sha256Digester, tenant, meter),
@@ -107,16 +108,16 @@ fn told(
 pub(crate) fn move_and_tell<S: Alter + Drop, T: Alter + Drop>(
     rt: &HostRuntime,
     path: &str,
-    from: &mut Opened<S>,
-    to: &mut Opened<T>,
+    from: &mut Joined<S>,
+    to: &mut Joined<T>,
     tenant: &str,
     line: Printed,
     meter: Meter,
 ) -> Result<Printed, AllocError>
-    requires from { IsReadyBy S.Store (digest_by from.old.digest) from.old }
-    requires to { IsReadyBy T.Store (digest_by to.old.digest) to.old }
-    ensures { IfOk result (TellsMove S.Store T.Store from.old.connection to.old.connection from.new.connection to.new.connection
-        (digest_by to.old.digest) tenant.now line) }
+    requires from { IsReadyBy S.Store (digest_by from.old.digest) (alone from.old) }
+    requires to { IsReadyBy T.Store (digest_by to.old.digest) (alone to.old) }
+    ensures { IfOk result (TellsMove S.Store T.Store from.old.connection.database to.old.connection.database from.new.connection.database
+        to.new.connection.database (digest_by to.old.digest) tenant.now line) }
 {
     let outcome = move_by_digest(from, to, rt.alloc(), tenant, meter);
     told(rt, path, outcome, line)

@@ -3,3 +3,4 @@ mod UnneededText
 mod Texts
 mod Tallied
 mod Made
+mod Adding

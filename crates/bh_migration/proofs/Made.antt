@@ -14,8 +14,8 @@ use Rattle.bh_rows.proofs.CreateLemmas.{Makes}
 use Rattle.bh_rows.proofs.OverLemmas.{makes_over, over_changes}
 use Rattle.bh_tables.specs.Schema.{first_schema, second_schema, third_schema, fourth_schema, host_schema, at, locks_table, packs_table, placed_table, notes_table, upload_notes_table, rights_table, garbage_table, retains_table, tallies_table}
 use Rattle.bh_tables.specs.Typed.{Raw, raw, first_raw, second_raw, third_raw, fourth_raw}
-use Rattle.bh_schema.specs.Layer.{Standing, standing, IsIntact, IsOpen, IsStateClean}
-use Rattle.bh_schema.proofs.Calls.{changes_inside}
+use Rattle.bh_base.specs.Layer.{Standing, standing, IsIntact, IsOpen, IsStateClean}
+use Rattle.bh_base.proofs.Calls.{changes_inside}
 use Rattle.bh_migration.specs.Making.{before, after, IsTextOf, HasMade}
 use Rattle.bh_migration.specs.Migration.{HasSchema, HasRows}
 use Rattle.bh_migration.specs.declared.making.Added.{Added}

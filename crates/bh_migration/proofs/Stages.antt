@@ -2,6 +2,8 @@
 use Rattle.std.proofs.Common.{◌≡◌, ◌⊎◌, inl, inr, ℕ, codes, List, [], true, None, Ok, Err, Result, OnOk, IfErr, IsTrue, refl, sym, ap, subst, ◌∙◌}
 use Rattle.sqlite.specs.Tree.{Trees}
 use Rattle.sqlite.specs.Effect.{Database}
+use Rattle.sqlite.specs.Held.{Held, state}
+use Rattle.sqlite_trees.specs.declared.store.Store.{Ghosts}
 use Rattle.sqlite.specs.State.{State, HasCleanDisk, IsLive, Survives, Executes, CommitsBy}
 use Rattle.sqlite.specs.declared.error.Error.{Error}
 use Rattle.bh_rows.specs.Means.{Changes, is_trouble}
@@ -13,8 +15,9 @@ use Rattle.bh_tables.specs.Typed.{raw, Tables, tables_in, tables_of, first_table
 use Rattle.bh_tables.proofs.HostTests.{host_shows, first_opens, second_opens, third_opens, fourth_opens, second_unlike_first, third_unlike_first, third_unlike_second, fourth_unlike_first, fourth_unlike_second, fourth_unlike_third}
 use Rattle.bh_tables.proofs.HostTexts.{version_set, version_may}
 use Rattle.bh_tables.proofs.Places.{host as hosts, host_is, orderly}
-use Rattle.bh_schema.specs.Layer.{Standing, standing, IsIntact, IsOpen, IsStateClean, Holds, KeepsDisk, StateWithin, LeavesNothingNew, Leaves}
-use Rattle.bh_schema.proofs.Calls.{Write, changes_inside, updated}
+use Rattle.bh_base.specs.Layer.{Standing, standing, IsIntact, IsOpen, IsStateClean, IsInside, Holds, KeepsDisk, StateWithin, LeavesNothingNew, Leaves}
+use Rattle.bh_base.proofs.Calls.{Write, write, ready, changes_inside}
+use Rattle.bh_tables.proofs.Statements.{updated}
 use Rattle.bh_migration.specs.Migration.{earlier_schema, earlier_raw, IsEarlierHost, IsOfEarlier, IsBroughtOver, IsChanged, LeavesChanged, HasSchema, HasRows, HoldsUntallied, Brings}
 use Rattle.bh_migration.specs.declared.Earlier.{Earlier}
 use Rattle.bh_migration.specs.declared.Earlier.TheVariants.{First, Second, Third, Fourth}
@@ -56,7 +59,9 @@ module _ (old new : State) where
 
     -- of a host's rows
     wrote : (IsStateClean old → IsHost (standing old).now) → Write old new brought_over (λ e. is_trouble e ≡ true) result
-    wrote host = updated hosts old new (λ c. record { inside = (all c).inside; host = host c }) (λ t l. refl) result live version_set version_may runs s
+    wrote host =
+        let inside : IsStateClean old → IsInside (standing old) = λ c. record { inside = (all c).inside; host = host c } in
+        write old new _ _ result inside refl (updated (hosts (totals_of (tables_in old.now))) old new (ready old inside) result _ _ runs s live _ _ version_set version_may)
 
     pub version_holds : OnOk result (IsStateClean new → (IsStateClean old → IsHost (standing old).now) → Holds (brought_over (tables_in (standing old).now)) (standing new))
     version_holds = given_ok (IsStateClean new) (IsStateClean old → IsHost (standing old).now) (Holds (brought_over (tables_in (standing old).now)) (standing new)) result (λ host. (wrote host).holds)
@@ -117,3 +122,9 @@ may_leave a b c d same begun first opens within brings follows commits intact db
       | inl was ↦ inl (first i1 db (within.survives (begun i1).1 i2 db was))
       | inr now ↦ inr ((begun i1).0, ((standing c).now, subst (λ (x : Database). IsChanged x (standing c).now) same it.changed, now))
     ]
+
+-- what a crash leaves of an open connection is what was committed
+pub left_kept : {S : Type 0} (g : Ghosts S) (settles : (s : S) (db : Trees) → IsTrue (g.view s).is_open → g.recovers s db → db ≡ (g.view s).committed) (h : Held S) → IsOpen (state g h)
+    → (db : Trees) → Leaves (state g h) db → db ≡ (standing (state g h)).kept.trees
+unfolding standing Leaves IsOpen
+left_kept g settles h up db may = settles h.store db up may

@@ -25,10 +25,9 @@ use Rattle.bh_tables.proofs.GarbageTexts.{garbage_inserted}
 use Rattle.bh_migration.proofs.UnneededText.{unneeded_text, unneeded_means, unneeded_summed}
 use Rattle.bh_tables.proofs.Statements.{told_as, ones, all_pass, selected, summed}
 use Rattle.bh_tables.proofs.TallyTexts.{tally_copied}
-use Rattle.bh_schema.specs.Layer.{standing, IsIntact, IsOpen, IsStateClean, KeepsDisk, StateWithin, HoldsBy}
-use Rattle.bh_schema.proofs.Calls.{asks_within, asks_opens, asks_same, changes_inside}
-use Rattle.bh_schema.proofs.TallyCalls.{adds}
-use Rattle.bh_schema.proofs.GarbageCalls.{adds as weight_turns}
+use Rattle.bh_base.specs.Layer.{standing, IsIntact, IsOpen, IsStateClean, KeepsDisk, StateWithin, HoldsBy}
+use Rattle.bh_base.proofs.Calls.{asks_within, asks_opens, asks_same, changes_inside}
+use Rattle.bh_migration.proofs.Adding.{tally_adds, weight_adds as weight_turns}
 use Rattle.bh_migration.specs.Migration.{HasSchema}
 use Rattle.bh_migration.specs.Tallying.{count_text, how_many, shown_name, HoldsTallies, HoldsUnweighed}
 use Rattle.bh_migration.specs.declared.tallying.Count.{Count}
@@ -160,8 +159,8 @@ module _ (old new : State) (has : IsStateClean old → HasSchema host_schema (st
         go : (r : Result ℕ Error) → (HasCleanDisk new → Executes insert_text params old new r) → OnOk r (IsStateClean new → (t : Tables) (done : List TallyRow) → HoldsTallies t done (standing old) → (name : Octets) → value ≡ Text name → HoldsTallies t (done ++ tally name a b c ∷ []) (standing new))
         go (Err e) ran = tt
         go (Ok n) ran = λ clean t done h name named.
-            let turn = adds old new (λ _. record { sums = record (unweighed (totals_of t)) { tallies = done }; by = h.within }) (Ok n) live (tally_copied name a b c)
-            (subst (λ v. HasCleanDisk new → Executes insert_text (v ∷ number a ∷ number b ∷ number c ∷ []) old new (Ok n)) named ran) (subst (λ v. Survives old new (CommitsBy insert_text (v ∷ number a ∷ number b ∷ number c ∷ []) old)) named survives) in
+            let turn = tally_adds old new (λ _. record { sums = record (unweighed (totals_of t)) { tallies = done }; by = h.within }) (Ok n)
+            (subst (λ v. HasCleanDisk new → Executes insert_text (v ∷ number a ∷ number b ∷ number c ∷ []) old new (Ok n)) named ran) (subst (λ v. Survives old new (CommitsBy insert_text (v ∷ number a ∷ number b ∷ number c ∷ []) old)) named survives) (tally_copied name a b c) in
             let it = turn.rewrites clean (record (unweighed (totals_of t)) { tallies = done }) h.within in
             record { within = it.within; is = it.is ∙ h.is }
 
@@ -202,7 +201,7 @@ module _ (old new : State) (has : IsStateClean old → HasSchema host_schema (st
         go : (r : Result ℕ Error) → (HasCleanDisk new → Executes weight_text (number n ∷ []) old new r) → OnOk r (IsStateClean new → (t : Tables) → HoldsUnweighed t (standing old) → HoldsBy (record (totals_of t) { garbage = weight n ∷ [] }) t (standing new))
         go (Err e) ran = tt
         go (Ok m) ran = λ clean t h.
-            let turn = weight_turns old new (λ _. record { sums = unweighed (totals_of t); by = h.within }) (Ok m) live (garbage_inserted n) ran survives in
+            let turn = weight_turns old new (λ _. record { sums = unweighed (totals_of t); by = h.within }) (Ok m) ran survives (garbage_inserted n) in
             let it = turn.rewrites clean (unweighed (totals_of t)) h.within in
             record { within = it.within; is = it.is ∙ h.is }
 

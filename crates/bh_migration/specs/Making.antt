@@ -6,7 +6,7 @@ use Rattle.sqlite.specs.Schema.{Schema}
 use Rattle.sqlite.specs.Table.{Table}
 use Rattle.bh_rows.proofs.CreateErrors.{IsFree}
 use Rattle.bh_rows.proofs.CreateLemmas.{Makes}
-use Rattle.bh_schema.specs.Layer.{Standing}
+use Rattle.bh_base.specs.Layer.{Standing}
 use Rattle.bh_tables.specs.Made as made
 use Rattle.bh_tables.specs.Schema.{first_schema, second_schema, third_schema, fourth_schema, host_schema}
 use Rattle.bh_migration.specs.declared.making.Added.{Added}

@@ -7,7 +7,7 @@ use Rattle.bh_tables.specs.Hosts.{IsOfVersion1, IsOfVersion2, IsOfVersion3, IsOf
 use Rattle.bh_tables.specs.Schema.{first_schema, second_schema, third_schema, fourth_schema, host_schema}
 use Rattle.bh_tables.specs.Typed.{IsHost, IsFirstHost, IsSecondHost, IsThirdHost, IsFourthHost, Tables, tables_in, first_tables_in}
 use Rattle.bh_tables.specs.Typed.{Raw, first_raw, second_raw, third_raw, fourth_raw}
-use Rattle.bh_schema.specs.Layer.{Standing}
+use Rattle.bh_base.specs.Layer.{Standing}
 use Rattle.bh_migration.specs.Tallying.{HoldsTallies, HoldsUnweighed}
 use Rattle.bh_migration.specs.declared.Earlier.{Earlier}
 use Rattle.bh_migration.specs.declared.Earlier.TheVariants.{First, Second, Third, Fourth}

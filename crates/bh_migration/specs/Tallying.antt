@@ -5,7 +5,7 @@ use Rattle.sqlite.specs.Order.{Row}
 use Rattle.bh_tables.specs.Schema.{Octets}
 use Rattle.bh_tables.specs.Typed.{TenantRow, TallyRow, Tables, totals_of, unweighed}
 use Rattle.bh_tables.specs.Shown.{has_marker, current_versions}
-use Rattle.bh_schema.specs.Layer.{Standing, HoldsBy}
+use Rattle.bh_base.specs.Layer.{Standing, HoldsBy}
 use Rattle.bh_schema.specs.declared.rows.tallies.Tally.{Tally}
 use Rattle.bh_migration.specs.declared.tallying.Count.{Count}
 use Rattle.bh_migration.specs.declared.tallying.Count.TheVariants as count

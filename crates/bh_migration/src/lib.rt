@@ -13,8 +13,8 @@ ghost use Rattle.bh_rows.specs.Means.{is_trouble};
 ghost use Rattle.bh_tables.specs.Hosts.{brought_over, tables_shown, tables_opened};
 ghost use Rattle.bh_tables.specs.Schema.{host_schema};
 ghost use Rattle.bh_tables.specs.Typed.{IsHost, Tables};
-ghost use Rattle.bh_schema.specs.Connections.{IsIntact, IsOpen, IsClean, stands, tables, StaysWithin, StaysOpen, IsTroubleIf};
-ghost use Rattle.bh_schema.specs.Layer.{Leaves, Holds, taken_back, KeepsDisk};
+ghost use Rattle.bh_base.specs.Databases.{IsIntact, IsOpen, IsClean, stands, tables, StaysWithin, StaysOpen, IsTroubleIf};
+ghost use Rattle.bh_base.specs.Layer.{Leaves, Holds, taken_back, KeepsDisk};
 ghost use Rattle.bh_migration.specs.Migration.{IsEarlier, IsEarlierHost, IsOfEarlier, earlier_schema, HasSchema, HoldsUntallied};
 ghost use Rattle.bh_migration.specs.Migration.{Brings, Settles, LeavesChanged};
 ghost use Rattle.bh_migration.specs.Tallying.{HoldsUnweighed};
@@ -22,7 +22,7 @@ ghost use Rattle.bh_migration.specs.Tallying.{HoldsUnweighed};
 use crate::making::make_tables;
 use crate::tallying::tally_tenants;
 use crate::weighing::weigh;
-use bh_schema::rows::transactions::{begin, commit, take_back};
+use bh_base::transactions::{begin, commit, take_back};
 use sqlite::{Alter, Connection, Error};
 
 /// The version of an older host.

@@ -4,7 +4,7 @@ ghost use Rattle.std.specs.Prelude.{◌≡◌, true, IfErr, OnOk};
 ghost use Rattle.bh_rows.specs.Means.{is_trouble};
 ghost use Rattle.bh_tables.specs.Schema.{first_schema, second_schema, third_schema, fourth_schema, host_schema};
 ghost use Rattle.bh_tables.specs.Typed.{raw, first_raw, second_raw, third_raw, fourth_raw};
-ghost use Rattle.bh_schema.specs.Connections.{IsIntact, IsClean, stands, StaysWithin, StaysOpen};
+ghost use Rattle.bh_base.specs.Databases.{IsIntact, IsClean, stands, StaysWithin, StaysOpen};
 ghost use Rattle.bh_migration.specs.Making.{before, IsTextOf, HasMade};
 ghost use Rattle.bh_migration.specs.Migration.{earlier_schema, earlier_raw, HasSchema, HasRows};
 

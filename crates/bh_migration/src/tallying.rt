@@ -7,8 +7,8 @@ ghost use Rattle.sqlite.specs.declared.types.Value.TheVariants.{Text};
 ghost use Rattle.bh_rows.specs.Means.{is_trouble};
 ghost use Rattle.bh_tables.specs.Schema.{Octets, host_schema};
 ghost use Rattle.bh_tables.specs.Typed.{Totals, TenantRow, TallyRow, Tables, IsHostBy, tally as tally_row, tally_of, number as stored};
-ghost use Rattle.bh_schema.specs.Calls.{Reads, MayRead};
-ghost use Rattle.bh_schema.specs.Connections.{IsClean, stands, tables, StaysWithin, StaysOpen};
+ghost use Rattle.bh_base.specs.Databases.{Reads, MayRead};
+ghost use Rattle.bh_base.specs.Databases.{IsClean, stands, tables, StaysWithin, StaysOpen};
 ghost use Rattle.bh_migration.specs.Migration.{HasSchema};
 ghost use Rattle.bh_migration.specs.Tallying.{count_text, how_many, counted, IsSmall, shown_name, HoldsTallies, HoldsUnweighed};
 

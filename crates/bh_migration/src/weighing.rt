@@ -6,9 +6,9 @@ ghost use Rattle.bh_rows.specs.Means.{is_trouble};
 ghost use Rattle.bh_tables.specs.Bodies.{unneeded};
 ghost use Rattle.bh_tables.specs.Schema.{host_schema};
 ghost use Rattle.bh_tables.specs.Typed.{Totals, Tables, IsHostBy, weight, totals_of, number as stored};
-ghost use Rattle.bh_schema.specs.Calls.{Reads, MayRead};
-ghost use Rattle.bh_schema.specs.Connections.{IsClean, stands, tables, StaysWithin, StaysOpen};
-ghost use Rattle.bh_schema.specs.Layer.{Holds, HoldsBy};
+ghost use Rattle.bh_base.specs.Databases.{Reads, MayRead};
+ghost use Rattle.bh_base.specs.Databases.{IsClean, stands, tables, StaysWithin, StaysOpen};
+ghost use Rattle.bh_base.specs.Layer.{Holds, HoldsBy};
 ghost use Rattle.bh_migration.specs.Migration.{HasSchema};
 ghost use Rattle.bh_migration.specs.Tallying.{HoldsUnweighed};
 

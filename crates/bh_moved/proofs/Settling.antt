@@ -4,7 +4,7 @@ use Rattle.sqlite.specs.State.{State}
 use Rattle.bh_types.specs.declared.refusal.Refusal.TheVariants.{NoSuchTenant, TenantExists}
 use Rattle.bh_model.specs.State as model
 use Rattle.bh_tables.specs.Typed.{tables_in}
-use Rattle.bh_schema.specs.Layer.{Standing, standing, IsIntact, IsStateClean, IsInside, StateWithin, begun, committed, taken_back}
+use Rattle.bh_base.specs.Layer.{Standing, standing, IsIntact, IsStateClean, IsInside, StateWithin, begun, committed, taken_back}
 use Rattle.bh_schema.specs.Working.{tables_at}
 use Rattle.bh_moved.specs.Moves.{IsSettled, IsCommitted, move_refused}
 

@@ -5,18 +5,20 @@ ghost use Rattle.bh_tables.specs.Typed.{BlockRow};
 ghost use Rattle.bh_view.specs.Blocks.{whole};
 ghost use Rattle.bh_view.specs.Bodies.{HasBodies, pieces, body_stored};
 ghost use Rattle.bh_cache.specs.Kept.{Agrees, AreCopies};
-ghost use Rattle.bh_schema.specs.Connections.{IsClean, tables, InTransaction, Becomes};
+ghost use Rattle.bh_base.specs.Connections.{IsClean, tables, InTransaction, Becomes};
 ghost use Rattle.bh_schema.specs.Calls.{Reads, Writes};
 
 use crate::moving::Moving;
+use bh_base::connection::Connection;
 use bh_blocks::bodies::store_body;
 use bh_blocks::reading::read_body;
 use bh_cache::blocks::BlockCache;
 use bh_schema::host::Digester;
+use bh_shelf::shelf::Shelf;
 use bh_types::checksum::digest_of;
 use bh_types::limits::{DEFAULT_BLOCK_SIZE, Tuning};
 use bh_types::range::RangePlan;
-use sqlite::{Alter, Connection, Error};
+use sqlite::{Alter, Error};
 
 /// An empty cache, which fits any host.
 fn no_blocks() -> BlockCache
@@ -30,20 +32,21 @@ fn no_blocks() -> BlockCache
 }
 
 /// Stores the body of this name of another host's tenant.
-pub fn bring_body<S: Alter, T: Alter, D: Digester>(
-    from: &mut Connection<S>,
-    to: &mut Connection<T>,
+pub fn bring_body<S: Alter, P: Shelf, T: Alter, Q: Shelf, D: Digester>(
+    from: &mut Connection<S, P>,
+    to: &mut Connection<T, Q>,
     moving: &Moving<'_, D>,
     body: u64,
 ) -> Result<(), Error>
-    requires reading { InTransaction S.Store from.old }
-    requires inside { InTransaction T.Store to.old }
+    requires reading { InTransaction S.Store P.Shelf from.old }
+    requires inside { InTransaction T.Store Q.Shelf to.old }
     requires small { body < 2 ^ 63 }
-    ensures reads { Reads S.Store from.old from.new result }
-    ensures writes { Writes T.Store to.old to.new result }
-    ensures stored { OnOk result (IsClean S.Store from.new → HasBodies (tables S.Store from.old) → Becomes T.Store to.old to.new
+    ensures reads { Reads S.Store P.Shelf from.old from.new result }
+    ensures writes { Writes T.Store Q.Shelf to.old to.new result }
+    ensures stored { OnOk result (IsClean S.Store P.Shelf from.new → HasBodies (tables S.Store P.Shelf from.old)
+        → Becomes T.Store Q.Shelf to.old to.new
         (body_stored D.digest_of (moving.now.tenant.now, body) 0 (pieces moving.now.block_size
-        (whole (tables S.Store from.old).refs (tables S.Store from.old).blocks (moving.now.tenant.now, body))))) }
+        (whole (tables S.Store P.Shelf from.old).refs (tables S.Store P.Shelf from.old).blocks (moving.now.tenant.now, body))))) }
 {
     let mut read = no_blocks();
     let bytes = read_body(

@@ -2,36 +2,38 @@
 
 ghost use Rattle.std.specs.Prelude.{◌≡◌, ◌∷◌, [], OnOk, ◌<◌, ◌^◌, None, Some, IfSome};
 ghost use Rattle.bh_tables.specs.Typed.{BucketRow};
-ghost use Rattle.bh_schema.specs.Connections.{InTransaction, Becomes};
+ghost use Rattle.bh_base.specs.Connections.{InTransaction, Becomes};
 ghost use Rattle.bh_tenant_rows.specs.Shown.{shown_bucket};
 ghost use Rattle.bh_tenant_rows.specs.Brought.{with_buckets};
 ghost use Rattle.bh_schema.specs.Calls.{Writes};
 ghost use Rattle.bh_moved.specs.Rows.{bucket_of};
 
 use crate::cells::{maybe_number_at, number_at};
+use bh_base::connection::Connection;
 use bh_schema::rows::number::number;
+use bh_shelf::shelf::Shelf;
 use sqlite::types::ToSql;
-use sqlite::{Alter, Connection, Error, Row};
+use sqlite::{Alter, Error, Row};
 
 /// Adds a bucket without a rule, with this creation time in seconds since 1970 and the number of
 /// its state.
-fn insert_plain<T: Alter>(
-    to: &mut Connection<T>,
+fn insert_plain<T: Alter, Q: Shelf>(
+    to: &mut Connection<T, Q>,
     tenant: &str,
     bucket: &str,
     created: u64,
     state: u64,
 ) -> Result<usize, Error>
-    requires inside { InTransaction T.Store to.old }
+    requires inside { InTransaction T.Store Q.Shelf to.old }
     requires created { created < 2 ^ 63 }
     requires state { state < 2 ^ 63 }
-    ensures writes { Writes T.Store to.old to.new result }
-    ensures holds { OnOk result (Becomes T.Store to.old to.new
+    ensures writes { Writes T.Store Q.Shelf to.old to.new result }
+    ensures holds { OnOk result (Becomes T.Store Q.Shelf to.old to.new
         (with_buckets (record { tenant = tenant.now; bucket = bucket.now; created = created; state = state; days = None } ∷ []))) }
 {
     // Asked for what it ensures: the rows obey the schema.
-    let _schema = to.schema();
-    to.execute(
+    let _schema = to.database.schema();
+    to.database.execute(
         "INSERT INTO buckets (tenant, bucket, created, state, days) VALUES (?1, ?2, ?3, ?4, NULL)",
         &[
             tenant.to_sql(),
@@ -43,25 +45,25 @@ fn insert_plain<T: Alter>(
 }
 
 /// Adds a bucket with a rule: uploads become stale after `days` days.
-fn insert_ruled<T: Alter>(
-    to: &mut Connection<T>,
+fn insert_ruled<T: Alter, Q: Shelf>(
+    to: &mut Connection<T, Q>,
     tenant: &str,
     bucket: &str,
     created: u64,
     state: u64,
     days: u64,
 ) -> Result<usize, Error>
-    requires inside { InTransaction T.Store to.old }
+    requires inside { InTransaction T.Store Q.Shelf to.old }
     requires created { created < 2 ^ 63 }
     requires state { state < 2 ^ 63 }
     requires days { days < 2 ^ 63 }
-    ensures writes { Writes T.Store to.old to.new result }
-    ensures holds { OnOk result (Becomes T.Store to.old to.new
+    ensures writes { Writes T.Store Q.Shelf to.old to.new result }
+    ensures holds { OnOk result (Becomes T.Store Q.Shelf to.old to.new
         (with_buckets (record { tenant = tenant.now; bucket = bucket.now; created = created; state = state; days = Some days } ∷ []))) }
 {
     // Asked for what it ensures: the rows obey the schema.
-    let _schema = to.schema();
-    to.execute(
+    let _schema = to.database.schema();
+    to.database.execute(
         "INSERT INTO buckets (tenant, bucket, created, state, days) VALUES (?1, ?2, ?3, ?4, ?5)",
         &[
             tenant.to_sql(),
@@ -74,20 +76,20 @@ fn insert_ruled<T: Alter>(
 }
 
 /// Adds a bucket with its rule, if it has one.
-fn insert_bucket<T: Alter>(
-    to: &mut Connection<T>,
+fn insert_bucket<T: Alter, Q: Shelf>(
+    to: &mut Connection<T, Q>,
     tenant: &str,
     bucket: &str,
     created: u64,
     state: u64,
     days: Option<u64>,
 ) -> Result<usize, Error>
-    requires inside { InTransaction T.Store to.old }
+    requires inside { InTransaction T.Store Q.Shelf to.old }
     requires created { created < 2 ^ 63 }
     requires state { state < 2 ^ 63 }
     requires days { IfSome days (λ n. n < 2 ^ 63) }
-    ensures writes { Writes T.Store to.old to.new result }
-    ensures holds { OnOk result (Becomes T.Store to.old to.new
+    ensures writes { Writes T.Store Q.Shelf to.old to.new result }
+    ensures holds { OnOk result (Becomes T.Store Q.Shelf to.old to.new
         (with_buckets (record { tenant = tenant.now; bucket = bucket.now; created = created; state = state; days = days } ∷ []))) }
 {
     match days {
@@ -97,11 +99,15 @@ fn insert_bucket<T: Alter>(
 }
 
 /// Adds a bucket in its state, with its rule.
-pub fn add_bucket<T: Alter>(to: &mut Connection<T>, tenant: &str, row: &Row) -> Result<(), Error>
-    requires inside { InTransaction T.Store to.old }
-    ensures writes { Writes T.Store to.old to.new result }
+pub fn add_bucket<T: Alter, Q: Shelf>(
+    to: &mut Connection<T, Q>,
+    tenant: &str,
+    row: &Row,
+) -> Result<(), Error>
+    requires inside { InTransaction T.Store Q.Shelf to.old }
+    ensures writes { Writes T.Store Q.Shelf to.old to.new result }
     ensures added { OnOk result ((b : BucketRow) → row.now ≡ shown_bucket b
-        → Becomes T.Store to.old to.new (with_buckets (bucket_of tenant.now b ∷ []))) }
+        → Becomes T.Store Q.Shelf to.old to.new (with_buckets (bucket_of tenant.now b ∷ []))) }
 {
     let bucket: String = row.get(0)?;
     let created = number_at(row, 1)?;

@@ -2,25 +2,31 @@
 
 ghost use Rattle.std.specs.Prelude.{◌≡◌, ◌∷◌, [], OnOk};
 ghost use Rattle.bh_tables.specs.Typed.{KeyRow, LockRow, UploadRow, RetainRow};
-ghost use Rattle.bh_schema.specs.Connections.{InTransaction, Becomes};
+ghost use Rattle.bh_base.specs.Connections.{InTransaction, Becomes};
 ghost use Rattle.bh_tenant_rows.specs.Shown.{shown_key, shown_lock, shown_upload, shown_retain};
 ghost use Rattle.bh_tenant_rows.specs.Brought.{with_keys, with_locks, with_uploads, with_retains};
 ghost use Rattle.bh_schema.specs.Calls.{Writes};
 ghost use Rattle.bh_moved.specs.Rows.{key_of, lock_of, upload_of, retain_of};
 
 use crate::cells::number_at;
+use bh_base::connection::Connection;
 use bh_schema::rows::keys::insert_key;
 use bh_schema::rows::locks::insert_lock;
 use bh_schema::rows::retains::insert_retain;
+use bh_shelf::shelf::Shelf;
 use bh_uploads::rows::uploads::{UploadRecord, insert_upload};
-use sqlite::{Alter, Connection, Error, Row};
+use sqlite::{Alter, Error, Row};
 
 /// Adds an access key with its secret.
-pub fn add_key<T: Alter>(to: &mut Connection<T>, tenant: &str, row: &Row) -> Result<(), Error>
-    requires inside { InTransaction T.Store to.old }
-    ensures writes { Writes T.Store to.old to.new result }
+pub fn add_key<T: Alter, Q: Shelf>(
+    to: &mut Connection<T, Q>,
+    tenant: &str,
+    row: &Row,
+) -> Result<(), Error>
+    requires inside { InTransaction T.Store Q.Shelf to.old }
+    ensures writes { Writes T.Store Q.Shelf to.old to.new result }
     ensures added { OnOk result ((k : KeyRow) → row.now ≡ shown_key k
-        → Becomes T.Store to.old to.new (with_keys (key_of tenant.now k ∷ []))) }
+        → Becomes T.Store Q.Shelf to.old to.new (with_keys (key_of tenant.now k ∷ []))) }
 {
     let name: String = row.get(0)?;
     let secret: String = row.get(1)?;
@@ -29,11 +35,15 @@ pub fn add_key<T: Alter>(to: &mut Connection<T>, tenant: &str, row: &Row) -> Res
 }
 
 /// Adds a bucket's lock.
-pub fn add_lock<T: Alter>(to: &mut Connection<T>, tenant: &str, row: &Row) -> Result<(), Error>
-    requires inside { InTransaction T.Store to.old }
-    ensures writes { Writes T.Store to.old to.new result }
+pub fn add_lock<T: Alter, Q: Shelf>(
+    to: &mut Connection<T, Q>,
+    tenant: &str,
+    row: &Row,
+) -> Result<(), Error>
+    requires inside { InTransaction T.Store Q.Shelf to.old }
+    ensures writes { Writes T.Store Q.Shelf to.old to.new result }
     ensures added { OnOk result ((l : LockRow) → row.now ≡ shown_lock l
-        → Becomes T.Store to.old to.new (with_locks (lock_of tenant.now l ∷ []))) }
+        → Becomes T.Store Q.Shelf to.old to.new (with_locks (lock_of tenant.now l ∷ []))) }
 {
     let bucket: String = row.get(0)?;
     insert_lock(to, tenant, &bucket)?;
@@ -41,11 +51,15 @@ pub fn add_lock<T: Alter>(to: &mut Connection<T>, tenant: &str, row: &Row) -> Re
 }
 
 /// Adds an upload, without its parts.
-pub fn add_upload<T: Alter>(to: &mut Connection<T>, tenant: &str, row: &Row) -> Result<(), Error>
-    requires inside { InTransaction T.Store to.old }
-    ensures writes { Writes T.Store to.old to.new result }
+pub fn add_upload<T: Alter, Q: Shelf>(
+    to: &mut Connection<T, Q>,
+    tenant: &str,
+    row: &Row,
+) -> Result<(), Error>
+    requires inside { InTransaction T.Store Q.Shelf to.old }
+    ensures writes { Writes T.Store Q.Shelf to.old to.new result }
     ensures added { OnOk result ((u : UploadRow) → row.now ≡ shown_upload u
-        → Becomes T.Store to.old to.new (with_uploads (upload_of tenant.now u ∷ []))) }
+        → Becomes T.Store Q.Shelf to.old to.new (with_uploads (upload_of tenant.now u ∷ []))) }
 {
     let number = number_at(row, 0)?;
     let bucket: String = row.get(1)?;
@@ -63,11 +77,15 @@ pub fn add_upload<T: Alter>(to: &mut Connection<T>, tenant: &str, row: &Row) -> 
 }
 
 /// Adds the date of a version.
-pub fn add_retain<T: Alter>(to: &mut Connection<T>, tenant: &str, row: &Row) -> Result<(), Error>
-    requires inside { InTransaction T.Store to.old }
-    ensures writes { Writes T.Store to.old to.new result }
+pub fn add_retain<T: Alter, Q: Shelf>(
+    to: &mut Connection<T, Q>,
+    tenant: &str,
+    row: &Row,
+) -> Result<(), Error>
+    requires inside { InTransaction T.Store Q.Shelf to.old }
+    ensures writes { Writes T.Store Q.Shelf to.old to.new result }
     ensures added { OnOk result ((r : RetainRow) → row.now ≡ shown_retain r
-        → Becomes T.Store to.old to.new (with_retains (retain_of tenant.now r ∷ []))) }
+        → Becomes T.Store Q.Shelf to.old to.new (with_retains (retain_of tenant.now r ∷ []))) }
 {
     let seq = number_at(row, 0)?;
     let until = number_at(row, 1)?;

@@ -2,7 +2,7 @@
 
 ghost use Rattle.std.specs.Prelude.{◌≡◌, ◌<◌, ◌^◌, IfOk, OnOk};
 ghost use Rattle.bh_tables.specs.Typed.{VersionRow};
-ghost use Rattle.bh_schema.specs.Connections.{tables, InTransaction, Becomes};
+ghost use Rattle.bh_base.specs.Connections.{tables, InTransaction, Becomes};
 ghost use Rattle.bh_tenant_rows.specs.Shown.{shown_version};
 ghost use Rattle.bh_tenant_rows.specs.Brought.{version_after, IsNext};
 ghost use Rattle.bh_schema.specs.Calls.{Writes};
@@ -10,8 +10,10 @@ ghost use Rattle.bh_moved.specs.Rows.{own_version, seen_version, version_seen};
 
 use crate::cells::number_at;
 use crate::moving::Moving;
+use bh_base::connection::Connection;
 use bh_schema::rows::versions::{NewMarker, NewVersion, add_version, insert_marker};
-use sqlite::{Alter, Connection, Error, ErrorCode, Row};
+use bh_shelf::shelf::Shelf;
+use sqlite::{Alter, Error, ErrorCode, Row};
 
 /// A version or delete marker of a row, without its bytes.
 #[derive(Drop)]
@@ -46,16 +48,16 @@ fn read_version(row: &Row) -> Result<ReadVersion, Error>
 
 /// Adds the row of a version, whose body was stored, under the next entry number that the tenant
 /// has already.
-fn add_object<T: Alter, D>(
-    to: &mut Connection<T>,
+fn add_object<T: Alter, Q: Shelf, D>(
+    to: &mut Connection<T, Q>,
     moving: &Moving<'_, D>,
     row: &Row,
 ) -> Result<(), Error>
-    requires inside { InTransaction T.Store to.old }
-    ensures writes { Writes T.Store to.old to.new result }
+    requires inside { InTransaction T.Store Q.Shelf to.old }
+    ensures writes { Writes T.Store Q.Shelf to.old to.new result }
     ensures added { OnOk result ((v : VersionRow) → row.now ≡ shown_version v → v.marker ≡ 0
-        → IsNext moving.now.tenant.now moving.now.numbers.next_entry (tables T.Store to.old)
-        → Becomes T.Store to.old to.new (version_after (own_version moving.now.tenant.now v))) }
+        → IsNext moving.now.tenant.now moving.now.numbers.next_entry (tables T.Store Q.Shelf to.old)
+        → Becomes T.Store Q.Shelf to.old to.new (version_after (own_version moving.now.tenant.now v))) }
 {
     let read = read_version(row)?;
     if read.size >= 0x4000_0000_0000_0000 {
@@ -75,11 +77,15 @@ fn add_object<T: Alter, D>(
 }
 
 /// Adds the delete marker of a row, which has no bytes and no checksum.
-fn add_marker<T: Alter>(to: &mut Connection<T>, tenant: &str, row: &Row) -> Result<(), Error>
-    requires inside { InTransaction T.Store to.old }
-    ensures writes { Writes T.Store to.old to.new result }
+fn add_marker<T: Alter, Q: Shelf>(
+    to: &mut Connection<T, Q>,
+    tenant: &str,
+    row: &Row,
+) -> Result<(), Error>
+    requires inside { InTransaction T.Store Q.Shelf to.old }
+    ensures writes { Writes T.Store Q.Shelf to.old to.new result }
     ensures added { OnOk result ((v : VersionRow) → row.now ≡ shown_version v → v.marker ≡ 1
-        → Becomes T.Store to.old to.new (version_after (own_version tenant.now v))) }
+        → Becomes T.Store Q.Shelf to.old to.new (version_after (own_version tenant.now v))) }
 {
     let read = read_version(row)?;
     if read.size != 0 || !read.checksum.is_empty() {
@@ -99,16 +105,16 @@ fn add_marker<T: Alter>(to: &mut Connection<T>, tenant: &str, row: &Row) -> Resu
 
 /// Adds the version or delete marker of a row, under the next entry number that the tenant has
 /// already. The body of a version was stored.
-pub fn add_entry<T: Alter, D>(
-    to: &mut Connection<T>,
+pub fn add_entry<T: Alter, Q: Shelf, D>(
+    to: &mut Connection<T, Q>,
     moving: &Moving<'_, D>,
     row: &Row,
 ) -> Result<(), Error>
-    requires inside { InTransaction T.Store to.old }
-    ensures writes { Writes T.Store to.old to.new result }
+    requires inside { InTransaction T.Store Q.Shelf to.old }
+    ensures writes { Writes T.Store Q.Shelf to.old to.new result }
     ensures added { OnOk result ((v : VersionRow) → row.now ≡ shown_version v
-        → IsNext moving.now.tenant.now moving.now.numbers.next_entry (tables T.Store to.old)
-        → Becomes T.Store to.old to.new (version_after (own_version moving.now.tenant.now v))) }
+        → IsNext moving.now.tenant.now moving.now.numbers.next_entry (tables T.Store Q.Shelf to.old)
+        → Becomes T.Store Q.Shelf to.old to.new (version_after (own_version moving.now.tenant.now v))) }
 {
     match number_at(row, 4)? {
         0 => add_object(to, moving, row),

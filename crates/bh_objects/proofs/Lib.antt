@@ -18,3 +18,4 @@ pub mod Undating
 pub mod Deleting
 pub mod Retaining
 pub mod Filling
+pub mod Unfound

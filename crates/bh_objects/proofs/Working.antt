@@ -14,7 +14,7 @@ use Rattle.bh_view.specs.Blocks.{AreDigests}
 use Rattle.bh_view.specs.Bodies.{HasBodies}
 use Rattle.bh_view.specs.View.{limits_in}
 use Rattle.bh_view.proofs.ResolvedLemmas.{tables_resolved}
-use Rattle.bh_schema.specs.Layer.{Standing, standing, IsIntact, IsStateClean, IsInside, IsStandingSettled, StateWithin}
+use Rattle.bh_base.specs.Layer.{Standing, standing, IsIntact, IsStateClean, IsInside, IsStandingSettled, StateWithin}
 use Rattle.bh_schema.specs.Working.{tables_at, IsWorking, StillWorking, StillWorkingBy}
 use Rattle.bh_objects.proofs.Written.{IsHostOf}
 

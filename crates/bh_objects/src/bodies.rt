@@ -11,24 +11,26 @@ ghost use Rattle.bh_model.specs.Parts.{is_checksum};
 ghost use Rattle.bh_storage.specs.declared.error.StepError.TheVariants.{Refused};
 ghost use Rattle.bh_tables.specs.Schema.{Octets};
 ghost use Rattle.bh_view.specs.Bodies.{pieces, body_stored};
-ghost use Rattle.bh_schema.specs.Connections.{IsClean, tables, InTransaction, StaysWithin, StaysOpen, Becomes};
+ghost use Rattle.bh_base.specs.Connections.{IsClean, tables, InTransaction, StaysWithin, StaysOpen, Becomes};
 ghost use Rattle.bh_cache.specs.Kept.{AreCopies};
 ghost use Rattle.bh_objects.specs.Calls.{Changes};
 ghost use Rattle.bh_objects.specs.Refusing.{RefusedBy, IfRefused, IsReceived};
 ghost use Rattle.bh_objects.specs.Storing.{MayStore, Stores};
 
 use crate::coming::{buffer_size, take_all};
+use bh_base::connection::Connection;
 use bh_blocks::bodies::store_body;
 use bh_blocks::drafts::{begin_body, end_body};
 use bh_cache::blocks::BlockCache;
 use bh_http::body::{Body, Break, PIECE, collect, drain};
 use bh_schema::host::Digester;
 use bh_schema::trouble::or_trouble;
+use bh_shelf::shelf::Shelf;
 use bh_storage::error::{Outcome, StepError, Trouble};
 use bh_types::checksum::{checksum_of_digest, digest_of};
 use bh_types::refusal::Refusal;
 use sha2::{Digest, Sha256};
-use sqlite::{Alter, Connection};
+use sqlite::Alter;
 use std::alloc::Global;
 
 /// The digester, the cache and the block size for storing bodies.
@@ -44,19 +46,20 @@ pub struct Blocks<'c, 'd, D> {
 
 /// Stores the bytes of a body, and returns their SHA-256 digest (FIPS 180-4). If they fit in one
 /// block, they are read once.
-fn store_bytes<S: Alter, D: Digester>(
-    connection: &mut Connection<S>,
+fn store_bytes<S: Alter, P: Shelf, D: Digester>(
+    connection: &mut Connection<S, P>,
     alloc: Global,
     blocks: &Blocks<'_, '_, D>,
     tenant: &str,
     number: u64,
     bytes: &[u8],
 ) -> Result<[u8; 32], Trouble>
-    requires inside { InTransaction S.Store connection.old }
-    requires copies { IsClean S.Store connection.old → AreCopies blocks.now.cache.now (tables S.Store connection.old).blocks }
+    requires inside { InTransaction S.Store P.Shelf connection.old }
+    requires copies { IsClean S.Store P.Shelf connection.old
+        → AreCopies blocks.now.cache.now (tables S.Store P.Shelf connection.old).blocks }
     requires positive { 1 ≤ blocks.now.size }
     requires small { number < 2 ^ 63 }
-    ensures changes { Changes S.Store connection.old connection.new result
+    ensures changes { Changes S.Store P.Shelf connection.old connection.new result
         (body_stored D.digest_of (tenant.now, number) 0 (pieces blocks.now.size bytes.now)) }
     ensures sum { IfOk result (λ sum. sum ≡ sha256 bytes.now) }
 {
@@ -70,17 +73,17 @@ fn store_bytes<S: Alter, D: Digester>(
 
 /// Stores a body while it is received, and returns its SHA-256 digest (FIPS 180-4). It has eight
 /// blocks in memory, of at most 512 KiB, and one more.
-fn store_pieces<S: Alter, D: Digester, B: Body>(
-    connection: &mut Connection<S>,
+fn store_pieces<S: Alter, P: Shelf, D: Digester, B: Body>(
+    connection: &mut Connection<S, P>,
     alloc: Global,
     blocks: &Blocks<'_, '_, D>,
     tenant: &str,
     number: u64,
     body: &mut B,
 ) -> Result<[u8; 32], Trouble>
-    requires may { MayStore S.Store blocks.now.cache.now blocks.now.size connection.old (B.coming body.old) }
+    requires may { MayStore S.Store P.Shelf blocks.now.cache.now blocks.now.size connection.old (B.coming body.old) }
     requires small { number < 2 ^ 63 }
-    ensures stores { Stores S.Store D.digest_of blocks.now.size (tenant.now, number) (B.coming body.old) (B.coming body.new)
+    ensures stores { Stores S.Store P.Shelf D.digest_of blocks.now.size (tenant.now, number) (B.coming body.old) (B.coming body.new)
         connection.old connection.new result }
 {
     let mut draft = begin_body(alloc, tenant, number, blocks.size);
@@ -92,17 +95,17 @@ fn store_pieces<S: Alter, D: Digester, B: Body>(
 
 /// Stores a body while it is received, in blocks of `size` bytes, and returns its SHA-256 digest
 /// (FIPS 180-4). After an error the transaction has to be rolled back.
-fn store_coming<S: Alter, D: Digester, B: Body>(
-    connection: &mut Connection<S>,
+fn store_coming<S: Alter, P: Shelf, D: Digester, B: Body>(
+    connection: &mut Connection<S, P>,
     alloc: Global,
     blocks: &Blocks<'_, '_, D>,
     tenant: &str,
     number: u64,
     body: &mut B,
 ) -> Result<[u8; 32], Trouble>
-    requires may { MayStore S.Store blocks.now.cache.now blocks.now.size connection.old (B.coming body.old) }
+    requires may { MayStore S.Store P.Shelf blocks.now.cache.now blocks.now.size connection.old (B.coming body.old) }
     requires small { number < 2 ^ 63 }
-    ensures stores { Stores S.Store D.digest_of blocks.now.size (tenant.now, number) (B.coming body.old) (B.coming body.new)
+    ensures stores { Stores S.Store P.Shelf D.digest_of blocks.now.size (tenant.now, number) (B.coming body.old) (B.coming body.new)
         connection.old connection.new result }
 {
     if body.due() <= blocks.size {
@@ -125,8 +128,8 @@ fn is_given(given: Option<&[u8]>, text: &str) -> bool
 
 /// Stores a body while it is received, in blocks of a size, and returns its checksum. It refuses
 /// with BadDigest, after the blocks were stored, if the request gives another checksum.
-pub fn store_checked<S: Alter, D: Digester, B: Body>(
-    connection: &mut Connection<S>,
+pub fn store_checked<S: Alter, P: Shelf, D: Digester, B: Body>(
+    connection: &mut Connection<S, P>,
     alloc: Global,
     blocks: &Blocks<'_, '_, D>,
     tenant: &str,
@@ -134,12 +137,13 @@ pub fn store_checked<S: Alter, D: Digester, B: Body>(
     given: Option<&[u8]>,
     body: &mut B,
 ) -> Result<Outcome<String, Refusal>, Trouble>
-    requires may { MayStore S.Store blocks.now.cache.now blocks.now.size connection.old (B.coming body.old) }
+    requires may { MayStore S.Store P.Shelf blocks.now.cache.now blocks.now.size connection.old (B.coming body.old) }
     requires small { number < 2 ^ 63 }
-    ensures within { StaysWithin S.Store connection.old connection.new }
-    ensures opens { OnOk result (StaysOpen S.Store connection.old connection.new) }
+    ensures within { StaysWithin S.Store P.Shelf connection.old connection.new }
+    ensures opens { OnOk result (StaysOpen S.Store P.Shelf connection.old connection.new) }
     ensures received { IsReceived result (B.coming body.old) (B.coming body.new) (option_copied given.entry) (λ bytes.
-        Becomes S.Store connection.old connection.new (body_stored D.digest_of (tenant.now, number) 0 (pieces blocks.now.size bytes))) }
+        Becomes S.Store P.Shelf connection.old connection.new (body_stored D.digest_of (tenant.now, number) 0
+        (pieces blocks.now.size bytes))) }
 {
     let sum = store_coming(connection, alloc, blocks, tenant, number, body)?;
     let text = checksum_of_digest(alloc, &sum)?;

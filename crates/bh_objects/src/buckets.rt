@@ -7,7 +7,7 @@ ghost use Rattle.bh_storage.specs.Answers.{removed_answer};
 ghost use Rattle.bh_storage.specs.Calls.{Unless, Carries, Decides};
 ghost use Rattle.bh_view.specs.View.{latest_of};
 ghost use Rattle.bh_schema.specs.Calls.{MayRead};
-ghost use Rattle.bh_schema.specs.Connections.{IsClean, tables, InTransaction};
+ghost use Rattle.bh_base.specs.Connections.{IsClean, tables, InTransaction};
 ghost use Rattle.bh_schema.specs.Views.{entry_seen};
 ghost use Rattle.bh_schema.specs.Working.{Works, WorksOn};
 ghost use Rattle.bh_objects.specs.Calls.{Changes};
@@ -16,6 +16,7 @@ ghost use Rattle.bh_objects.specs.Buckets.{is_empty, emptiness, versions_kept, w
 
 use crate::deletes::nothing_told;
 use crate::reads::{bucket_locked, bucket_state, require_free_name, require_tenant};
+use bh_base::connection::Connection;
 use bh_docs::BucketEntry;
 use bh_schema::rows;
 use bh_schema::rows::buckets::ListedBucket;
@@ -23,6 +24,7 @@ use bh_schema::rows::contents::{Content, bucket_has};
 use bh_schema::rows::named::{Named, delete_named};
 use bh_schema::rows::reading::list_of;
 use bh_schema::trouble::or_trouble;
+use bh_shelf::shelf::Shelf;
 use bh_storage::answer::RemovedEntry;
 use bh_storage::error::{StepError, Trouble};
 use bh_types::bucket::BucketName;
@@ -30,7 +32,7 @@ use bh_types::bucket_state::BucketState;
 use bh_types::moment::Moment;
 use bh_types::names::TenantName;
 use bh_types::refusal::Refusal;
-use sqlite::{Alter, Connection, Error};
+use sqlite::{Alter, Error};
 use std::alloc::{AllocError, Global};
 
 /// The state of a new bucket: a locked one keeps its versions from the start.
@@ -45,14 +47,14 @@ fn first_state(locked: bool) -> BucketState
 }
 
 /// Locks a new bucket, if the request asks for it.
-fn add_lock<S: Alter>(
-    connection: &mut Connection<S>,
+fn add_lock<S: Alter, P: Shelf>(
+    connection: &mut Connection<S, P>,
     tenant: &TenantName,
     bucket: &BucketName,
     locked: bool,
 ) -> Result<(), Trouble>
-    requires inside { InTransaction S.Store connection.old }
-    ensures changes { Changes S.Store connection.old connection.new result (with_lock tenant.now bucket.now locked) }
+    requires inside { InTransaction S.Store P.Shelf connection.old }
+    ensures changes { Changes S.Store P.Shelf connection.old connection.new result (with_lock tenant.now bucket.now locked) }
 {
     if !locked {
         return Ok(());
@@ -62,15 +64,15 @@ fn add_lock<S: Alter>(
 }
 
 /// Adds the rows of a new bucket: its own and then the lock, since a locked bucket is Enabled.
-fn add_bucket<S: Alter>(
-    connection: &mut Connection<S>,
+fn add_bucket<S: Alter, P: Shelf>(
+    connection: &mut Connection<S, P>,
     tenant: &TenantName,
     bucket: &BucketName,
     at: Moment,
     locked: bool,
 ) -> Result<(), Trouble>
-    requires inside { InTransaction S.Store connection.old }
-    ensures changes { Changes S.Store connection.old connection.new result (with_bucket tenant.now bucket.now at locked) }
+    requires inside { InTransaction S.Store P.Shelf connection.old }
+    ensures changes { Changes S.Store P.Shelf connection.old connection.new result (with_bucket tenant.now bucket.now at locked) }
     ensures name { OnOk result (IsTrue (is_bucket_name bucket.now)) }
 {
     let state = first_state(locked);
@@ -86,18 +88,19 @@ fn add_bucket<S: Alter>(
 
 /// S3's CreateBucket, locked or not, at a moment that is not after the last stamp. Refusals:
 /// NoSuchTenant, BucketAlreadyOwnedByYou.
-pub fn create_bucket<S: Alter>(
-    connection: &mut Connection<S>,
+pub fn create_bucket<S: Alter, P: Shelf>(
+    connection: &mut Connection<S, P>,
     tenant: &TenantName,
     at: Moment,
     bucket: &BucketName,
     locked: bool,
 ) -> Result<(), StepError<Refusal>>
-    requires working { Works S.Store connection.old }
-    requires early { IsClean S.Store connection.old → at ≤ latest_of (tables S.Store connection.old) }
-    ensures works { WorksOn S.Store (Unless result) connection.old connection.new }
-    ensures carries { IsClean S.Store connection.new → Carries (λ _. machine.Done) tenant.now (machine.create_bucket at bucket.now locked)
-        (tables S.Store connection.old) (tables S.Store connection.new) result }
+    requires working { Works S.Store P.Shelf connection.old }
+    requires early { IsClean S.Store P.Shelf connection.old → at ≤ latest_of (tables S.Store P.Shelf connection.old) }
+    ensures works { WorksOn S.Store P.Shelf (Unless result) connection.old connection.new }
+    ensures carries { IsClean S.Store P.Shelf connection.new
+        → Carries (λ _. machine.Done) tenant.now (machine.create_bucket at bucket.now locked)
+        (tables S.Store P.Shelf connection.old) (tables S.Store P.Shelf connection.new) result }
 {
     require_tenant(connection, tenant)?;
     require_free_name(connection, tenant, bucket)?;
@@ -106,30 +109,30 @@ pub fn create_bucket<S: Alter>(
 }
 
 /// S3's HeadBucket: NoSuchBucket.
-pub fn head_bucket<S: Alter>(
-    connection: &mut Connection<S>,
+pub fn head_bucket<S: Alter, P: Shelf>(
+    connection: &mut Connection<S, P>,
     tenant: &TenantName,
     bucket: &BucketName,
 ) -> Result<(), StepError<Refusal>>
-    requires working { Works S.Store connection.old }
-    ensures works { WorksOn S.Store (Unless result) connection.old connection.new }
-    ensures carries { IsClean S.Store connection.new → Carries (λ _. machine.Done) tenant.now (machine.head_bucket bucket.now)
-        (tables S.Store connection.old) (tables S.Store connection.new) result }
+    requires working { Works S.Store P.Shelf connection.old }
+    ensures works { WorksOn S.Store P.Shelf (Unless result) connection.old connection.new }
+    ensures carries { IsClean S.Store P.Shelf connection.new → Carries (λ _. machine.Done) tenant.now (machine.head_bucket bucket.now)
+        (tables S.Store P.Shelf connection.old) (tables S.Store P.Shelf connection.new) result }
 {
     bucket_state(connection, tenant, bucket)?;
     Ok(())
 }
 
 /// S3's GetBucketVersioning: NoSuchBucket.
-pub fn versioning<S: Alter>(
-    connection: &mut Connection<S>,
+pub fn versioning<S: Alter, P: Shelf>(
+    connection: &mut Connection<S, P>,
     tenant: &TenantName,
     bucket: &BucketName,
 ) -> Result<BucketState, StepError<Refusal>>
-    requires working { Works S.Store connection.old }
-    ensures works { WorksOn S.Store (Unless result) connection.old connection.new }
-    ensures carries { IsClean S.Store connection.new → Carries machine.Versioning tenant.now (machine.get_versioning bucket.now)
-        (tables S.Store connection.old) (tables S.Store connection.new) result }
+    requires working { Works S.Store P.Shelf connection.old }
+    ensures works { WorksOn S.Store P.Shelf (Unless result) connection.old connection.new }
+    ensures carries { IsClean S.Store P.Shelf connection.new → Carries machine.Versioning tenant.now (machine.get_versioning bucket.now)
+        (tables S.Store P.Shelf connection.old) (tables S.Store P.Shelf connection.new) result }
 {
     bucket_state(connection, tenant, bucket)
 }
@@ -147,17 +150,17 @@ fn keeps_versions(locked: bool, state: BucketState) -> bool
 
 /// Fails with InvalidBucketState if a tenant's bucket is locked and would not keep its versions in
 /// this state.
-fn require_kept<S: Alter>(
-    connection: &mut Connection<S>,
+fn require_kept<S: Alter, P: Shelf>(
+    connection: &mut Connection<S, P>,
     tenant: &TenantName,
     bucket: &BucketName,
     state: BucketState,
 ) -> Result<(), StepError<Refusal>>
-    requires working { Works S.Store connection.old }
-    ensures works { WorksOn S.Store (Unless result) connection.old connection.new }
-    ensures decides { IsClean S.Store connection.new
-        → Decides (λ _. tt) (versions_kept tenant.now bucket.now state (tables S.Store connection.old))
-        (tables S.Store connection.old) (tables S.Store connection.new) result }
+    requires working { Works S.Store P.Shelf connection.old }
+    ensures works { WorksOn S.Store P.Shelf (Unless result) connection.old connection.new }
+    ensures decides { IsClean S.Store P.Shelf connection.new
+        → Decides (λ _. tt) (versions_kept tenant.now bucket.now state (tables S.Store P.Shelf connection.old))
+        (tables S.Store P.Shelf connection.old) (tables S.Store P.Shelf connection.new) result }
 {
     let locked = bucket_locked(connection, tenant, bucket)?;
     if keeps_versions(locked, state) {
@@ -169,17 +172,18 @@ fn require_kept<S: Alter>(
 
 /// S3's PutBucketVersioning. Refusals: NoSuchBucket, InvalidBucketState. No bucket returns to its
 /// first state, Unversioned.
-pub fn set_versioning<S: Alter>(
-    connection: &mut Connection<S>,
+pub fn set_versioning<S: Alter, P: Shelf>(
+    connection: &mut Connection<S, P>,
     tenant: &TenantName,
     bucket: &BucketName,
     state: BucketState,
 ) -> Result<(), StepError<Refusal>>
-    requires working { Works S.Store connection.old }
+    requires working { Works S.Store P.Shelf connection.old }
     requires kept { state ≢ BucketState.Unversioned }
-    ensures works { WorksOn S.Store (Unless result) connection.old connection.new }
-    ensures carries { IsClean S.Store connection.new → Carries (λ _. machine.Done) tenant.now (machine.put_versioning bucket.now state)
-        (tables S.Store connection.old) (tables S.Store connection.new) result }
+    ensures works { WorksOn S.Store P.Shelf (Unless result) connection.old connection.new }
+    ensures carries { IsClean S.Store P.Shelf connection.new
+        → Carries (λ _. machine.Done) tenant.now (machine.put_versioning bucket.now state)
+        (tables S.Store P.Shelf connection.old) (tables S.Store P.Shelf connection.new) result }
 {
     bucket_state(connection, tenant, bucket)?;
     require_kept(connection, tenant, bucket, state)?;
@@ -188,15 +192,15 @@ pub fn set_versioning<S: Alter>(
 }
 
 /// Whether a tenant's bucket has no version, no marker and no upload.
-fn has_nothing<S: Alter>(
-    connection: &mut Connection<S>,
+fn has_nothing<S: Alter, P: Shelf>(
+    connection: &mut Connection<S, P>,
     tenant: &str,
     bucket: &str,
 ) -> Result<bool, Error>
-    requires inside { InTransaction S.Store connection.old }
-    ensures reads { MayRead S.Store connection.old connection.new result }
-    ensures found { IfOk result (λ found. IsClean S.Store connection.new
-        → found ≡ is_empty tenant.now bucket.now (tables S.Store connection.old)) }
+    requires inside { InTransaction S.Store P.Shelf connection.old }
+    ensures reads { MayRead S.Store P.Shelf connection.old connection.new result }
+    ensures found { IfOk result (λ found. IsClean S.Store P.Shelf connection.new
+        → found ≡ is_empty tenant.now bucket.now (tables S.Store P.Shelf connection.old)) }
 {
     if bucket_has(connection, tenant, bucket, Content::Version)? {
         return Ok(false);
@@ -205,16 +209,16 @@ fn has_nothing<S: Alter>(
 }
 
 /// Fails with BucketNotEmpty if a tenant's bucket has a version, a marker or an upload.
-fn require_empty<S: Alter>(
-    connection: &mut Connection<S>,
+fn require_empty<S: Alter, P: Shelf>(
+    connection: &mut Connection<S, P>,
     tenant: &TenantName,
     bucket: &BucketName,
 ) -> Result<(), StepError<Refusal>>
-    requires working { Works S.Store connection.old }
-    ensures works { WorksOn S.Store (Unless result) connection.old connection.new }
-    ensures decides { IsClean S.Store connection.new
-        → Decides (λ _. tt) (emptiness tenant.now bucket.now (tables S.Store connection.old))
-        (tables S.Store connection.old) (tables S.Store connection.new) result }
+    requires working { Works S.Store P.Shelf connection.old }
+    ensures works { WorksOn S.Store P.Shelf (Unless result) connection.old connection.new }
+    ensures decides { IsClean S.Store P.Shelf connection.new
+        → Decides (λ _. tt) (emptiness tenant.now bucket.now (tables S.Store P.Shelf connection.old))
+        (tables S.Store P.Shelf connection.old) (tables S.Store P.Shelf connection.new) result }
 {
     if !or_trouble(has_nothing(connection, tenant.as_str(), bucket.as_str()))? {
         return Err(StepError::Refused(Refusal::BucketNotEmpty));
@@ -223,13 +227,13 @@ fn require_empty<S: Alter>(
 }
 
 /// Deletes the rows of an empty bucket: the lock, if it is locked, and then its own.
-fn drop_bucket<S: Alter>(
-    connection: &mut Connection<S>,
+fn drop_bucket<S: Alter, P: Shelf>(
+    connection: &mut Connection<S, P>,
     tenant: &TenantName,
     bucket: &BucketName,
 ) -> Result<(), Trouble>
-    requires inside { InTransaction S.Store connection.old }
-    ensures changes { Changes S.Store connection.old connection.new result (without_bucket tenant.now bucket.now) }
+    requires inside { InTransaction S.Store P.Shelf connection.old }
+    ensures changes { Changes S.Store P.Shelf connection.old connection.new result (without_bucket tenant.now bucket.now) }
 {
     or_trouble(delete_named(connection, tenant.as_str(), bucket.as_str(), Named::Lock))?;
     or_trouble(rows::buckets::delete_bucket(connection, tenant.as_str(), bucket.as_str()))?;
@@ -238,15 +242,15 @@ fn drop_bucket<S: Alter>(
 
 /// S3's DeleteBucket. Refusals: NoSuchBucket, BucketNotEmpty. A bucket isn't empty if it has a
 /// version, a delete marker or an unfinished upload; a lock doesn't count.
-pub fn delete_bucket<S: Alter>(
-    connection: &mut Connection<S>,
+pub fn delete_bucket<S: Alter, P: Shelf>(
+    connection: &mut Connection<S, P>,
     tenant: &TenantName,
     bucket: &BucketName,
 ) -> Result<RemovedEntry, StepError<Refusal>>
-    requires working { Works S.Store connection.old }
-    ensures works { WorksOn S.Store (Unless result) connection.old connection.new }
-    ensures carries { IsClean S.Store connection.new → Carries removed_answer tenant.now (machine.delete_bucket bucket.now)
-        (tables S.Store connection.old) (tables S.Store connection.new) result }
+    requires working { Works S.Store P.Shelf connection.old }
+    ensures works { WorksOn S.Store P.Shelf (Unless result) connection.old connection.new }
+    ensures carries { IsClean S.Store P.Shelf connection.new → Carries removed_answer tenant.now (machine.delete_bucket bucket.now)
+        (tables S.Store P.Shelf connection.old) (tables S.Store P.Shelf connection.new) result }
 {
     bucket_state(connection, tenant, bucket)?;
     require_empty(connection, tenant, bucket)?;
@@ -278,16 +282,16 @@ fn bucket_entries(alloc: Global, listed: &[ListedBucket]) -> Result<Vec<BucketEn
 
 /// S3's ListBuckets: all of a tenant's buckets, by name in byte order. A tenant that doesn't exist
 /// has none.
-pub fn list_buckets<S: Alter>(
-    connection: &mut Connection<S>,
+pub fn list_buckets<S: Alter, P: Shelf>(
+    connection: &mut Connection<S, P>,
     alloc: Global,
     tenant: &TenantName,
 ) -> Result<Vec<BucketEntry>, StepError<Refusal>>
-    requires working { Works S.Store connection.old }
-    ensures works { WorksOn S.Store (Unless result) connection.old connection.new }
-    ensures carries { IsClean S.Store connection.new
+    requires working { Works S.Store P.Shelf connection.old }
+    ensures works { WorksOn S.Store P.Shelf (Unless result) connection.old connection.new }
+    ensures carries { IsClean S.Store P.Shelf connection.new
         → Carries (λ buckets. machine.Buckets (map bucket_view buckets.items)) tenant.now machine.list_buckets
-        (tables S.Store connection.old) (tables S.Store connection.new) result }
+        (tables S.Store P.Shelf connection.old) (tables S.Store P.Shelf connection.new) result }
 {
     let listed: Vec<ListedBucket> = or_trouble(list_of(connection, alloc, tenant.as_str()))?;
     Ok(bucket_entries(alloc, &listed)?)

@@ -4,18 +4,20 @@
 ghost use Rattle.std.specs.Prelude.{◌≡◌, ◌<◌, ◌≤◌, ◌^◌, true, length, take, None, IfOk, IfErr, OnOk};
 ghost use Rattle.bh_http.specs.Bodies.{Gives, IsWhole, MayBreak};
 ghost use Rattle.bh_tables.specs.Schema.{Octets};
-ghost use Rattle.bh_schema.specs.Connections.{IsClean, tables, InTransaction};
+ghost use Rattle.bh_base.specs.Connections.{IsClean, tables, InTransaction};
 ghost use Rattle.bh_cache.specs.Kept.{AreCopies};
 ghost use Rattle.bh_objects.specs.Storing.{IsBegun, Takes};
 
 use crate::bodies::Blocks;
+use bh_base::connection::Connection;
 use bh_blocks::drafts::{Draft, push, push_known};
 use bh_http::body::{Body, Break};
 use bh_schema::host::Digester;
 use bh_schema::trouble::or_trouble;
+use bh_shelf::shelf::Shelf;
 use bh_storage::error::Trouble;
 use sha2::{Digest, Sha256};
-use sqlite::{Alter, Connection};
+use sqlite::Alter;
 
 /// The maximum size of a buffer in bytes: eight blocks of 64 KiB.
 const MOST: u64 = 524288;
@@ -64,20 +66,21 @@ fn is_short(size: u64, due: u64, room: usize) -> bool
 
 /// Stores the first block of a body, and returns a hasher of its bytes. Its name is known from the
 /// same hasher.
-fn take_block<S: Alter, D: Digester, B: Body>(
-    connection: &mut Connection<S>,
+fn take_block<S: Alter, P: Shelf, D: Digester, B: Body>(
+    connection: &mut Connection<S, P>,
     blocks: &Blocks<'_, '_, D>,
     draft: &mut Draft<'_>,
     body: &mut B,
     block: &mut [u8],
 ) -> Result<Sha256, Trouble>
-    requires inside { InTransaction S.Store connection.old }
-    requires copies { IsClean S.Store connection.old → AreCopies blocks.now.cache.now (tables S.Store connection.old).blocks }
+    requires inside { InTransaction S.Store P.Shelf connection.old }
+    requires copies { IsClean S.Store P.Shelf connection.old
+        → AreCopies blocks.now.cache.now (tables S.Store P.Shelf connection.old).blocks }
     requires begun { IsBegun draft.old }
     requires going { (B.coming body.old).broken ≡ None }
     requires whole { length block.old ≡ draft.old.size }
     requires more { length block.old < (B.coming body.old).due }
-    ensures takes { Takes S.Store D.digest_of blocks.now.cache.now draft.old draft.new (B.coming body.old) (B.coming body.new)
+    ensures takes { Takes S.Store P.Shelf D.digest_of blocks.now.cache.now draft.old draft.new (B.coming body.old) (B.coming body.new)
         connection.old connection.new result }
 {
     fill(body, block)?;
@@ -96,19 +99,20 @@ fn take_block<S: Alter, D: Digester, B: Body>(
 
 /// Begins to store a body: of a short one the first block, of others nothing. Returns a hasher of
 /// the bytes that were received.
-fn take_first<S: Alter, D: Digester, B: Body>(
-    connection: &mut Connection<S>,
+fn take_first<S: Alter, P: Shelf, D: Digester, B: Body>(
+    connection: &mut Connection<S, P>,
     blocks: &Blocks<'_, '_, D>,
     draft: &mut Draft<'_>,
     body: &mut B,
     buffer: &mut [u8],
 ) -> Result<Sha256, Trouble>
-    requires inside { InTransaction S.Store connection.old }
-    requires copies { IsClean S.Store connection.old → AreCopies blocks.now.cache.now (tables S.Store connection.old).blocks }
+    requires inside { InTransaction S.Store P.Shelf connection.old }
+    requires copies { IsClean S.Store P.Shelf connection.old
+        → AreCopies blocks.now.cache.now (tables S.Store P.Shelf connection.old).blocks }
     requires begun { IsBegun draft.old }
     requires size { draft.old.size ≡ blocks.now.size }
     requires going { (B.coming body.old).broken ≡ None }
-    ensures takes { Takes S.Store D.digest_of blocks.now.cache.now draft.old draft.new (B.coming body.old) (B.coming body.new)
+    ensures takes { Takes S.Store P.Shelf D.digest_of blocks.now.cache.now draft.old draft.new (B.coming body.old) (B.coming body.new)
         connection.old connection.new result }
 {
     if is_short(blocks.size, body.due(), buffer.len()) {
@@ -121,20 +125,21 @@ fn take_first<S: Alter, D: Digester, B: Body>(
 
 /// Stores the blocks of a body while it is received, and returns a hasher of all its bytes. Fewer
 /// bytes than a block has are left in the draft.
-pub fn take_all<S: Alter, D: Digester, B: Body>(
-    connection: &mut Connection<S>,
+pub fn take_all<S: Alter, P: Shelf, D: Digester, B: Body>(
+    connection: &mut Connection<S, P>,
     blocks: &Blocks<'_, '_, D>,
     draft: &mut Draft<'_>,
     body: &mut B,
     buffer: &mut [u8],
 ) -> Result<Sha256, Trouble>
-    requires inside { InTransaction S.Store connection.old }
-    requires copies { IsClean S.Store connection.old → AreCopies blocks.now.cache.now (tables S.Store connection.old).blocks }
+    requires inside { InTransaction S.Store P.Shelf connection.old }
+    requires copies { IsClean S.Store P.Shelf connection.old
+        → AreCopies blocks.now.cache.now (tables S.Store P.Shelf connection.old).blocks }
     requires begun { IsBegun draft.old }
     requires size { draft.old.size ≡ blocks.now.size }
     requires going { (B.coming body.old).broken ≡ None }
     requires some { 0 < (B.coming body.old).due → 0 < length buffer.old }
-    ensures takes { Takes S.Store D.digest_of blocks.now.cache.now draft.old draft.new (B.coming body.old) (B.coming body.new)
+    ensures takes { Takes S.Store P.Shelf D.digest_of blocks.now.cache.now draft.old draft.new (B.coming body.old) (B.coming body.new)
         connection.old connection.new result }
     ensures whole { OnOk result (IsWhole (B.coming body.new)) }
 {

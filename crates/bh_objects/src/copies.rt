@@ -7,7 +7,7 @@ ghost use Rattle.bh_storage.specs.Calls.{Unless, Decides, Carries};
 ghost use Rattle.bh_view.specs.Blocks.{whole};
 ghost use Rattle.bh_view.specs.Put.{row_number};
 ghost use Rattle.bh_view.specs.View.{view, latest_of};
-ghost use Rattle.bh_schema.specs.Connections.{IsClean, tables, InTransaction};
+ghost use Rattle.bh_base.specs.Connections.{IsClean, tables, InTransaction};
 ghost use Rattle.bh_schema.specs.Views.{head_seen};
 ghost use Rattle.bh_schema.specs.Working.{Works, WorksOn};
 ghost use Rattle.bh_objects.specs.Calls.{Changes};
@@ -21,9 +21,11 @@ use crate::ids::new_id_told;
 use crate::quotas::{NewEntry, new_entry};
 use crate::reads::{Numbers, bucket_state};
 use crate::writes::{AddedVersion, add_version, drop_replaced};
+use bh_base::connection::Connection;
 use bh_blocks::bodies::copy_body;
 use bh_schema::rows::versions::VersionHead;
 use bh_schema::trouble::or_trouble;
+use bh_shelf::shelf::Shelf;
 use bh_storage::answer::CopiedVersion;
 use bh_storage::error::{StepError, Trouble};
 use bh_types::bucket::BucketName;
@@ -35,7 +37,7 @@ use bh_types::names::TenantName;
 use bh_types::refusal::Refusal;
 use bh_types::rejection::Rejection;
 use bh_types::wanted::Wanted;
-use sqlite::{Alter, Connection};
+use sqlite::Alter;
 
 /// A copy within a tenant.
 #[derive(Clone, Copy)]
@@ -67,19 +69,19 @@ fn source_refused(rejection: Rejection) -> Refusal
 
 /// The source of a copy, without its bytes. Refusals: NoSuchBucket, NoSuchKey, NoSuchVersion,
 /// InvalidRequest.
-fn source_head<S: Alter>(
-    connection: &mut Connection<S>,
+fn source_head<S: Alter, P: Shelf>(
+    connection: &mut Connection<S, P>,
     copy: &NewCopy<'_>,
 ) -> Result<VersionHead, StepError<Refusal>>
-    requires { Works S.Store connection.old }
-    ensures works { WorksOn S.Store (Unless result) connection.old connection.new }
-    ensures decides { IsClean S.Store connection.new
-        → Decides (λ head. version_read copy.now.tenant.now (tables S.Store connection.old) (head_seen head))
+    requires { Works S.Store P.Shelf connection.old }
+    ensures works { WorksOn S.Store P.Shelf (Unless result) connection.old connection.new }
+    ensures decides { IsClean S.Store P.Shelf connection.new
+        → Decides (λ head. version_read copy.now.tenant.now (tables S.Store P.Shelf connection.old) (head_seen head))
         (machine.source_version copy.now.source_bucket.now copy.now.source_key.now copy.now.version
-        (view (tables S.Store connection.old) copy.now.tenant.now))
-        (tables S.Store connection.old) (tables S.Store connection.new) result }
-    ensures sized { IfOk result (λ head. IsClean S.Store connection.new
-        → head.size ≡ length (whole (tables S.Store connection.old).refs (tables S.Store connection.old).blocks
+        (view (tables S.Store P.Shelf connection.old) copy.now.tenant.now))
+        (tables S.Store P.Shelf connection.old) (tables S.Store P.Shelf connection.new) result }
+    ensures sized { IfOk result (λ head. IsClean S.Store P.Shelf connection.new
+        → head.size ≡ length (whole (tables S.Store P.Shelf connection.old).refs (tables S.Store P.Shelf connection.old).blocks
         (copy.now.tenant.now, head.seq))) }
 {
     let (bucket, key) = (copy.source_bucket, copy.source_key);
@@ -94,17 +96,17 @@ fn source_head<S: Alter>(
 /// Puts a copy of a version into a bucket of this state, as a new entry. Its body, with the
 /// source's blocks, is written before the replaced entry is removed, since that may be the source.
 /// Then its row is written, with the counters.
-fn write_copy<S: Alter>(
-    connection: &mut Connection<S>,
+fn write_copy<S: Alter, P: Shelf>(
+    connection: &mut Connection<S, P>,
     copy: &NewCopy<'_>,
     mode: BucketState,
     entry: NewEntry,
     head: &VersionHead,
 ) -> Result<(), Trouble>
-    requires inside { InTransaction S.Store connection.old }
-    requires held { IsClean S.Store connection.old
-        → IsHeld copy.now.tenant.now copy.now.bucket.now copy.now.key.now entry.replaced (tables S.Store connection.old) }
-    ensures changes { Changes S.Store connection.old connection.new result
+    requires inside { InTransaction S.Store P.Shelf connection.old }
+    requires held { IsClean S.Store P.Shelf connection.old
+        → IsHeld copy.now.tenant.now copy.now.bucket.now copy.now.key.now entry.replaced (tables S.Store P.Shelf connection.old) }
+    ensures changes { Changes S.Store P.Shelf connection.old connection.new result
         (copy_written mode entry.numbers.before entry.numbers.after entry.replaced
         copy.now.tenant.now copy.now.bucket.now copy.now.key.now copy.now.at (head_seen head.now)) }
     ensures key { OnOk result (IsKeyText copy.now.key.now) }
@@ -135,36 +137,36 @@ fn write_copy<S: Alter>(
 
 /// Stores a copy of a version that was found as a new version without a date, in a bucket of this
 /// state. Refusals: QuotaExceeded, CounterExhausted.
-fn store_copy<S: Alter>(
-    connection: &mut Connection<S>,
+fn store_copy<S: Alter, P: Shelf>(
+    connection: &mut Connection<S, P>,
     copy: &NewCopy<'_>,
     mode: BucketState,
     head: &VersionHead,
 ) -> Result<Numbers, StepError<Refusal>>
-    requires working { Works S.Store connection.old }
-    requires early { IsClean S.Store connection.old → copy.now.at ≤ latest_of (tables S.Store connection.old) }
-    requires state { IsClean S.Store connection.old
-        → mode_in copy.now.bucket.now (view (tables S.Store connection.old) copy.now.tenant.now) ≡ Ok mode }
-    requires source { IsClean S.Store connection.old
+    requires working { Works S.Store P.Shelf connection.old }
+    requires early { IsClean S.Store P.Shelf connection.old → copy.now.at ≤ latest_of (tables S.Store P.Shelf connection.old) }
+    requires state { IsClean S.Store P.Shelf connection.old
+        → mode_in copy.now.bucket.now (view (tables S.Store P.Shelf connection.old) copy.now.tenant.now) ≡ Ok mode }
+    requires source { IsClean S.Store P.Shelf connection.old
         → machine.source_version copy.now.source_bucket.now copy.now.source_key.now copy.now.version
-        (view (tables S.Store connection.old) copy.now.tenant.now)
-        ≡ Ok (version_read copy.now.tenant.now (tables S.Store connection.old) (head_seen head.now)) }
-    requires sized { IsClean S.Store connection.old
-        → head.now.size ≡ length (whole (tables S.Store connection.old).refs (tables S.Store connection.old).blocks
+        (view (tables S.Store P.Shelf connection.old) copy.now.tenant.now)
+        ≡ Ok (version_read copy.now.tenant.now (tables S.Store P.Shelf connection.old) (head_seen head.now)) }
+    requires sized { IsClean S.Store P.Shelf connection.old
+        → head.now.size ≡ length (whole (tables S.Store P.Shelf connection.old).refs (tables S.Store P.Shelf connection.old).blocks
         (copy.now.tenant.now, head.now.seq)) }
-    ensures works { WorksOn S.Store (Unless result) connection.old connection.new }
-    ensures carries { IsClean S.Store connection.new
+    ensures works { WorksOn S.Store P.Shelf (Unless result) connection.old connection.new }
+    ensures carries { IsClean S.Store P.Shelf connection.new
         → Carries (λ numbers. machine.Copied (machine.id_told mode (new_id mode numbers.before.version)) copy.now.at
         (string_bytes head.now.checksum))
         copy.now.tenant.now
         (machine.copy_object copy.now.at copy.now.bucket.now copy.now.key.now copy.now.source_bucket.now copy.now.source_key.now
         copy.now.version None)
-        (tables S.Store connection.old) (tables S.Store connection.new) result }
-    ensures counted { IfOk result (λ numbers. IsClean S.Store connection.new
-        → counts_in (view (tables S.Store connection.old) copy.now.tenant.now) ≡ Ok numbers.before) }
-    ensures placed { IfOk result (λ numbers. IsClean S.Store connection.new
+        (tables S.Store P.Shelf connection.old) (tables S.Store P.Shelf connection.new) result }
+    ensures counted { IfOk result (λ numbers. IsClean S.Store P.Shelf connection.new
+        → counts_in (view (tables S.Store P.Shelf connection.old) copy.now.tenant.now) ≡ Ok numbers.before) }
+    ensures placed { IfOk result (λ numbers. IsClean S.Store P.Shelf connection.new
         → IsPlaced copy.now.tenant.now copy.now.bucket.now copy.now.key.now
-        (row_number mode numbers.before.version) numbers.before.entry (tables S.Store connection.new)) }
+        (row_number mode numbers.before.version) numbers.before.entry (tables S.Store P.Shelf connection.new)) }
 {
     let entry = new_entry(
         connection,
@@ -183,18 +185,18 @@ fn store_copy<S: Alter>(
 /// copy's bucket and then for the source's, NoSuchKey, NoSuchVersion, InvalidRequest,
 /// InvalidArgument, QuotaExceeded, CounterExhausted. The source's date is not copied. No byte is
 /// read.
-pub fn copy_object<S: Alter>(
-    connection: &mut Connection<S>,
+pub fn copy_object<S: Alter, P: Shelf>(
+    connection: &mut Connection<S, P>,
     copy: &NewCopy<'_>,
 ) -> Result<CopiedVersion, StepError<Refusal>>
-    requires working { Works S.Store connection.old }
-    requires early { IsClean S.Store connection.old → copy.now.at ≤ latest_of (tables S.Store connection.old) }
-    ensures works { WorksOn S.Store (Unless result) connection.old connection.new }
-    ensures carries { IsClean S.Store connection.new
+    requires working { Works S.Store P.Shelf connection.old }
+    requires early { IsClean S.Store P.Shelf connection.old → copy.now.at ≤ latest_of (tables S.Store P.Shelf connection.old) }
+    ensures works { WorksOn S.Store P.Shelf (Unless result) connection.old connection.new }
+    ensures carries { IsClean S.Store P.Shelf connection.new
         → Carries copied_answer copy.now.tenant.now
         (machine.copy_object copy.now.at copy.now.bucket.now copy.now.key.now copy.now.source_bucket.now copy.now.source_key.now
         copy.now.version copy.now.date)
-        (tables S.Store connection.old) (tables S.Store connection.new) result }
+        (tables S.Store P.Shelf connection.old) (tables S.Store P.Shelf connection.new) result }
 {
     let mode = bucket_state(connection, copy.tenant, copy.bucket)?;
     let head = source_head(connection, copy)?;

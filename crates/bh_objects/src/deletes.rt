@@ -6,7 +6,7 @@ ghost use Rattle.bh_storage.specs.Answers.{removed_answer};
 ghost use Rattle.bh_storage.specs.Calls.{Unless, Carries};
 ghost use Rattle.bh_tables.specs.Shown.{is_version};
 ghost use Rattle.bh_view.specs.View.{view, latest_of, id_of};
-ghost use Rattle.bh_schema.specs.Connections.{IsClean, tables, InTransaction};
+ghost use Rattle.bh_base.specs.Connections.{IsClean, tables, InTransaction};
 ghost use Rattle.bh_schema.specs.Written.{bytes_of_id};
 ghost use Rattle.bh_schema.specs.Working.{Works, WorksOn};
 ghost use Rattle.bh_schema.specs.Rows.{seen_head};
@@ -22,8 +22,10 @@ use crate::ids::{number_of, told_id};
 use crate::quotas::{Replaced, as_replaced};
 use crate::reads::{Numbers, bucket_state, new_numbers};
 use crate::writes::{drop_entry, drop_null_version, write_marker};
+use bh_base::connection::Connection;
 use bh_model::entries::new_id;
 use bh_schema::rows::versions::VersionHead;
+use bh_shelf::shelf::Shelf;
 use bh_storage::answer::RemovedEntry;
 use bh_storage::error::{StepError, Trouble};
 use bh_types::bucket::BucketName;
@@ -34,7 +36,7 @@ use bh_types::moment::Moment;
 use bh_types::names::TenantName;
 use bh_types::refusal::Refusal;
 use bh_types::wanted::Wanted;
-use sqlite::{Alter, Connection};
+use sqlite::Alter;
 
 /// The answer if no delete marker was made, and no entry was deleted by its id.
 pub fn nothing_told() -> RemovedEntry
@@ -47,22 +49,23 @@ pub fn nothing_told() -> RemovedEntry
 }
 
 /// Adds a delete marker, in a bucket that has or had versions. Refusal: CounterExhausted.
-fn make_marker<S: Alter>(
-    connection: &mut Connection<S>,
+fn make_marker<S: Alter, P: Shelf>(
+    connection: &mut Connection<S, P>,
     tenant: &TenantName,
     at: Moment,
     bucket: &BucketName,
     key: &ObjectKey,
     mode: BucketState,
 ) -> Result<RemovedEntry, StepError<Refusal>>
-    requires working { Works S.Store connection.old }
-    requires early { IsClean S.Store connection.old → at ≤ latest_of (tables S.Store connection.old) }
-    requires state { IsClean S.Store connection.old → mode_in bucket.now (view (tables S.Store connection.old) tenant.now) ≡ Ok mode }
+    requires working { Works S.Store P.Shelf connection.old }
+    requires early { IsClean S.Store P.Shelf connection.old → at ≤ latest_of (tables S.Store P.Shelf connection.old) }
+    requires state { IsClean S.Store P.Shelf connection.old
+        → mode_in bucket.now (view (tables S.Store P.Shelf connection.old) tenant.now) ≡ Ok mode }
     requires versioned { mode ≢ Unversioned }
-    ensures works { WorksOn S.Store (Unless result) connection.old connection.new }
-    ensures carries { IsClean S.Store connection.new
+    ensures works { WorksOn S.Store P.Shelf (Unless result) connection.old connection.new }
+    ensures carries { IsClean S.Store P.Shelf connection.new
         → Carries removed_answer tenant.now (machine.delete_object at bucket.now key.now Current)
-        (tables S.Store connection.old) (tables S.Store connection.new) result }
+        (tables S.Store P.Shelf connection.old) (tables S.Store P.Shelf connection.new) result }
 {
     let numbers = new_numbers(connection, tenant, mode)?;
     let Numbers { before, .. } = numbers;
@@ -75,20 +78,20 @@ fn make_marker<S: Alter>(
 
 /// Deletes the version `null` in a bucket that never had versions. A delete marker stays: no
 /// operation leaves one there, but the file that was opened may have one.
-fn delete_null<S: Alter>(
-    connection: &mut Connection<S>,
+fn delete_null<S: Alter, P: Shelf>(
+    connection: &mut Connection<S, P>,
     tenant: &TenantName,
     at: Moment,
     bucket: &BucketName,
     key: &ObjectKey,
 ) -> Result<RemovedEntry, StepError<Refusal>>
-    requires working { Works S.Store connection.old }
-    requires state { IsClean S.Store connection.old
-        → mode_in bucket.now (view (tables S.Store connection.old) tenant.now) ≡ Ok Unversioned }
-    ensures works { WorksOn S.Store (Unless result) connection.old connection.new }
-    ensures carries { IsClean S.Store connection.new
+    requires working { Works S.Store P.Shelf connection.old }
+    requires state { IsClean S.Store P.Shelf connection.old
+        → mode_in bucket.now (view (tables S.Store P.Shelf connection.old) tenant.now) ≡ Ok Unversioned }
+    ensures works { WorksOn S.Store P.Shelf (Unless result) connection.old connection.new }
+    ensures carries { IsClean S.Store P.Shelf connection.new
         → Carries removed_answer tenant.now (machine.delete_object at bucket.now key.now Current)
-        (tables S.Store connection.old) (tables S.Store connection.new) result }
+        (tables S.Store P.Shelf connection.old) (tables S.Store P.Shelf connection.new) result }
 {
     drop_null_version(connection, tenant, bucket, key)?;
     Ok(nothing_told())
@@ -96,8 +99,8 @@ fn delete_null<S: Alter>(
 
 /// Deletes the entry of a key with this number in the column `id`, and first its date, if it has
 /// one.
-fn drop_dated<S: Alter>(
-    connection: &mut Connection<S>,
+fn drop_dated<S: Alter, P: Shelf>(
+    connection: &mut Connection<S, P>,
     tenant: &TenantName,
     bucket: &BucketName,
     key: &ObjectKey,
@@ -105,11 +108,11 @@ fn drop_dated<S: Alter>(
     entry: Replaced,
     date: Option<Moment>,
 ) -> Result<(), Trouble>
-    requires inside { InTransaction S.Store connection.old }
+    requires inside { InTransaction S.Store P.Shelf connection.old }
     requires small { number < 2 ^ 62 }
-    requires held { IsClean S.Store connection.old
-        → bytes_of_id tenant.now bucket.now key.now number (tables S.Store connection.old) ≡ entry.size }
-    ensures changes { Changes S.Store connection.old connection.new result
+    requires held { IsClean S.Store P.Shelf connection.old
+        → bytes_of_id tenant.now bucket.now key.now number (tables S.Store P.Shelf connection.old) ≡ entry.size }
+    ensures changes { Changes S.Store P.Shelf connection.old connection.new result
         (λ rows. without_entry tenant.now bucket.now key.now number entry.seq (with_date tenant.now entry.seq date None rows)) }
 {
     set_date(connection, tenant, entry.seq, date, None)?;
@@ -118,8 +121,8 @@ fn drop_dated<S: Alter>(
 
 /// Deletes the entry that was found of a key with this id, and this number in the column `id`.
 /// Fails with AccessDenied before its date.
-fn delete_found<S: Alter>(
-    connection: &mut Connection<S>,
+fn delete_found<S: Alter, P: Shelf>(
+    connection: &mut Connection<S, P>,
     tenant: &TenantName,
     at: Moment,
     bucket: &BucketName,
@@ -129,16 +132,17 @@ fn delete_found<S: Alter>(
     number: u64,
     head: &VersionHead,
 ) -> Result<RemovedEntry, StepError<Refusal>>
-    requires working { Works S.Store connection.old }
-    requires state { IsClean S.Store connection.old → mode_in bucket.now (view (tables S.Store connection.old) tenant.now) ≡ Ok mode }
+    requires working { Works S.Store P.Shelf connection.old }
+    requires state { IsClean S.Store P.Shelf connection.old
+        → mode_in bucket.now (view (tables S.Store P.Shelf connection.old) tenant.now) ≡ Ok mode }
     requires number { id_of number ≡ id }
     requires small { number < 2 ^ 62 }
-    requires found { IsClean S.Store connection.old → Some (head_seen head.now) ≡ option_map seen_head
-        (find (is_version tenant.now bucket.now key.now number) (tables S.Store connection.old).versions) }
-    ensures works { WorksOn S.Store (Unless result) connection.old connection.new }
-    ensures carries { IsClean S.Store connection.new
+    requires found { IsClean S.Store P.Shelf connection.old → Some (head_seen head.now) ≡ option_map seen_head
+        (find (is_version tenant.now bucket.now key.now number) (tables S.Store P.Shelf connection.old).versions) }
+    ensures works { WorksOn S.Store P.Shelf (Unless result) connection.old connection.new }
+    ensures carries { IsClean S.Store P.Shelf connection.new
         → Carries removed_answer tenant.now (machine.delete_object at bucket.now key.now (Named id))
-        (tables S.Store connection.old) (tables S.Store connection.new) result }
+        (tables S.Store P.Shelf connection.old) (tables S.Store P.Shelf connection.new) result }
 {
     let date = past_date(connection, tenant, head.seq, at)?;
     let entry = as_replaced(head);
@@ -151,8 +155,8 @@ fn delete_found<S: Alter>(
 
 /// Deletes the entry of a key with this id, and this number in the column `id`, if there is one.
 /// Fails with AccessDenied before its date.
-fn delete_numbered<S: Alter>(
-    connection: &mut Connection<S>,
+fn delete_numbered<S: Alter, P: Shelf>(
+    connection: &mut Connection<S, P>,
     tenant: &TenantName,
     at: Moment,
     bucket: &BucketName,
@@ -161,14 +165,15 @@ fn delete_numbered<S: Alter>(
     id: VersionId,
     number: u64,
 ) -> Result<RemovedEntry, StepError<Refusal>>
-    requires working { Works S.Store connection.old }
-    requires state { IsClean S.Store connection.old → mode_in bucket.now (view (tables S.Store connection.old) tenant.now) ≡ Ok mode }
+    requires working { Works S.Store P.Shelf connection.old }
+    requires state { IsClean S.Store P.Shelf connection.old
+        → mode_in bucket.now (view (tables S.Store P.Shelf connection.old) tenant.now) ≡ Ok mode }
     requires number { id_of number ≡ id }
     requires small { number < 2 ^ 62 }
-    ensures works { WorksOn S.Store (Unless result) connection.old connection.new }
-    ensures carries { IsClean S.Store connection.new
+    ensures works { WorksOn S.Store P.Shelf (Unless result) connection.old connection.new }
+    ensures carries { IsClean S.Store P.Shelf connection.new
         → Carries removed_answer tenant.now (machine.delete_object at bucket.now key.now (Named id))
-        (tables S.Store connection.old) (tables S.Store connection.new) result }
+        (tables S.Store P.Shelf connection.old) (tables S.Store P.Shelf connection.new) result }
 {
     let found = numbered_head(connection, tenant, bucket, key, number)?;
     match found {
@@ -178,21 +183,22 @@ fn delete_numbered<S: Alter>(
 }
 
 /// A delete without an id.
-fn delete_current<S: Alter>(
-    connection: &mut Connection<S>,
+fn delete_current<S: Alter, P: Shelf>(
+    connection: &mut Connection<S, P>,
     tenant: &TenantName,
     at: Moment,
     bucket: &BucketName,
     key: &ObjectKey,
     mode: BucketState,
 ) -> Result<RemovedEntry, StepError<Refusal>>
-    requires working { Works S.Store connection.old }
-    requires early { IsClean S.Store connection.old → at ≤ latest_of (tables S.Store connection.old) }
-    requires state { IsClean S.Store connection.old → mode_in bucket.now (view (tables S.Store connection.old) tenant.now) ≡ Ok mode }
-    ensures works { WorksOn S.Store (Unless result) connection.old connection.new }
-    ensures carries { IsClean S.Store connection.new
+    requires working { Works S.Store P.Shelf connection.old }
+    requires early { IsClean S.Store P.Shelf connection.old → at ≤ latest_of (tables S.Store P.Shelf connection.old) }
+    requires state { IsClean S.Store P.Shelf connection.old
+        → mode_in bucket.now (view (tables S.Store P.Shelf connection.old) tenant.now) ≡ Ok mode }
+    ensures works { WorksOn S.Store P.Shelf (Unless result) connection.old connection.new }
+    ensures carries { IsClean S.Store P.Shelf connection.new
         → Carries removed_answer tenant.now (machine.delete_object at bucket.now key.now Current)
-        (tables S.Store connection.old) (tables S.Store connection.new) result }
+        (tables S.Store P.Shelf connection.old) (tables S.Store P.Shelf connection.new) result }
 {
     match mode {
         BucketState::Unversioned => delete_null(connection, tenant, at, bucket, key),
@@ -202,8 +208,8 @@ fn delete_current<S: Alter>(
 }
 
 /// A delete with an id. Fails with AccessDenied before the version's date.
-fn delete_named<S: Alter>(
-    connection: &mut Connection<S>,
+fn delete_named<S: Alter, P: Shelf>(
+    connection: &mut Connection<S, P>,
     tenant: &TenantName,
     at: Moment,
     bucket: &BucketName,
@@ -211,12 +217,13 @@ fn delete_named<S: Alter>(
     mode: BucketState,
     id: VersionId,
 ) -> Result<RemovedEntry, StepError<Refusal>>
-    requires working { Works S.Store connection.old }
-    requires state { IsClean S.Store connection.old → mode_in bucket.now (view (tables S.Store connection.old) tenant.now) ≡ Ok mode }
-    ensures works { WorksOn S.Store (Unless result) connection.old connection.new }
-    ensures carries { IsClean S.Store connection.new
+    requires working { Works S.Store P.Shelf connection.old }
+    requires state { IsClean S.Store P.Shelf connection.old
+        → mode_in bucket.now (view (tables S.Store P.Shelf connection.old) tenant.now) ≡ Ok mode }
+    ensures works { WorksOn S.Store P.Shelf (Unless result) connection.old connection.new }
+    ensures carries { IsClean S.Store P.Shelf connection.new
         → Carries removed_answer tenant.now (machine.delete_object at bucket.now key.now (Named id))
-        (tables S.Store connection.old) (tables S.Store connection.new) result }
+        (tables S.Store P.Shelf connection.old) (tables S.Store P.Shelf connection.new) result }
 {
     match number_of(id) {
         Some(number) => delete_numbered(connection, tenant, at, bucket, key, mode, id, number),
@@ -227,20 +234,20 @@ fn delete_named<S: Alter>(
 /// S3's DeleteObject, at a moment that is not after the last stamp. Refusals: NoSuchBucket;
 /// AccessDenied if a version is named by its id before its date; CounterExhausted if a delete
 /// marker is made.
-pub fn delete_object<S: Alter>(
-    connection: &mut Connection<S>,
+pub fn delete_object<S: Alter, P: Shelf>(
+    connection: &mut Connection<S, P>,
     tenant: &TenantName,
     at: Moment,
     bucket: &BucketName,
     key: &ObjectKey,
     wanted: Wanted,
 ) -> Result<RemovedEntry, StepError<Refusal>>
-    requires working { Works S.Store connection.old }
-    requires early { IsClean S.Store connection.old → at ≤ latest_of (tables S.Store connection.old) }
-    ensures works { WorksOn S.Store (Unless result) connection.old connection.new }
-    ensures carries { IsClean S.Store connection.new
+    requires working { Works S.Store P.Shelf connection.old }
+    requires early { IsClean S.Store P.Shelf connection.old → at ≤ latest_of (tables S.Store P.Shelf connection.old) }
+    ensures works { WorksOn S.Store P.Shelf (Unless result) connection.old connection.new }
+    ensures carries { IsClean S.Store P.Shelf connection.new
         → Carries removed_answer tenant.now (machine.delete_object at bucket.now key.now wanted)
-        (tables S.Store connection.old) (tables S.Store connection.new) result }
+        (tables S.Store P.Shelf connection.old) (tables S.Store P.Shelf connection.new) result }
 {
     let mode = bucket_state(connection, tenant, bucket)?;
     match wanted {

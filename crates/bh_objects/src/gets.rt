@@ -7,7 +7,7 @@ ghost use Rattle.bh_view.specs.Bodies.{HasBodies};
 ghost use Rattle.bh_view.specs.View.{view};
 ghost use Rattle.bh_objects.specs.Found.{mode_in};
 ghost use Rattle.bh_schema.specs.Calls.{MayRead};
-ghost use Rattle.bh_schema.specs.Connections.{IsClean, tables, HasHost};
+ghost use Rattle.bh_base.specs.Connections.{IsClean, tables, HasHost};
 ghost use Rattle.bh_cache.specs.Kept.{Agrees};
 ghost use Rattle.bh_schema.specs.Working.{Works, WorksOn};
 ghost use Rattle.bh_storage.specs.Answers.{found_answer};
@@ -18,10 +18,12 @@ ghost use Rattle.bh_blocks.specs.Plans.{size_of};
 
 use crate::heads::{told_head, wanted_head};
 use crate::reads::bucket_state;
+use bh_base::connection::Connection;
 use bh_blocks::reading::{self, Plan as BodyPlan, Window, plan_body};
 use bh_cache::blocks::BlockCache;
 use bh_core::ranges::range_of;
 use bh_schema::trouble::trouble_of;
+use bh_shelf::shelf::Shelf;
 use bh_storage::answer::FoundVersion;
 use bh_storage::error::{StepError, Trouble};
 use bh_storage::plan::Plan;
@@ -33,7 +35,7 @@ use bh_types::names::TenantName;
 use bh_types::range::RangePlan;
 use bh_types::rejection::{Detail, Rejection};
 use bh_types::wanted::Wanted;
-use sqlite::{Alter, Connection};
+use sqlite::Alter;
 use std::alloc::Global;
 
 /// The bytes to return for the request's Range field. Fails with InvalidRange, which carries the
@@ -73,8 +75,8 @@ fn version_plan(tenant: &TenantName, seq: u64, size: u64, range: RangePlan) -> R
 /// An object of a bucket in this state; the request may have a Range field. Refusals: NoSuchKey,
 /// NoSuchVersion, MethodNotAllowed, InvalidRange. No block is read: the answer has a plan of the
 /// bytes.
-pub fn find_object<S: Alter>(
-    connection: &mut Connection<S>,
+pub fn find_object<S: Alter, P: Shelf>(
+    connection: &mut Connection<S, P>,
     tenant: &TenantName,
     bucket: &BucketName,
     key: &ObjectKey,
@@ -82,15 +84,18 @@ pub fn find_object<S: Alter>(
     range: Option<&[u8]>,
     mode: BucketState,
 ) -> Result<FoundVersion, StepError<Rejection>>
-    requires working { Works S.Store connection.old }
-    requires mode { IsClean S.Store connection.old → mode_in bucket.now (view (tables S.Store connection.old) tenant.now) ≡ Ok mode }
-    ensures works { WorksOn S.Store (Unless result) connection.old connection.new }
-    ensures same { Unless result (IsClean S.Store connection.new → tables S.Store connection.new ≡ tables S.Store connection.old) }
-    ensures carries { IsClean S.Store connection.new
-        → Carries (found_answer (tables S.Store connection.new)) tenant.now
+    requires working { Works S.Store P.Shelf connection.old }
+    requires mode { IsClean S.Store P.Shelf connection.old
+        → mode_in bucket.now (view (tables S.Store P.Shelf connection.old) tenant.now) ≡ Ok mode }
+    ensures works { WorksOn S.Store P.Shelf (Unless result) connection.old connection.new }
+    ensures same { Unless result (IsClean S.Store P.Shelf connection.new
+        → tables S.Store P.Shelf connection.new ≡ tables S.Store P.Shelf connection.old) }
+    ensures carries { IsClean S.Store P.Shelf connection.new
+        → Carries (found_answer (tables S.Store P.Shelf connection.new)) tenant.now
         (machine.get_object bucket.now key.now wanted (option_copied range.entry))
-        (tables S.Store connection.old) (tables S.Store connection.new) result }
-    ensures measured { IfOk result (λ found. IsClean S.Store connection.new → IsMeasured (tables S.Store connection.new) found) }
+        (tables S.Store P.Shelf connection.old) (tables S.Store P.Shelf connection.new) result }
+    ensures measured { IfOk result (λ found. IsClean S.Store P.Shelf connection.new
+        → IsMeasured (tables S.Store P.Shelf connection.new) found) }
 {
     let head = wanted_head(connection, tenant, bucket, key, wanted)?;
     let range = planned(range, head.size)?;
@@ -104,21 +109,22 @@ pub fn find_object<S: Alter>(
 
 /// S3's GetObject; the request may have a Range field. Refusals: NoSuchBucket, and those of
 /// `find_object`. No block is read: the answer has a plan of the bytes.
-pub fn get_object<S: Alter>(
-    connection: &mut Connection<S>,
+pub fn get_object<S: Alter, P: Shelf>(
+    connection: &mut Connection<S, P>,
     tenant: &TenantName,
     bucket: &BucketName,
     key: &ObjectKey,
     wanted: Wanted,
     range: Option<&[u8]>,
 ) -> Result<FoundVersion, StepError<Rejection>>
-    requires { Works S.Store connection.old }
-    ensures works { WorksOn S.Store (Unless result) connection.old connection.new }
-    ensures carries { IsClean S.Store connection.new
-        → Carries (found_answer (tables S.Store connection.new)) tenant.now
+    requires { Works S.Store P.Shelf connection.old }
+    ensures works { WorksOn S.Store P.Shelf (Unless result) connection.old connection.new }
+    ensures carries { IsClean S.Store P.Shelf connection.new
+        → Carries (found_answer (tables S.Store P.Shelf connection.new)) tenant.now
         (machine.get_object bucket.now key.now wanted (option_copied range.entry))
-        (tables S.Store connection.old) (tables S.Store connection.new) result }
-    ensures measured { IfOk result (λ found. IsClean S.Store connection.new → IsMeasured (tables S.Store connection.new) found) }
+        (tables S.Store P.Shelf connection.old) (tables S.Store P.Shelf connection.new) result }
+    ensures measured { IfOk result (λ found. IsClean S.Store P.Shelf connection.new
+        → IsMeasured (tables S.Store P.Shelf connection.new) found) }
 {
     let mode = bucket_state(connection, tenant, bucket)?;
     find_object(connection, tenant, bucket, key, wanted, range, mode)
@@ -126,27 +132,29 @@ pub fn get_object<S: Alter>(
 
 /// The next bytes of a version, of at most one block; `None` at the end. It may be called inside a
 /// transaction and outside. An error leaves the plan unchanged. A block that is read is cached.
-pub fn next_piece<S: Alter>(
-    connection: &mut Connection<S>,
+pub fn next_piece<S: Alter, P: Shelf>(
+    connection: &mut Connection<S, P>,
     cache: &mut BlockCache,
     alloc: Global,
     plan: &mut Plan,
 ) -> Result<Option<Vec<u8>>, Trouble>
-    requires host { HasHost S.Store connection.old }
-    requires agrees { IsClean S.Store connection.old → Agrees cache.old (tables S.Store connection.old).blocks }
-    ensures reads { MayRead S.Store connection.old connection.new result }
-    ensures agrees { OnOk result (IsClean S.Store connection.new → Agrees cache.new (tables S.Store connection.new).blocks) }
-    ensures gives { IfOk result (λ piece. IsClean S.Store connection.new → HasBodies (tables S.Store connection.old)
+    requires host { HasHost S.Store P.Shelf connection.old }
+    requires agrees { IsClean S.Store P.Shelf connection.old → Agrees cache.old (tables S.Store P.Shelf connection.old).blocks }
+    ensures reads { MayRead S.Store P.Shelf connection.old connection.new result }
+    ensures agrees { OnOk result (IsClean S.Store P.Shelf connection.new
+        → Agrees cache.new (tables S.Store P.Shelf connection.new).blocks) }
+    ensures gives { IfOk result (λ piece. IsClean S.Store P.Shelf connection.new → HasBodies (tables S.Store P.Shelf connection.old)
         → IfSome piece (λ bytes.
-        to_come plan.old (tables S.Store connection.old) ≡ bytes.items ++ to_come plan.new (tables S.Store connection.old))) }
-    ensures ends { IfOk result (λ piece. IsClean S.Store connection.new → HasBodies (tables S.Store connection.old)
-        → IfNone piece (to_come plan.old (tables S.Store connection.old) ≡ [])) }
+        to_come plan.old (tables S.Store P.Shelf connection.old)
+        ≡ bytes.items ++ to_come plan.new (tables S.Store P.Shelf connection.old))) }
+    ensures ends { IfOk result (λ piece. IsClean S.Store P.Shelf connection.new → HasBodies (tables S.Store P.Shelf connection.old)
+        → IfNone piece (to_come plan.old (tables S.Store P.Shelf connection.old) ≡ [])) }
     ensures some { IfOk result (λ piece. IfSome piece (λ bytes. 0 < length bytes.items)) }
     ensures falls { IfOk result (λ piece. IfSome piece (λ bytes. length bytes.items + plan.new.left ≤ plan.old.left)) }
     ensures kept { OnErr result (plan.new ≡ plan.old) }
 {
     // Called for its contract: outside a transaction the current tables are the committed ones.
-    let _outside = connection.is_autocommit();
+    let _outside = connection.database.is_autocommit();
     // No counter reaches these numbers.
     if plan.body >= COUNTER_END || plan.place >= COUNTER_END {
         return Err(Trouble::Store);

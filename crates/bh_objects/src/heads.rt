@@ -4,7 +4,7 @@ ghost use Rattle.bh_tables.specs.Shown.{is_version};
 ghost use Rattle.bh_view.specs.Wanted.{wanted_row};
 ghost use Rattle.bh_model.specs.Operations as machine;
 ghost use Rattle.bh_schema.specs.Calls.{Reads, MayRead};
-ghost use Rattle.bh_schema.specs.Connections.{IsClean, tables, InTransaction};
+ghost use Rattle.bh_base.specs.Connections.{IsClean, tables, InTransaction};
 ghost use Rattle.bh_schema.specs.Rows.{seen_head, newest_at};
 ghost use Rattle.bh_schema.specs.Views.{head_seen};
 ghost use Rattle.bh_schema.specs.Working.{Works, WorksOn};
@@ -15,9 +15,11 @@ ghost use Rattle.bh_objects.specs.Answers.{head_looked, head_told};
 
 use crate::ids::{id_of, number_of, told_id};
 use crate::reads::bucket_state;
+use bh_base::connection::Connection;
 use bh_schema::rows;
 use bh_schema::rows::versions::VersionHead;
 use bh_schema::trouble::or_trouble;
+use bh_shelf::shelf::Shelf;
 use bh_storage::answer::ObjectHead;
 use bh_storage::error::{StepError, Trouble};
 use bh_types::bucket::BucketName;
@@ -27,7 +29,7 @@ use bh_types::names::TenantName;
 use bh_types::refusal::Refusal;
 use bh_types::rejection::{Detail, Rejection};
 use bh_types::wanted::Wanted;
-use sqlite::{Alter, Connection};
+use sqlite::Alter;
 
 /// Whether the column `marker` is that of a delete marker.
 pub fn is_marker(marker: u64) -> bool
@@ -40,36 +42,36 @@ pub fn is_marker(marker: u64) -> bool
 }
 
 /// The newest version or delete marker of a key, if it has one.
-fn newest_head<S: Alter>(
-    connection: &mut Connection<S>,
+fn newest_head<S: Alter, P: Shelf>(
+    connection: &mut Connection<S, P>,
     tenant: &TenantName,
     bucket: &BucketName,
     key: &ObjectKey,
 ) -> Result<Option<VersionHead>, Trouble>
-    requires { InTransaction S.Store connection.old }
-    ensures reads { Reads S.Store connection.old connection.new result }
-    ensures found { IfOk result (λ found. IsClean S.Store connection.new
+    requires { InTransaction S.Store P.Shelf connection.old }
+    ensures reads { Reads S.Store P.Shelf connection.old connection.new result }
+    ensures found { IfOk result (λ found. IsClean S.Store P.Shelf connection.new
         → option_map head_seen found ≡ option_map seen_head
-        (newest_at tenant.now bucket.now key.now (tables S.Store connection.old).versions)) }
+        (newest_at tenant.now bucket.now key.now (tables S.Store P.Shelf connection.old).versions)) }
 {
     let key = key.as_str().as_bytes();
     or_trouble(rows::versions::newest_version(connection, tenant.as_str(), bucket.as_str(), key))
 }
 
 /// The version or delete marker of a key with this number in the column `id`, if there is one.
-pub fn numbered_head<S: Alter>(
-    connection: &mut Connection<S>,
+pub fn numbered_head<S: Alter, P: Shelf>(
+    connection: &mut Connection<S, P>,
     tenant: &TenantName,
     bucket: &BucketName,
     key: &ObjectKey,
     number: u64,
 ) -> Result<Option<VersionHead>, Trouble>
-    requires inside { InTransaction S.Store connection.old }
+    requires inside { InTransaction S.Store P.Shelf connection.old }
     requires small { number < 2 ^ 62 }
-    ensures reads { Reads S.Store connection.old connection.new result }
-    ensures found { IfOk result (λ found. IsClean S.Store connection.new
+    ensures reads { Reads S.Store P.Shelf connection.old connection.new result }
+    ensures found { IfOk result (λ found. IsClean S.Store P.Shelf connection.new
         → option_map head_seen found ≡ option_map seen_head
-        (find (is_version tenant.now bucket.now key.now number) (tables S.Store connection.old).versions)) }
+        (find (is_version tenant.now bucket.now key.now number) (tables S.Store P.Shelf connection.old).versions)) }
 {
     let key = key.as_str().as_bytes();
     or_trouble(rows::versions::version_of_id(
@@ -82,18 +84,18 @@ pub fn numbered_head<S: Alter>(
 }
 
 /// The version or delete marker that a request names, if there is one.
-fn find_head<S: Alter>(
-    connection: &mut Connection<S>,
+fn find_head<S: Alter, P: Shelf>(
+    connection: &mut Connection<S, P>,
     tenant: &TenantName,
     bucket: &BucketName,
     key: &ObjectKey,
     wanted: Wanted,
 ) -> Result<Option<VersionHead>, Trouble>
-    requires { Works S.Store connection.old }
-    ensures reads { MayRead S.Store connection.old connection.new result }
-    ensures found { IfOk result (λ found. IsClean S.Store connection.new
+    requires { Works S.Store P.Shelf connection.old }
+    ensures reads { MayRead S.Store P.Shelf connection.old connection.new result }
+    ensures found { IfOk result (λ found. IsClean S.Store P.Shelf connection.new
         → option_map head_seen found ≡ option_map seen_head
-        (wanted_row tenant.now bucket.now key.now wanted (tables S.Store connection.old).versions)) }
+        (wanted_row tenant.now bucket.now key.now wanted (tables S.Store P.Shelf connection.old).versions)) }
 {
     match wanted {
         Wanted::Current => newest_head(connection, tenant, bucket, key),
@@ -151,19 +153,19 @@ fn looked(wanted: Wanted, found: Option<VersionHead>) -> Result<VersionHead, Rej
 
 /// The version that a request names, without its bytes. Refusals: NoSuchKey, NoSuchVersion,
 /// MethodNotAllowed.
-pub fn wanted_head<S: Alter>(
-    connection: &mut Connection<S>,
+pub fn wanted_head<S: Alter, P: Shelf>(
+    connection: &mut Connection<S, P>,
     tenant: &TenantName,
     bucket: &BucketName,
     key: &ObjectKey,
     wanted: Wanted,
 ) -> Result<VersionHead, StepError<Rejection>>
-    requires { Works S.Store connection.old }
-    ensures works { WorksOn S.Store (Unless result) connection.old connection.new }
-    ensures decides { IsClean S.Store connection.new
+    requires { Works S.Store P.Shelf connection.old }
+    ensures works { WorksOn S.Store P.Shelf (Unless result) connection.old connection.new }
+    ensures decides { IsClean S.Store P.Shelf connection.new
         → Decides head_seen (head_looked wanted (option_map seen_head
-        (wanted_row tenant.now bucket.now key.now wanted (tables S.Store connection.old).versions)))
-        (tables S.Store connection.old) (tables S.Store connection.new) result }
+        (wanted_row tenant.now bucket.now key.now wanted (tables S.Store P.Shelf connection.old).versions)))
+        (tables S.Store P.Shelf connection.old) (tables S.Store P.Shelf connection.new) result }
 {
     let found = find_head(connection, tenant, bucket, key, wanted)?;
     Ok(looked(wanted, found)?)
@@ -181,18 +183,18 @@ pub fn told_head(mode: BucketState, head: VersionHead) -> ObjectHead
 }
 
 /// S3's HeadObject: NoSuchBucket, NoSuchKey, NoSuchVersion, MethodNotAllowed.
-pub fn head_object<S: Alter>(
-    connection: &mut Connection<S>,
+pub fn head_object<S: Alter, P: Shelf>(
+    connection: &mut Connection<S, P>,
     tenant: &TenantName,
     bucket: &BucketName,
     key: &ObjectKey,
     wanted: Wanted,
 ) -> Result<ObjectHead, StepError<Rejection>>
-    requires { Works S.Store connection.old }
-    ensures works { WorksOn S.Store (Unless result) connection.old connection.new }
-    ensures carries { IsClean S.Store connection.new
+    requires { Works S.Store P.Shelf connection.old }
+    ensures works { WorksOn S.Store P.Shelf (Unless result) connection.old connection.new }
+    ensures carries { IsClean S.Store P.Shelf connection.new
         → Carries head_answer tenant.now (machine.head_object bucket.now key.now wanted)
-        (tables S.Store connection.old) (tables S.Store connection.new) result }
+        (tables S.Store P.Shelf connection.old) (tables S.Store P.Shelf connection.new) result }
 {
     let mode = bucket_state(connection, tenant, bucket)?;
     match wanted_head(connection, tenant, bucket, key, wanted) {

@@ -4,7 +4,7 @@ ghost use Rattle.bh_storage.specs.Answers.{stored_answer};
 ghost use Rattle.bh_storage.specs.Calls.{Unless, UnlessSpoilt, Decides, OperatesBy};
 ghost use Rattle.bh_view.specs.Bodies.{StoresPieces};
 ghost use Rattle.bh_view.specs.View.{view};
-ghost use Rattle.bh_schema.specs.Connections.{IsClean, tables, StaysWithin, StaysOpen, Becomes};
+ghost use Rattle.bh_base.specs.Connections.{IsClean, tables, StaysWithin, StaysOpen, Becomes};
 ghost use Rattle.bh_schema.specs.Working.{Works, WorksOn, WorksOnBy};
 ghost use Rattle.bh_objects.specs.Admitting.{admitted_in, numbers_admitted, put_step};
 ghost use Rattle.bh_objects.specs.Found.{mode_in, replaced_in, IsHeld, IsKeyText};
@@ -18,14 +18,16 @@ use crate::ids::new_id_told;
 use crate::quotas::{NewEntry, new_entry};
 use crate::reads::bucket_state;
 use crate::writes::{NewObject, write_object};
+use bh_base::connection::Connection;
 use bh_http::body::Body;
 use bh_schema::host::Digester;
+use bh_shelf::shelf::Shelf;
 use bh_storage::answer::StoredVersion;
 use bh_storage::error::{Outcome, StepError, Trouble};
 use bh_types::bucket_state::BucketState;
 use bh_types::moment::Moment;
 use bh_types::refusal::Refusal;
-use sqlite::{Alter, Connection};
+use sqlite::Alter;
 use std::alloc::Global;
 
 /// The numbers and the date of an accepted new version. It was accepted by its request, its bucket
@@ -39,23 +41,23 @@ pub struct Admitted {
 
 /// Accepts a new version of `size` bytes in a bucket of this state. Refusals: InvalidRequest,
 /// InvalidArgument, QuotaExceeded, CounterExhausted.
-fn admit<S: Alter>(
-    connection: &mut Connection<S>,
+fn admit<S: Alter, P: Shelf>(
+    connection: &mut Connection<S, P>,
     object: &NewObject<'_>,
     mode: BucketState,
     size: u64,
 ) -> Result<Admitted, StepError<Refusal>>
-    requires working { Works S.Store connection.old }
-    requires mode { IsClean S.Store connection.old
-        → mode_in object.now.bucket.now (view (tables S.Store connection.old) object.now.tenant.now) ≡ Ok mode }
-    ensures works { WorksOn S.Store (Unless result) connection.old connection.new }
-    ensures decides { IsClean S.Store connection.new
+    requires working { Works S.Store P.Shelf connection.old }
+    requires mode { IsClean S.Store P.Shelf connection.old
+        → mode_in object.now.bucket.now (view (tables S.Store P.Shelf connection.old) object.now.tenant.now) ≡ Ok mode }
+    ensures works { WorksOn S.Store P.Shelf (Unless result) connection.old connection.new }
+    ensures decides { IsClean S.Store P.Shelf connection.new
         → Decides numbers_admitted (admitted_in mode object.now.bucket.now object.now.key.now object.now.date object.now.at size
-        (view (tables S.Store connection.old) object.now.tenant.now))
-        (tables S.Store connection.old) (tables S.Store connection.new) result }
-    ensures replaced { IfOk result (λ it. IsClean S.Store connection.new
+        (view (tables S.Store P.Shelf connection.old) object.now.tenant.now))
+        (tables S.Store P.Shelf connection.old) (tables S.Store P.Shelf connection.new) result }
+    ensures replaced { IfOk result (λ it. IsClean S.Store P.Shelf connection.new
         → it.entry.replaced ≡ replaced_in mode object.now.tenant.now object.now.bucket.now object.now.key.now
-        (tables S.Store connection.old)) }
+        (tables S.Store P.Shelf connection.old)) }
 {
     let until = new_date(
         connection,
@@ -78,8 +80,8 @@ fn admit<S: Alter>(
 /// Stores an object without a date while it is received, as an entry of a bucket of this state, and
 /// returns its checksum. It refuses with BadDigest, after rows were written, if the request gives
 /// another checksum.
-fn store_object<S: Alter, D: Digester, B: Body>(
-    connection: &mut Connection<S>,
+fn store_object<S: Alter, P: Shelf, D: Digester, B: Body>(
+    connection: &mut Connection<S, P>,
     alloc: Global,
     blocks: &Blocks<'_, '_, D>,
     object: &NewObject<'_>,
@@ -88,13 +90,13 @@ fn store_object<S: Alter, D: Digester, B: Body>(
     entry: NewEntry,
     body: &mut B,
 ) -> Result<Outcome<String, Refusal>, Trouble>
-    requires may { MayStore S.Store blocks.now.cache.now blocks.now.size connection.old (B.coming body.old) }
-    requires held { IsClean S.Store connection.old
-        → IsHeld object.now.tenant.now object.now.bucket.now object.now.key.now entry.replaced (tables S.Store connection.old) }
-    ensures within { StaysWithin S.Store connection.old connection.new }
-    ensures opens { OnOk result (StaysOpen S.Store connection.old connection.new) }
+    requires may { MayStore S.Store P.Shelf blocks.now.cache.now blocks.now.size connection.old (B.coming body.old) }
+    requires held { IsClean S.Store P.Shelf connection.old
+        → IsHeld object.now.tenant.now object.now.bucket.now object.now.key.now entry.replaced (tables S.Store P.Shelf connection.old) }
+    ensures within { StaysWithin S.Store P.Shelf connection.old connection.new }
+    ensures opens { OnOk result (StaysOpen S.Store P.Shelf connection.old connection.new) }
     ensures received { IsReceived result (B.coming body.old) (B.coming body.new) (option_copied given.entry)
-        (λ bytes. IsKeyText object.now.key.now × Becomes S.Store connection.old connection.new
+        (λ bytes. IsKeyText object.now.key.now × Becomes S.Store P.Shelf connection.old connection.new
         (object_written D.digest_of blocks.now.size mode entry.numbers.before entry.numbers.after entry.replaced
         object.now.tenant.now object.now.bucket.now object.now.key.now object.now.at bytes)) }
 {
@@ -112,8 +114,8 @@ fn store_object<S: Alter, D: Digester, B: Body>(
 }
 
 /// Stores an accepted object while it is received, and its date.
-fn store_admitted<S: Alter, D: Digester, B: Body>(
-    connection: &mut Connection<S>,
+fn store_admitted<S: Alter, P: Shelf, D: Digester, B: Body>(
+    connection: &mut Connection<S, P>,
     alloc: Global,
     blocks: &Blocks<'_, '_, D>,
     object: &NewObject<'_>,
@@ -122,20 +124,22 @@ fn store_admitted<S: Alter, D: Digester, B: Body>(
     admitted: Admitted,
     body: &mut B,
 ) -> Result<Outcome<StoredVersion, Refusal>, StepError<Refusal>>
-    requires may { MayPut S.Store D.digest_of blocks.now.cache.now blocks.now.size object.now.at connection.old (B.coming body.old) }
-    requires mode { IsClean S.Store connection.old
-        → mode_in object.now.bucket.now (view (tables S.Store connection.old) object.now.tenant.now) ≡ Ok mode }
-    requires admitted { IsClean S.Store connection.old
+    requires may { MayPut S.Store P.Shelf D.digest_of blocks.now.cache.now blocks.now.size object.now.at connection.old
+        (B.coming body.old) }
+    requires mode { IsClean S.Store P.Shelf connection.old
+        → mode_in object.now.bucket.now (view (tables S.Store P.Shelf connection.old) object.now.tenant.now) ≡ Ok mode }
+    requires admitted { IsClean S.Store P.Shelf connection.old
         → admitted_in mode object.now.bucket.now object.now.key.now object.now.date object.now.at (B.coming body.old).due
-        (view (tables S.Store connection.old) object.now.tenant.now) ≡ Ok (numbers_admitted admitted) }
-    requires replaced { IsClean S.Store connection.old
+        (view (tables S.Store P.Shelf connection.old) object.now.tenant.now) ≡ Ok (numbers_admitted admitted) }
+    requires replaced { IsClean S.Store P.Shelf connection.old
         → admitted.entry.replaced ≡ replaced_in mode object.now.tenant.now object.now.bucket.now object.now.key.now
-        (tables S.Store connection.old) }
-    ensures works { WorksOnBy S.Store D.digest_of (UnlessSpoilt result) connection.old connection.new }
+        (tables S.Store P.Shelf connection.old) }
+    ensures works { WorksOnBy S.Store P.Shelf D.digest_of (UnlessSpoilt result) connection.old connection.new }
     ensures operates { OperatesBy stored_answer object.now.tenant.now (put_step object.now (option_copied given.entry))
-        (λ bytes. StoresPieces D.digest_of blocks.now.size bytes (tables S.Store connection.old) (tables S.Store connection.new))
-        (IsClean S.Store connection.new) (B.coming body.old) (B.coming body.new)
-        (tables S.Store connection.old) (tables S.Store connection.new) result }
+        (λ bytes. StoresPieces D.digest_of blocks.now.size bytes (tables S.Store P.Shelf connection.old)
+        (tables S.Store P.Shelf connection.new))
+        (IsClean S.Store P.Shelf connection.new) (B.coming body.old) (B.coming body.new)
+        (tables S.Store P.Shelf connection.old) (tables S.Store P.Shelf connection.new) result }
 {
     let Admitted { until, entry } = admitted;
     let numbers = entry.numbers;
@@ -151,8 +155,8 @@ fn store_admitted<S: Alter, D: Digester, B: Body>(
 }
 
 /// Puts an object into a bucket of this state.
-fn put_into<S: Alter, D: Digester, B: Body>(
-    connection: &mut Connection<S>,
+fn put_into<S: Alter, P: Shelf, D: Digester, B: Body>(
+    connection: &mut Connection<S, P>,
     alloc: Global,
     blocks: &Blocks<'_, '_, D>,
     object: &NewObject<'_>,
@@ -160,14 +164,16 @@ fn put_into<S: Alter, D: Digester, B: Body>(
     mode: BucketState,
     body: &mut B,
 ) -> Result<Outcome<StoredVersion, Refusal>, StepError<Refusal>>
-    requires may { MayPut S.Store D.digest_of blocks.now.cache.now blocks.now.size object.now.at connection.old (B.coming body.old) }
-    requires mode { IsClean S.Store connection.old
-        → mode_in object.now.bucket.now (view (tables S.Store connection.old) object.now.tenant.now) ≡ Ok mode }
-    ensures works { WorksOnBy S.Store D.digest_of (UnlessSpoilt result) connection.old connection.new }
+    requires may { MayPut S.Store P.Shelf D.digest_of blocks.now.cache.now blocks.now.size object.now.at connection.old
+        (B.coming body.old) }
+    requires mode { IsClean S.Store P.Shelf connection.old
+        → mode_in object.now.bucket.now (view (tables S.Store P.Shelf connection.old) object.now.tenant.now) ≡ Ok mode }
+    ensures works { WorksOnBy S.Store P.Shelf D.digest_of (UnlessSpoilt result) connection.old connection.new }
     ensures operates { OperatesBy stored_answer object.now.tenant.now (put_step object.now (option_copied given.entry))
-        (λ bytes. StoresPieces D.digest_of blocks.now.size bytes (tables S.Store connection.old) (tables S.Store connection.new))
-        (IsClean S.Store connection.new) (B.coming body.old) (B.coming body.new)
-        (tables S.Store connection.old) (tables S.Store connection.new) result }
+        (λ bytes. StoresPieces D.digest_of blocks.now.size bytes (tables S.Store P.Shelf connection.old)
+        (tables S.Store P.Shelf connection.new))
+        (IsClean S.Store P.Shelf connection.new) (B.coming body.old) (B.coming body.new)
+        (tables S.Store P.Shelf connection.old) (tables S.Store P.Shelf connection.new) result }
 {
     match admit(connection, object, mode, body.due()) {
         Ok(admitted) => {
@@ -183,20 +189,22 @@ fn put_into<S: Alter, D: Digester, B: Body>(
 /// checksum. Refusals: NoSuchBucket, BadDigest, InvalidRequest, InvalidArgument, QuotaExceeded,
 /// CounterExhausted. The bytes are stored while they are received. If the head alone decides a
 /// refusal, they are only counted, and hashed if a checksum is given.
-pub fn put_object<S: Alter, D: Digester, B: Body>(
-    connection: &mut Connection<S>,
+pub fn put_object<S: Alter, P: Shelf, D: Digester, B: Body>(
+    connection: &mut Connection<S, P>,
     alloc: Global,
     blocks: &Blocks<'_, '_, D>,
     object: &NewObject<'_>,
     given: Option<&[u8]>,
     body: &mut B,
 ) -> Result<Outcome<StoredVersion, Refusal>, StepError<Refusal>>
-    requires may { MayPut S.Store D.digest_of blocks.now.cache.now blocks.now.size object.now.at connection.old (B.coming body.old) }
-    ensures works { WorksOnBy S.Store D.digest_of (UnlessSpoilt result) connection.old connection.new }
+    requires may { MayPut S.Store P.Shelf D.digest_of blocks.now.cache.now blocks.now.size object.now.at connection.old
+        (B.coming body.old) }
+    ensures works { WorksOnBy S.Store P.Shelf D.digest_of (UnlessSpoilt result) connection.old connection.new }
     ensures operates { OperatesBy stored_answer object.now.tenant.now (put_step object.now (option_copied given.entry))
-        (λ bytes. StoresPieces D.digest_of blocks.now.size bytes (tables S.Store connection.old) (tables S.Store connection.new))
-        (IsClean S.Store connection.new) (B.coming body.old) (B.coming body.new)
-        (tables S.Store connection.old) (tables S.Store connection.new) result }
+        (λ bytes. StoresPieces D.digest_of blocks.now.size bytes (tables S.Store P.Shelf connection.old)
+        (tables S.Store P.Shelf connection.new))
+        (IsClean S.Store P.Shelf connection.new) (B.coming body.old) (B.coming body.new)
+        (tables S.Store P.Shelf connection.old) (tables S.Store P.Shelf connection.new) result }
 {
     match bucket_state(connection, object.tenant, object.bucket) {
         Ok(mode) => put_into(connection, alloc, blocks, object, given, mode, body),

@@ -3,23 +3,25 @@ ghost use Rattle.std.specs.Prelude.{◌≡◌, ◌+◌, ◌-◌, Ok, IfOk};
 ghost use Rattle.bh_storage.specs.Calls.{Unless, Decides};
 ghost use Rattle.bh_view.specs.View.{view};
 ghost use Rattle.bh_schema.specs.Calls.{MayRead};
-ghost use Rattle.bh_schema.specs.Connections.{IsClean, tables, InTransaction};
+ghost use Rattle.bh_base.specs.Connections.{IsClean, tables, InTransaction};
 ghost use Rattle.bh_schema.specs.Working.{Works, WorksOn};
 ghost use Rattle.bh_objects.specs.Found as spec;
 ghost use Rattle.bh_objects.specs.Found.{Answers, mode_in, null_in, replaced_in, room_under, entry_numbers_in};
 
 use crate::heads::numbered_head;
 use crate::reads::{Account, Numbers, tenant_account};
+use bh_base::connection::Connection;
 use bh_core::quotas::fits_quota;
 use bh_model::counting::after_entry;
 use bh_schema::rows::versions::VersionHead;
+use bh_shelf::shelf::Shelf;
 use bh_storage::error::{StepError, Trouble};
 use bh_types::bucket::BucketName;
 use bh_types::bucket_state::BucketState;
 use bh_types::key::ObjectKey;
 use bh_types::names::TenantName;
 use bh_types::refusal::Refusal;
-use sqlite::{Alter, Connection};
+use sqlite::Alter;
 
 /// The bytes in use after `replaced` bytes were replaced by `added` bytes.
 fn used_after(before: u64, replaced: u64, added: u64) -> Result<u64, Trouble>
@@ -80,16 +82,16 @@ pub fn as_replaced(head: &VersionHead) -> Replaced
 }
 
 /// The entry `null` of a key, if it is there.
-fn find_null<S: Alter>(
-    connection: &mut Connection<S>,
+fn find_null<S: Alter, P: Shelf>(
+    connection: &mut Connection<S, P>,
     tenant: &TenantName,
     bucket: &BucketName,
     key: &ObjectKey,
 ) -> Result<Option<Replaced>, Trouble>
-    requires { InTransaction S.Store connection.old }
-    ensures reads { MayRead S.Store connection.old connection.new result }
-    ensures found { IfOk result (λ found. IsClean S.Store connection.new
-        → found ≡ null_in tenant.now bucket.now key.now (tables S.Store connection.old)) }
+    requires { InTransaction S.Store P.Shelf connection.old }
+    ensures reads { MayRead S.Store P.Shelf connection.old connection.new result }
+    ensures found { IfOk result (λ found. IsClean S.Store P.Shelf connection.new
+        → found ≡ null_in tenant.now bucket.now key.now (tables S.Store P.Shelf connection.old)) }
 {
     match numbered_head(connection, tenant, bucket, key, 0)? {
         Some(head) => Ok(Some(as_replaced(&head))),
@@ -98,17 +100,17 @@ fn find_null<S: Alter>(
 }
 
 /// The entry that a new one of a key replaces, in a bucket of this state.
-pub(crate) fn find_replaced<S: Alter>(
-    connection: &mut Connection<S>,
+pub(crate) fn find_replaced<S: Alter, P: Shelf>(
+    connection: &mut Connection<S, P>,
     tenant: &TenantName,
     bucket: &BucketName,
     key: &ObjectKey,
     mode: BucketState,
 ) -> Result<Option<Replaced>, Trouble>
-    requires { InTransaction S.Store connection.old }
-    ensures reads { MayRead S.Store connection.old connection.new result }
-    ensures found { IfOk result (λ found. IsClean S.Store connection.new
-        → found ≡ replaced_in mode tenant.now bucket.now key.now (tables S.Store connection.old)) }
+    requires { InTransaction S.Store P.Shelf connection.old }
+    ensures reads { MayRead S.Store P.Shelf connection.old connection.new result }
+    ensures found { IfOk result (λ found. IsClean S.Store P.Shelf connection.new
+        → found ≡ replaced_in mode tenant.now bucket.now key.now (tables S.Store P.Shelf connection.old)) }
 {
     match mode {
         BucketState::Enabled => Ok(None),
@@ -137,24 +139,24 @@ pub struct NewEntry {
 /// The numbers of a new entry of a key, of `size` bytes, in a bucket of this state. Refusals:
 /// QuotaExceeded, CounterExhausted. Its rows are read once, for the replaced entry's bytes and its
 /// body.
-pub fn new_entry<S: Alter>(
-    connection: &mut Connection<S>,
+pub fn new_entry<S: Alter, P: Shelf>(
+    connection: &mut Connection<S, P>,
     tenant: &TenantName,
     bucket: &BucketName,
     key: &ObjectKey,
     mode: BucketState,
     added: u64,
 ) -> Result<NewEntry, StepError<Refusal>>
-    requires working { Works S.Store connection.old }
-    requires there { IsClean S.Store connection.old
-        → mode_in bucket.now (view (tables S.Store connection.old) tenant.now) ≡ Ok mode }
-    ensures works { WorksOn S.Store (Unless result) connection.old connection.new }
-    ensures decides { IsClean S.Store connection.new
+    requires working { Works S.Store P.Shelf connection.old }
+    requires there { IsClean S.Store P.Shelf connection.old
+        → mode_in bucket.now (view (tables S.Store P.Shelf connection.old) tenant.now) ≡ Ok mode }
+    ensures works { WorksOn S.Store P.Shelf (Unless result) connection.old connection.new }
+    ensures decides { IsClean S.Store P.Shelf connection.new
         → Decides (λ entry. (entry.numbers.before, entry.numbers.after))
-        (entry_numbers_in mode bucket.now key.now added (view (tables S.Store connection.old) tenant.now))
-        (tables S.Store connection.old) (tables S.Store connection.new) result }
-    ensures replaced { IfOk result (λ entry. IsClean S.Store connection.new
-        → entry.replaced ≡ replaced_in mode tenant.now bucket.now key.now (tables S.Store connection.old)) }
+        (entry_numbers_in mode bucket.now key.now added (view (tables S.Store P.Shelf connection.old) tenant.now))
+        (tables S.Store P.Shelf connection.old) (tables S.Store P.Shelf connection.new) result }
+    ensures replaced { IfOk result (λ entry. IsClean S.Store P.Shelf connection.new
+        → entry.replaced ≡ replaced_in mode tenant.now bucket.now key.now (tables S.Store P.Shelf connection.old)) }
 {
     let replaced = find_replaced(connection, tenant, bucket, key, mode)?;
     let account = tenant_account(connection, tenant)?;

@@ -3,7 +3,10 @@ use Rattle.std.proofs.Common.{◌≡◌, ◌≢◌, ◌⊎◌, inl, inr, ℕ, �
 use Rattle.std.specs.List.{list_all}
 use Rattle.sqlite_trees.specs.declared.memory.MemStore.{MemStore}
 use Rattle.sqlite.specs.Effect.{Database}
-use Rattle.sqlite.specs.Held.{Held, state, IsNew}
+use Rattle.sqlite.specs.Held.{Held, state as database_state, IsNew}
+use Rattle.bh_shelf.specs.declared.no_shelf.NoShelf.{NoShelf}
+use Rattle.bh_base.specs.declared.connection.Connection.{Connection}
+use Rattle.bh_base.specs.Connections.{state, without_packs}
 use Rattle.sqlite.specs.Schema.{Schema}
 use Rattle.sqlite.specs.Tree.{Trees}
 use Rattle.sqlite.specs.Steps.{over_memory}
@@ -21,7 +24,7 @@ use Rattle.bh_tables.proofs.HostTests.{host_shows, other_schema, unlike_second, 
 use Rattle.bh_view.specs.Bodies.{IsSoundHost}
 use Rattle.bh_view.specs.View.{latest_of, limits_in}
 use Rattle.bh_storage.specs.Calls.{IsAtRest}
-use Rattle.bh_schema.specs.Layer.{Standing, standing, IsIntact, IsOpen, IsStateClean, Leaves, KeepsDisk, LeavesNothingNew, begun, taken_back}
+use Rattle.bh_base.specs.Layer.{Standing, standing, IsIntact, IsOpen, IsStateClean, Leaves, KeepsDisk, LeavesNothingNew, begun, taken_back}
 use Rattle.bh_schema.specs.Storage.{seen_in}
 use Rattle.bh_schema.proofs.Storing.{sound_host}
 use Rattle.bh_create.specs.Creation.{IsEmpty, IsMaking, IsNewHost}
@@ -54,14 +57,21 @@ third_schema_made s making = making.blank.schema_is ∙ third_made
 pub fourth_schema_made : (s : State) → IsMaking with_garbage s → s.now.schema ≡ fourth_schema
 fourth_schema_made s making = making.blank.schema_is ∙ fourth_made
 
-pub first_making : (old new : Held MemStore) → IsEmpty (state over_memory old) → standing (state over_memory new) ≡ begun (standing (state over_memory old)) → IsMaking no_schema (state over_memory new)
-first_making old new empty is = begun_making (state over_memory old) (state over_memory new) empty is
+-- with no packs
+abbrev no_shelf : NoShelf
+no_shelf = record {}
 
-pub unlimited : (h : Held MemStore) → IsNew h → (standing (state over_memory h)).limit ≡ None
+abbrev alone : Held MemStore → State
+alone h = state over_memory without_packs (record { database = h; packs = no_shelf })
+
+pub first_making : (old : Held MemStore) (new : Connection MemStore NoShelf) → IsEmpty (database_state over_memory old) → standing (state over_memory without_packs new) ≡ begun (standing (alone old)) → IsMaking no_schema (state over_memory without_packs new)
+first_making old new empty is = begun_making (alone old) (state over_memory without_packs new) empty is
+
+pub unlimited : (h : Held MemStore) → IsNew h → (standing (alone h)).limit ≡ None
 unfolding standing
 unlimited h new = new.unlimited
 
-pub outside : (h : Held MemStore) → IsNew h → (standing (state over_memory h)).inside ≡ false
+pub outside : (h : Held MemStore) → IsNew h → (standing (alone h)).inside ≡ false
 unfolding standing
 outside h new = new.autocommit
 

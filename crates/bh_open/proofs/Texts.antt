@@ -14,7 +14,7 @@ use Rattle.bh_rows.proofs.ScanLemmas.{scan_asks, scan_rows}
 use Rattle.sqlite.specs.Effect.{Database}
 use Rattle.bh_tables.specs.Typed.{host_form, tables_in}
 use Rattle.bh_tables.proofs.Statements.{all_pass}
-use Rattle.bh_schema.specs.Layer.{standing, IsStateClean, IsIntact, IsOpen}
+use Rattle.bh_base.specs.Layer.{standing, IsStateClean, IsIntact, IsOpen}
 use Rattle.bh_open.specs.Opening.{shown_row}
 use Rattle.bh_open.specs.Versions.{schema_of, IsHostWith}
 use Rattle.bh_open.specs.declared.found.HostVersion.{HostVersion}

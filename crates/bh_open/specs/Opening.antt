@@ -16,7 +16,7 @@ use Rattle.bh_open.specs.Versions.{number_of, schema_of, IsEarlierSchema, IsHost
 use Rattle.bh_open.specs.declared.found.FoundHost.{FoundHost}
 use Rattle.bh_open.specs.declared.found.HostVersion.{HostVersion}
 use Rattle.bh_open.specs.declared.found.NoHost.{NoHost}
-use Rattle.bh_schema.specs.Layer.{Standing, standing, IsIntact, IsOpen, IsStateClean, Leaves, KeepsDisk, LeavesNothingNew}
+use Rattle.bh_base.specs.Layer.{Standing, standing, IsIntact, IsOpen, IsStateClean, Leaves, KeepsDisk, LeavesNothingNew}
 
 -- the number of the function that names a host's blocks, in the host's row
 unfoldable pub digest_in : Tables → ℕ

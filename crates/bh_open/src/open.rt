@@ -9,9 +9,9 @@ ghost use Rattle.bh_tables.specs.Schema.{Octets, host_schema};
 ghost use Rattle.bh_view.specs.Bodies.{IsSoundHost};
 ghost use Rattle.bh_view.specs.View.{latest_of};
 ghost use Rattle.bh_storage.specs.Calls.{IsAtRest};
-ghost use Rattle.bh_schema.specs.Connections.{IsIntact, IsOpen, IsClean, stands, tables};
+ghost use Rattle.bh_base.specs.Databases.{IsIntact, IsOpen, IsClean, stands, tables};
 ghost use Rattle.bh_cache.specs.Kept.{no_blocks};
-ghost use Rattle.bh_schema.specs.Layer.{taken_back, KeepsDisk, LeavesNothingNew};
+ghost use Rattle.bh_base.specs.Layer.{taken_back, KeepsDisk, LeavesNothingNew};
 ghost use Rattle.bh_schema.specs.Storage.{seen_in};
 ghost use Rattle.bh_migration.specs.Migration.{Settles};
 ghost use Rattle.bh_open.specs.Opening.{digest_in, IsHostOf, IsSettled, IsKept, Tells, Reads, Finds, Opens, LeavesOver};
@@ -20,10 +20,12 @@ ghost use Rattle.bh_open.specs.Versions.{schema_of, IsHostWith, IsAnyHost, IsEar
 use crate::found::{FoundHost, HostVersion, NoHost};
 use crate::row::{found_in, host_rows};
 use crate::tables::{version_of, why_none};
+use bh_base::connection::Connection as Joined;
+use bh_base::transactions::{begin, take_back};
 use bh_cache::blocks::BlockCache;
 use bh_migration::{Earlier, bring_over};
 use bh_schema::host::{Digester, Host};
-use bh_schema::rows::transactions::{begin, take_back};
+use bh_shelf::shelf::Shelf;
 use bh_types::block_digest::BlockDigest;
 use bh_types::limits::{Limits, Tuning};
 use bh_types::refusal::Refusal;
@@ -59,11 +61,15 @@ pub struct Opened<S: Alter + Drop> {
 }
 
 impl<S: Alter + Drop> Opened<S> {
-    /// The host, with an empty cache. The digester must be that of the function that names its
-    /// blocks.
-    pub fn into_host<D: Digester + Drop>(self, digester: D) -> Host<S, D>
+    /// The host with these packs, and with an empty cache. The digester must be that of the function
+    /// that names its blocks.
+    pub fn into_host<P: Shelf + Drop, D: Digester + Drop>(
+        self,
+        packs: P,
+        digester: D,
+    ) -> Host<S, P, D>
         ensures { result ≡ record {
-          connection = self.connection;
+          connection = record { database = self.connection; packs = packs };
           digester = digester;
           limits = self.limits;
           cache = no_blocks self.tuning;
@@ -77,7 +83,10 @@ impl<S: Alter + Drop> Opened<S> {
             latest: _,
         } = self;
         Host {
-            connection,
+            connection: Joined {
+                database: connection,
+                packs,
+            },
             digester,
             limits,
             cache: BlockCache::new(tuning),

@@ -2,7 +2,7 @@ ghost use Rattle.std.specs.Prelude.{◌≡◌, true, map, [], ◌∷◌, None, I
 ghost use Rattle.sqlite.specs.Held.{state};
 ghost use Rattle.bh_rows.specs.Means.{is_trouble};
 ghost use Rattle.bh_tables.specs.Typed.{HostRow as Stored};
-ghost use Rattle.bh_schema.specs.Connections.{IsClean, stands, tables, StaysWithin, WasOpen, ChangesNothing, IsTrouble};
+ghost use Rattle.bh_base.specs.Databases.{IsClean, stands, tables, StaysWithin, WasOpen, ChangesNothing, IsTrouble};
 ghost use Rattle.bh_open.specs.Opening.{shown_row, Reads};
 ghost use Rattle.bh_open.specs.Versions.{schema_of, IsHostWith};
 

@@ -1,72 +1,93 @@
 ghost use Rattle.std.specs.Prelude.{◌≡◌, ◌↔◌, true, IsTrue, IfOk, IfErr};
-ghost use Rattle.sqlite.specs.Held.{state};
 ghost use Rattle.sqlite.specs.Steps.{over_memory};
+ghost use Rattle.bh_base.specs.Connections.{state, without_packs};
 ghost use Rattle.bh_rows.specs.Means.{is_trouble};
 ghost use Rattle.bh_tables.specs.Schema.{first_schema, second_schema, third_schema, fourth_schema, host_schema};
 ghost use Rattle.bh_open.specs.Versions.{IsVersionOf, IsHostsSchema};
 
 use crate::found::{HostVersion, NoHost};
+use bh_base::connection::Connection;
 use bh_compare::same_schema;
 use bh_create::{
     create_first_tables, create_fourth_tables, create_second_tables, create_third_tables, make,
 };
-use bh_schema::rows::transactions::begin;
+use bh_shelf::no_shelf::NoShelf;
 use bh_types::block_digest::BlockDigest;
 use bh_types::limits::Limits;
-use sqlite::{Connection, Error, MemStore};
+use sqlite::{Connection as Database, Error, MemStore};
 use sqlite_schema::schema::Schema;
 use std::alloc::Global;
 
 /// A new host's database in memory.
-fn new_tables(alloc: Global) -> Result<Connection<MemStore>, Error>
-    ensures schema { IfOk result (λ connection. (state over_memory connection).now.schema ≡ host_schema) }
+fn new_tables(alloc: Global) -> Result<Connection<MemStore, NoShelf>, Error>
+    ensures schema { IfOk result (λ connection. (state over_memory without_packs connection).now.schema ≡ host_schema) }
     ensures trouble { IfErr result (λ e. is_trouble e ≡ true) }
 {
-    let mut connection = Connection::open_in_memory(alloc)?;
+    let database = Database::open_in_memory(alloc)?;
+    let mut connection = Connection {
+        database,
+        packs: NoShelf,
+    };
     make(&mut connection, Limits::default(), BlockDigest::Sha256)?;
     Ok(connection)
 }
 
 /// The tables of a host of version 1 in memory, in a transaction.
-fn first_tables(alloc: Global) -> Result<Connection<MemStore>, Error>
-    ensures schema { IfOk result (λ connection. (state over_memory connection).now.schema ≡ first_schema) }
+fn first_tables(alloc: Global) -> Result<Connection<MemStore, NoShelf>, Error>
+    ensures schema { IfOk result (λ connection. (state over_memory without_packs connection).now.schema ≡ first_schema) }
     ensures trouble { IfErr result (λ e. is_trouble e ≡ true) }
 {
-    let mut connection = Connection::open_in_memory(alloc)?;
-    begin(&mut connection)?;
+    let database = Database::open_in_memory(alloc)?;
+    let mut connection = Connection {
+        database,
+        packs: NoShelf,
+    };
+    connection.begin()?;
     create_first_tables(&mut connection)?;
     Ok(connection)
 }
 
 /// Those of a host of version 2.
-fn second_tables(alloc: Global) -> Result<Connection<MemStore>, Error>
-    ensures schema { IfOk result (λ connection. (state over_memory connection).now.schema ≡ second_schema) }
+fn second_tables(alloc: Global) -> Result<Connection<MemStore, NoShelf>, Error>
+    ensures schema { IfOk result (λ connection. (state over_memory without_packs connection).now.schema ≡ second_schema) }
     ensures trouble { IfErr result (λ e. is_trouble e ≡ true) }
 {
-    let mut connection = Connection::open_in_memory(alloc)?;
-    begin(&mut connection)?;
+    let database = Database::open_in_memory(alloc)?;
+    let mut connection = Connection {
+        database,
+        packs: NoShelf,
+    };
+    connection.begin()?;
     create_second_tables(&mut connection)?;
     Ok(connection)
 }
 
 /// Those of a host of version 3.
-fn third_tables(alloc: Global) -> Result<Connection<MemStore>, Error>
-    ensures schema { IfOk result (λ connection. (state over_memory connection).now.schema ≡ third_schema) }
+fn third_tables(alloc: Global) -> Result<Connection<MemStore, NoShelf>, Error>
+    ensures schema { IfOk result (λ connection. (state over_memory without_packs connection).now.schema ≡ third_schema) }
     ensures trouble { IfErr result (λ e. is_trouble e ≡ true) }
 {
-    let mut connection = Connection::open_in_memory(alloc)?;
-    begin(&mut connection)?;
+    let database = Database::open_in_memory(alloc)?;
+    let mut connection = Connection {
+        database,
+        packs: NoShelf,
+    };
+    connection.begin()?;
     create_third_tables(&mut connection)?;
     Ok(connection)
 }
 
 /// Those of a host of version 4.
-fn fourth_tables(alloc: Global) -> Result<Connection<MemStore>, Error>
-    ensures schema { IfOk result (λ connection. (state over_memory connection).now.schema ≡ fourth_schema) }
+fn fourth_tables(alloc: Global) -> Result<Connection<MemStore, NoShelf>, Error>
+    ensures schema { IfOk result (λ connection. (state over_memory without_packs connection).now.schema ≡ fourth_schema) }
     ensures trouble { IfErr result (λ e. is_trouble e ≡ true) }
 {
-    let mut connection = Connection::open_in_memory(alloc)?;
-    begin(&mut connection)?;
+    let database = Database::open_in_memory(alloc)?;
+    let mut connection = Connection {
+        database,
+        packs: NoShelf,
+    };
+    connection.begin()?;
     create_fourth_tables(&mut connection)?;
     Ok(connection)
 }
@@ -76,7 +97,7 @@ fn is_fifth(alloc: Global, schema: &Schema) -> Result<bool, Error>
     ensures trouble { IfErr result (λ e. is_trouble e ≡ true) }
 {
     let connection = new_tables(alloc)?;
-    Ok(same_schema(schema, connection.schema()))
+    Ok(same_schema(schema, connection.database.schema()))
 }
 
 fn is_fourth(alloc: Global, schema: &Schema) -> Result<bool, Error>
@@ -84,7 +105,7 @@ fn is_fourth(alloc: Global, schema: &Schema) -> Result<bool, Error>
     ensures trouble { IfErr result (λ e. is_trouble e ≡ true) }
 {
     let connection = fourth_tables(alloc)?;
-    Ok(same_schema(schema, connection.schema()))
+    Ok(same_schema(schema, connection.database.schema()))
 }
 
 fn is_third(alloc: Global, schema: &Schema) -> Result<bool, Error>
@@ -92,7 +113,7 @@ fn is_third(alloc: Global, schema: &Schema) -> Result<bool, Error>
     ensures trouble { IfErr result (λ e. is_trouble e ≡ true) }
 {
     let connection = third_tables(alloc)?;
-    Ok(same_schema(schema, connection.schema()))
+    Ok(same_schema(schema, connection.database.schema()))
 }
 
 fn is_second(alloc: Global, schema: &Schema) -> Result<bool, Error>
@@ -100,7 +121,7 @@ fn is_second(alloc: Global, schema: &Schema) -> Result<bool, Error>
     ensures trouble { IfErr result (λ e. is_trouble e ≡ true) }
 {
     let connection = second_tables(alloc)?;
-    Ok(same_schema(schema, connection.schema()))
+    Ok(same_schema(schema, connection.database.schema()))
 }
 
 fn is_first(alloc: Global, schema: &Schema) -> Result<bool, Error>
@@ -108,7 +129,7 @@ fn is_first(alloc: Global, schema: &Schema) -> Result<bool, Error>
     ensures trouble { IfErr result (λ e. is_trouble e ≡ true) }
 {
     let connection = first_tables(alloc)?;
-    Ok(same_schema(schema, connection.schema()))
+    Ok(same_schema(schema, connection.database.schema()))
 }
 
 /// The version of the host whose tables have this schema, if they are a host's.

@@ -23,7 +23,7 @@ use Rattle.bh_view.proofs.ResolvedLemmas.{rebodied_same, unnamed_stays}
 use Rattle.bh_view.proofs.SharedLemmas.{shared_same}
 use Rattle.bh_view.proofs.WholeLemmas.{refs_dropped}
 use Rattle.bh_storage.specs.Calls.{GivesStep}
-use Rattle.bh_schema.specs.Layer.{standing, IsInside}
+use Rattle.bh_base.specs.Layer.{standing, IsInside}
 use Rattle.bh_schema.specs.Working.{tables_at, IsWorking, StillWorking}
 use Rattle.bh_objects.proofs.Working.{still_working}
 use Rattle.bh_objects.proofs.Written.{IsHostOf}

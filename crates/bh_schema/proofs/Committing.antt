@@ -2,11 +2,15 @@
 use Rattle.std.proofs.Common.{◌≡◌, ◌⊎◌, inl, inr, Result, Ok, Err, OnErr, IsTrue, refl, sym, ap, ◌∙◌, subst}
 use Rattle.std.specs.Result.{IsErrAnd}
 use Rattle.sqlite.specs.Tree.{Trees}
-use Rattle.sqlite.specs.Effect.{Database, IsDatabase}
-use Rattle.sqlite.specs.Held.{Held, state}
+use Rattle.sqlite.specs.Effect.{Database}
+use Rattle.bh_base.specs.Connections.{state}
+use Rattle.bh_shelf.specs.Contents.{Within}
+use Rattle.bh_base.specs.Placed.{IsWhole}
 use Rattle.sqlite.specs.State.{State}
 use Rattle.sqlite_trees.specs.Objects.{catalog_tree}
 use Rattle.sqlite_trees.specs.declared.store.Store.{Ghosts}
+use Rattle.bh_shelf.specs.declared.shelf.Shelf.{Ghosts as Shelves}
+use Rattle.bh_base.specs.declared.connection.Connection.{Connection}
 use Rattle.sqlite_catalog.specs.Listing.{Lists}
 use Rattle.sqlite_catalog.proofs.ReadLemmas.{lists_once}
 use Rattle.bh_types.specs.Limits.{HostLimits}
@@ -16,7 +20,7 @@ use Rattle.bh_tables.specs.Hosts.{tables_shown}
 use Rattle.bh_view.specs.Bodies.{IsSoundHost}
 use Rattle.bh_storage.specs.Calls.{IsAtRest, IsWorking, Commits, TakesBack}
 use Rattle.bh_cache.specs.Kept.{KeptBlocks, no_blocks}
-use Rattle.bh_schema.specs.Layer.{Standing, standing, IsOpen, Leaves, begun, committed, taken_back, Unwinds}
+use Rattle.bh_base.specs.Layer.{Standing, standing, IsOpen, Leaves, begun, committed, taken_back, Unwinds}
 use Rattle.bh_schema.specs.Storage.{shown, seen_in, beside, left_in}
 use Rattle.bh_schema.proofs.Storing.{left_kept, plain, plain_after}
 
@@ -66,24 +70,24 @@ module _ (kept : KeptBlocks) (l : HostLimits) (old new : State) where
 -- ---- crashes
 
 -- a database's trees list its schema, so that they are no other's
-pub same_database : (a b : Database) → IsDatabase a → IsDatabase b → a.trees ≡ b.trees → a ≡ b
+pub same_database : (a b : Database) → Lists (a.trees catalog_tree) a.schema → Lists (b.trees catalog_tree) b.schema → a.trees ≡ b.trees → a ≡ b
 same_database a b one two same =
-    let lists : Lists (a.trees catalog_tree) b.schema = subst (λ (t : Trees). Lists (t catalog_tree) b.schema) (sym same) two.lists in
-    let schema : a.schema ≡ b.schema = lists_once (a.trees catalog_tree) a.schema b.schema one.lists lists in
+    let lists : Lists (a.trees catalog_tree) b.schema = subst (λ (t : Trees). Lists (t catalog_tree) b.schema) (sym same) two in
+    let schema : a.schema ≡ b.schema = lists_once (a.trees catalog_tree) a.schema b.schema one lists in
     λ i. record { schema = schema i; trees = same i }
 
 -- of these trees a crash leaves the tables of the database that stood
-left_shows : (l : HostLimits) (s : State) (x : Tables) (db : Database) → IsDatabase (standing s).now → IsDatabase db → x ≡ tables_shown db → db.trees ≡ (standing s).now.trees → x ≡ (seen_in l s).now
+left_shows : (l : HostLimits) (s : State) (x : Tables) (db : Database) → Lists ((standing s).now.trees catalog_tree) (standing s).now.schema → Lists (db.trees catalog_tree) db.schema → x ≡ tables_shown db → db.trees ≡ (standing s).now.trees → x ≡ (seen_in l s).now
 unfolding seen_in
 left_shows l s x db stood is shows same = shows ∙ ap tables_shown (same_database db (standing s).now is stood same)
 
-pub commit_stands : {S : Type 0} (g : Ghosts S) (settles : (s : S) (db : Trees) → IsTrue (g.view s).is_open → g.recovers s db → db ≡ (g.view s).committed) (l : HostLimits)
-    (old new : Held S) → IsOpen (state g new) → IsDatabase (standing (state g old)).now → standing (state g new) ≡ committed (standing (state g old)) → (x : Tables) → left_in (state g new) x → x ≡ (seen_in l (state g old)).now
+pub commit_stands : {S P : Type 0} (g : Ghosts S) (k : Shelves P) (settles : (s : S) (db : Trees) → IsTrue (g.view s).is_open → g.recovers s db → db ≡ (g.view s).committed) (stands : (p : P) → Within (k.kept p) (k.stood p)) (l : HostLimits)
+    (old new : Connection S P) → IsOpen (state g k new) → Lists ((standing (state g k old)).now.trees catalog_tree) (standing (state g k old)).now.schema → IsWhole (standing (state g k old)).now → standing (state g k new) ≡ committed (standing (state g k old)) → (x : Tables) → left_in (state g k new) x → x ≡ (seen_in l (state g k old)).now
 unfolding left_in
-commit_stands g settles l old new up stood is x it =
-    left_shows l (state g old) x it.0 stood it.2 it.3 (left_kept g settles new up it.0.trees it.1 ∙ ap (λ (y : Standing). y.kept.trees) is)
+commit_stands g k settles stands l old new up stood whole is x it =
+    left_shows l (state g k old) x it.0 stood it.2 it.3 (left_kept g k settles stands new up (subst (λ (y : Standing). IsWhole y.kept) (sym is) whole) it.0.trees it.1 ∙ ap (λ (y : Standing). y.kept.trees) is)
 
-pub commit_crashes : (l : HostLimits) (old new : State) → IsDatabase (standing old).now → ((db : Trees) → Leaves new db → Leaves old db ⊎ (db ≡ (standing old).now.trees))
+pub commit_crashes : (l : HostLimits) (old new : State) → Lists ((standing old).now.trees catalog_tree) (standing old).now.schema → ((db : Trees) → Leaves new db → Leaves old db ⊎ (db ≡ (standing old).now.trees))
     → (x : Tables) → left_in new x → left_in old x ⊎ (x ≡ (seen_in l old).now)
 unfolding left_in
 commit_crashes l old new stood leaves x it = elim (leaves it.0.trees it.1) [

@@ -12,7 +12,7 @@ use Rattle.bh_view.specs.Bodies.{IsSoundHost}
 use Rattle.bh_view.specs.View.{view}
 use Rattle.bh_view.proofs.FindLemmas.{first_find, secret_found}
 use Rattle.bh_storage.specs.Calls.{IsWorking}
-use Rattle.bh_schema.specs.Layer.{standing}
+use Rattle.bh_base.specs.Layer.{standing}
 use Rattle.bh_schema.specs.Rows.{secret_in}
 use Rattle.bh_schema.specs.Storage.{seen_in}
 use Rattle.bh_schema.proofs.Storing.{shows_in}

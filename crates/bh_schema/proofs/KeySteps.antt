@@ -18,7 +18,7 @@ use Rattle.bh_view.specs.Becomes.{Becomes}
 use Rattle.bh_view.proofs.FindLemmas.{first_find, key_of_state}
 use Rattle.bh_view.proofs.KeyChanges.{key_added, key_removed}
 use Rattle.bh_storage.specs.Calls.{IsWorking}
-use Rattle.bh_schema.specs.Layer.{standing, Holds}
+use Rattle.bh_base.specs.Layer.{standing, Holds}
 use Rattle.bh_schema.specs.Storage.{seen_in}
 use Rattle.bh_schema.specs.Known.{key_known}
 use Rattle.bh_schema.specs.declared.rows.known.Known.{Known}

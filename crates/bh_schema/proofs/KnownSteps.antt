@@ -4,7 +4,7 @@ use Rattle.sqlite.specs.State.{State}
 use Rattle.bh_tables.specs.Schema.{Octets}
 use Rattle.bh_tables.specs.Typed.{tables_in}
 use Rattle.bh_tables.specs.Shown.{is_tenant, is_key}
-use Rattle.bh_schema.specs.Layer.{Standing, standing, IsIntact, IsOpen, IsStateClean, IsInside, StateWithin}
+use Rattle.bh_base.specs.Layer.{Standing, standing, IsIntact, IsOpen, IsStateClean, IsInside, StateWithin}
 use Rattle.bh_schema.specs.Rows.{tenant_numbers, secret_in}
 use Rattle.bh_schema.specs.Known.{key_known}
 use Rattle.bh_schema.specs.declared.rows.known.Known.TheVariants.{NoKey, Key}

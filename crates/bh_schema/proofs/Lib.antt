@@ -1,5 +1,3 @@
-pub mod TurnLemmas
-pub mod Calls
 pub mod UsedCalls
 pub mod KeptCalls
 pub mod VersionCalls

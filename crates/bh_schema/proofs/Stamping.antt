@@ -12,7 +12,7 @@ use Rattle.bh_view.specs.View.{latest_of, with_latest}
 use Rattle.bh_view.specs.Becomes.{IsStamped}
 use Rattle.bh_view.proofs.HostChanges.{latest_is, stamped, stamped_again}
 use Rattle.bh_storage.specs.Calls.{IsWorking, Stamps}
-use Rattle.bh_schema.specs.Layer.{standing, Holds}
+use Rattle.bh_base.specs.Layer.{standing, Holds}
 use Rattle.bh_schema.specs.Rows.{latest_in, with_stamp}
 use Rattle.bh_schema.specs.Storage.{seen_in}
 use Rattle.bh_schema.proofs.Storing.{shows_in, holds_seen}

@@ -2,9 +2,15 @@
 use Rattle.std.proofs.Common.{◌≡◌, List, ◌++◌, map, Bool, true, false, if◌then◌else◌, IsTrue, Ok, Result, OnOk, refl, sym, ap, ◌∙◌, subst}
 use Rattle.sqlite.specs.Tree.{Trees}
 use Rattle.sqlite.specs.Effect.{Database}
-use Rattle.sqlite.specs.Held.{Held, state}
+use Rattle.sqlite.specs.Held.{Held, state as database_state}
+use Rattle.bh_base.specs.Connections.{state, backing}
+use Rattle.bh_shelf.specs.Contents.{Within}
+use Rattle.bh_base.specs.Placed.{IsWhole}
+use Rattle.bh_base.proofs.Lifting.{leaves_kept, open_shown}
 use Rattle.sqlite.specs.State.{State}
 use Rattle.sqlite_trees.specs.declared.store.Store.{Ghosts}
+use Rattle.bh_shelf.specs.declared.shelf.Shelf.{Ghosts as Shelves}
+use Rattle.bh_base.specs.declared.connection.Connection.{Connection}
 use Rattle.bh_types.specs.Limits.{HostLimits}
 use Rattle.bh_model.specs.State.{Octets}
 use Rattle.bh_tables.specs.Typed.{VersionRow, PartRow, BlockRow, RefRow, Tables, IsHost, tables_in, no_rows}
@@ -16,7 +22,7 @@ use Rattle.bh_view.specs.Bodies.{IsSoundHost, AreBodies, AreBounded, bodies_of}
 use Rattle.bh_view.specs.Sound.{IsSound}
 use Rattle.bh_storage.specs.Calls.{Seen, IsWorking}
 use Rattle.bh_cache.specs.Kept.{KeptBlocks, agrees, Agrees}
-use Rattle.bh_schema.specs.Layer.{standing, IsIntact, IsOpen, IsStateClean, Leaves, IsInside, Holds, KeepsDisk, StateWithin}
+use Rattle.bh_base.specs.Layer.{standing, IsIntact, IsOpen, IsStateClean, Leaves, IsInside, Holds, KeepsDisk, StateWithin}
 use Rattle.bh_schema.specs.declared.host.Host.{Host}
 use Rattle.bh_schema.specs.Storage.{shown, seen_in, beside, left_in, Keeps}
 
@@ -137,10 +143,17 @@ within_then a b c opens one two = record {
 -- ---- a host's calls
 
 -- what a crash leaves of an open connection
-pub left_kept : {S : Type 0} (g : Ghosts S) (settles : (s : S) (db : Trees) → IsTrue (g.view s).is_open → g.recovers s db → db ≡ (g.view s).committed)
-    (h : Held S) → IsOpen (state g h) → (db : Trees) → Leaves (state g h) db → db ≡ (standing (state g h)).kept.trees
+left_alone : {S : Type 0} (g : Ghosts S) (settles : (s : S) (db : Trees) → IsTrue (g.view s).is_open → g.recovers s db → db ≡ (g.view s).committed) (h : Held S) → IsOpen (database_state g h)
+    → (left : Trees) → Leaves (database_state g h) left → left ≡ (standing (database_state g h)).kept.trees
 unfolding standing Leaves IsOpen
-left_kept g settles h up db left = settles h.store db up left
+left_alone g settles h up left may = settles h.store left up may
+
+pub left_kept : {S P : Type 0} (g : Ghosts S) (k : Shelves P) (settles : (s : S) (db : Trees) → IsTrue (g.view s).is_open → g.recovers s db → db ≡ (g.view s).committed) (stands : (p : P) → Within (k.kept p) (k.stood p))
+    (h : Connection S P) → IsOpen (state g k h) → IsWhole (standing (state g k h)).kept → (db : Trees) → Leaves (state g k h) db → db ≡ (standing (state g k h)).kept.trees
+left_kept g k settles stands h up =
+    let a = backing k h.packs in
+    let s = database_state g h.database in
+    leaves_kept a s (stands h.packs) (left_alone g settles h.database (open_shown a s up))
 
 pub left_less : (old new : State) → ((db : Trees) → Leaves new db → Leaves old db) → (x : Tables) → left_in new x → left_in old x
 unfolding left_in
@@ -162,10 +175,10 @@ pub same_limits : (l : HostLimits) (old new : State) → (seen_in l new).limits 
 unfolding seen_in
 same_limits l old new = refl
 
-pub keeps : {S D : Type 0} (g : Ghosts S) (old new : Host S D) → new.limits ≡ old.limits → StateWithin (state g old.connection) (state g new.connection) → Keeps g old new
-keeps g old new same w =
-    let a = state g old.connection in
-    let b = state g new.connection in
+pub keeps : {S P D : Type 0} (g : Ghosts S) (k : Shelves P) (old new : Host S P D) → new.limits ≡ old.limits → StateWithin (state g k old.connection) (state g k new.connection) → Keeps g k old new
+keeps g k old new same w =
+    let a = state g k old.connection in
+    let b = state g k new.connection in
     record {
       intact = w.follows.intact;
       opened = λ intact up. (w.follows.clean (record { intact = intact; is_open = up })).is_open;

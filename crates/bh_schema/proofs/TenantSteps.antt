@@ -20,7 +20,7 @@ use Rattle.bh_view.proofs.FindLemmas.{first_find, tenant_found}
 use Rattle.bh_view.proofs.SharedLemmas.{shared_same}
 use Rattle.bh_view.proofs.TenantChanges.{tenant_added, quota_set}
 use Rattle.bh_storage.specs.Calls.{IsWorking, GivesStep}
-use Rattle.bh_schema.specs.Layer.{standing, Holds}
+use Rattle.bh_base.specs.Layer.{standing, Holds}
 use Rattle.bh_schema.specs.Storage.{seen_in}
 use Rattle.bh_schema.proofs.Storing.{shows_in, holds_seen, same_limits, bodied, sound_still, bodied_still}
 

@@ -1,4 +1,11 @@
 -- A version comes or goes, with what its tenant uses: several texts, one after another.
+use Rattle.sqlite.specs.Held.{state as database_state}
+use Rattle.sqlite_trees.specs.declared.store.Store.{Ghosts}
+use Rattle.bh_shelf.specs.declared.shelf.Shelf.{Ghosts as Shelves}
+use Rattle.bh_base.specs.declared.connection.Connection.{Connection}
+use Rattle.bh_base.specs.Connections.{state, backing}
+use Rattle.bh_base.specs.Shown.{named}
+use Rattle.bh_base.proofs.Placing.{filled_host}
 use Rattle.std.proofs.Common.{◌≡◌, ℕ, pos, List, ◌∷◌, [], ◌++◌, Bool, true, false, cond, ◌&&◌, Option, None, Some, length, arith, ◌≤◌, refl, sym, ap, ◌∙◌, subst, filter, find, sum_by}
 use Rattle.std.proofs.lemmas.Bool.{and_parts, and_from}
 use Rattle.sqlite.specs.Effect.{IsDatabase}
@@ -16,12 +23,12 @@ use Rattle.bh_tables.proofs.AloneLemmas.{listed, version_bytes, version_listed, 
 use Rattle.bh_tables.proofs.TallyLemmas.{Newest, kept_version_added, kept_marker_added, kept_version_deleted, totals_tenant_changed}
 use Rattle.bh_view.specs.Grouped.{first, same_number, HasUnique}
 use Rattle.bh_view.proofs.NewestLemmas.{newest_is, newest_without}
-use Rattle.bh_schema.specs.Layer.{Standing, standing, IsOpen, IsStateClean, IsInside, IsInsideBy, Holds, HoldsBy}
+use Rattle.bh_base.specs.Layer.{Standing, standing, IsOpen, IsStateClean, IsInside, IsInsideBy, Holds, HoldsBy}
 use Rattle.bh_schema.specs.Rows.{entries_at, newest_at}
 use Rattle.bh_schema.specs.Tallies.{coming, going, entries_changed, IsNewer}
 use Rattle.bh_schema.specs.Written.{without_version, bytes_of_id}
 use Rattle.bh_schema.proofs.TallySteps.{marked_so}
-use Rattle.bh_schema.proofs.Calls.{whole_again}
+use Rattle.bh_base.proofs.Calls.{whole_again}
 
 -- what a text does in the midst of a write
 abbrev pub Turned : State → State → (Totals → Totals) → (Tables → Tables) → Type 0
@@ -77,11 +84,18 @@ each_passes p (v ∷ vs) = elim (p v) as (λ b. p v ≡ b → AllByRecursion (λ
 
 -- ---- the rows of a connection obey the schema
 
-pub sound_at : (s : State) → IsLive s → IsStateClean s → IsInside (standing s) → IsDatabase (record { schema = host_schema; trees = (standing s).now.trees })
-unfolding standing IsOpen
-sound_at s live clean inside = subst (λ d. IsDatabase (record { schema = d; trees = s.now.trees })) inside.host.schema (live clean.is_open).0
+abbrev pub IsObeyed : State → Type 0
+IsObeyed s = IsStateClean s → IsInside (standing s) → IsDatabase (standing s).now
 
-module _ (s : State) (live : IsLive s) (clean : IsStateClean s) (inside : IsInside (standing s)) (tenant bucket okey : Octets) where
+-- with the bytes of packs too, since nothing is placed yet
+pub live_shown : {S P : Type 0} (g : Ghosts S) (k : Shelves P) (c : Connection S P) → IsLive (database_state g c.database) → IsObeyed (state g k c)
+unfolding standing IsOpen
+live_shown g k c live clean inside = subst IsDatabase (sym (filled_host (named (backing k c.packs) (database_state g c.database).in_transaction) (database_state g c.database).now inside.host)) (live clean.is_open).0
+
+pub sound_at : (s : State) → IsObeyed s → IsStateClean s → IsInside (standing s) → IsDatabase (record { schema = host_schema; trees = (standing s).now.trees })
+sound_at s live clean inside = subst (λ d. IsDatabase (record { schema = d; trees = (standing s).now.trees })) inside.host.schema (live clean inside)
+
+module _ (s : State) (live : IsObeyed s) (clean : IsStateClean s) (inside : IsInside (standing s)) (tenant bucket okey : Octets) where
   abbrev its : Tables
   its = tables_in (standing s).now
 
@@ -118,7 +132,7 @@ still_inside a b same = subst IsInside (sym same)
 -- ---- the laws of what is kept
 
 -- an entry comes, while its tenant's numbers become others
-module _ (s : State) (live : IsLive s) (clean : IsStateClean s) (inside : IsInside (standing s)) (c : VersionColumns) (newer : IsNewer c.tenant c.bucket c.okey c.seq (tables_in (standing s).now)) where
+module _ (s : State) (live : IsObeyed s) (clean : IsStateClean s) (inside : IsInside (standing s)) (c : VersionColumns) (newer : IsNewer c.tenant c.bucket c.okey c.seq (tables_in (standing s).now)) where
   abbrev t : Tables
   t = tables_in (standing s).now
 
@@ -137,7 +151,7 @@ module _ (s : State) (live : IsLive s) (clean : IsStateClean s) (inside : IsInsi
   marker_law none = sym (kept_marker_added t row before newer (newest_here s live clean inside c.tenant c.bucket c.okey) none
       ∙ (λ i. tally_changed c.tenant (marked_so 0 (Some row) i, 0) (marked_so 1 (Some row) i, 0) (marked_so 0 (Some row) i, marked_so 0 before i) (totals_of t)))
 
-pub deleted_law : (s : State) → IsLive s → IsStateClean s → IsInside (standing s) → (tenant bucket okey : Octets) (id less : ℕ) → bytes_of_id tenant bucket okey id (tables_in (standing s).now) ≡ less
+pub deleted_law : (s : State) → IsObeyed s → IsStateClean s → IsInside (standing s) → (tenant bucket okey : Octets) (id less : ℕ) → bytes_of_id tenant bucket okey id (tables_in (standing s).now) ≡ less
     → used_changed tenant 0 less (entries_changed tenant (going tenant bucket okey id (tables_in (standing s).now)) (totals_of (tables_in (standing s).now))) ≡ totals_of (without_version tenant bucket okey id (tables_in (standing s).now))
 deleted_law s live clean inside tenant bucket okey id less held =
     let t = tables_in (standing s).now in

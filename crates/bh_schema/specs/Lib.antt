@@ -1,10 +1,8 @@
-pub mod Layer
 pub mod Rows
 pub mod Storage
 pub mod Troubles
 pub mod Views
 pub mod Known
-pub mod Connections
 pub mod Calls
 pub mod Working
 pub mod Written

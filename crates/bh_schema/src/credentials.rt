@@ -6,26 +6,27 @@ ghost use Rattle.bh_schema.specs.Storage.{IsClean, seen, Works, Keeps, StaysOpen
 use crate::host::{Digester, Host};
 use crate::rows::keys::find_secret;
 use crate::trouble::or_trouble;
+use bh_shelf::shelf::Shelf;
 use bh_storage::error::StepError;
 use bh_types::access_key::AccessKeyId;
 use bh_types::refusal::Refusal;
 use sqlite::Alter;
 
-impl<S: Alter + Drop, D: Digester + Drop> Host<S, D> {
+impl<S: Alter + Drop, P: Shelf + Drop, D: Digester + Drop> Host<S, P, D> {
     /// Checks that an access key has this secret. Refusals: InvalidAccessKeyId, AccessDenied.
     pub fn authenticate(
         &mut self,
         key: &AccessKeyId,
         secret: &[u8],
     ) -> Result<(), StepError<Refusal>>
-        requires { Works S.Store D.digest_of self.old }
-        ensures within { Keeps S.Store self.old self.new }
-        ensures opens { Unless result (StaysOpen S.Store self.old self.new) }
-        ensures working { Unless result (Works S.Store D.digest_of self.new) }
-        ensures decides { IsClean S.Store self.new
-            → Decides (λ _. tt) (authenticate key.now secret.now (view (seen S.Store self.old).now key.now.tenant))
-            (seen S.Store self.old).now (seen S.Store self.new).now result }
-        ensures settings { KeepsSettings S.Store self.old self.new }
+        requires { Works S.Store P.Shelf D.digest_of self.old }
+        ensures within { Keeps S.Store P.Shelf self.old self.new }
+        ensures opens { Unless result (StaysOpen S.Store P.Shelf self.old self.new) }
+        ensures working { Unless result (Works S.Store P.Shelf D.digest_of self.new) }
+        ensures decides { IsClean S.Store P.Shelf self.new
+            → Decides (λ _. tt) (authenticate key.now secret.now (view (seen S.Store P.Shelf self.old).now key.now.tenant))
+            (seen S.Store P.Shelf self.old).now (seen S.Store P.Shelf self.new).now result }
+        ensures settings { KeepsSettings S.Store P.Shelf self.old self.new }
     {
         let Some(name) = &key.name else {
             return Err(StepError::Refused(Refusal::InvalidAccessKeyId));

@@ -2,11 +2,13 @@ ghost use Rattle.std.specs.Prelude.{◌≡◌, ◌≤◌, ◌*◌, ℕ, List, le
 ghost use Rattle.sha2.specs.Sha256.{sha256};
 ghost use Rattle.bh_schema.specs.Digests.{AreNamed};
 
+use bh_base::connection::Connection;
 use bh_cache::blocks::BlockCache;
+use bh_shelf::shelf::Shelf;
 use bh_storage::error::StepError;
 use bh_types::limits::Limits;
 use bh_types::refusal::Refusal;
-use sqlite::{Alter, Connection};
+use sqlite::Alter;
 
 /// A function from bytes to 32 bytes, one for each type. Nothing else is assumed about it.
 pub trait Digester {
@@ -41,9 +43,9 @@ pub type Carried = Result<(), StepError<Refusal>>;
 
 /// A host of buckets in a SQL database.
 #[derive(Drop)]
-pub struct Host<S: Alter + Drop, D: Digester + Drop> {
+pub struct Host<S: Alter + Drop, P: Shelf + Drop, D: Digester + Drop> {
     /// The database.
-    pub connection: Connection<S>,
+    pub connection: Connection<S, P>,
     /// Names blocks of bytes.
     pub digester: D,
     /// The limits that the host was created with.
@@ -52,9 +54,9 @@ pub struct Host<S: Alter + Drop, D: Digester + Drop> {
     pub cache: BlockCache,
 }
 
-impl<S: Alter + Drop, D: Digester + Drop> Host<S, D> {
+impl<S: Alter + Drop, P: Shelf + Drop, D: Digester + Drop> Host<S, P, D> {
     /// The host's database.
-    pub fn into_connection(self) -> Connection<S>
+    pub fn into_connection(self) -> Connection<S, P>
         ensures { result ≡ self.connection }
     {
         let Host {

@@ -7,17 +7,18 @@ use crate::rows::known::{Known, find_key};
 use crate::rows::named::{Named, delete_named};
 use crate::texts::{are_names, are_texts};
 use crate::trouble::or_trouble;
+use bh_shelf::shelf::Shelf;
 use bh_storage::error::StepError;
 use bh_types::refusal::Refusal;
 use sqlite::Alter;
 use std::alloc::Global;
 
-impl<S: Alter + Drop, D: Digester + Drop> Host<S, D> {
+impl<S: Alter + Drop, P: Shelf + Drop, D: Digester + Drop> Host<S, P, D> {
     /// Adds an access key to a tenant. Refusals: InvalidName for either name or the secret,
     /// NoSuchTenant, KeyExists.
     pub fn key_add(&mut self, alloc: Global, tenant: &str, name: &str, secret: &str) -> Carried
-        requires { Works S.Store D.digest_of self.old }
-        ensures { CarriesOut S.Store D.digest_of self.old self.new tenant.now (add_key tenant.now name.now secret.now) result }
+        requires { Works S.Store P.Shelf D.digest_of self.old }
+        ensures { CarriesOut S.Store P.Shelf D.digest_of self.old self.new tenant.now (add_key tenant.now name.now secret.now) result }
     {
         if !are_texts(alloc, tenant, name, secret)? {
             return Err(StepError::Refused(Refusal::InvalidName));
@@ -34,8 +35,8 @@ impl<S: Alter + Drop, D: Digester + Drop> Host<S, D> {
     /// Deletes a tenant's access key. Refusals: InvalidName for either name, NoSuchTenant,
     /// NoSuchKeyName.
     pub fn key_remove(&mut self, alloc: Global, tenant: &str, name: &str) -> Carried
-        requires { Works S.Store D.digest_of self.old }
-        ensures { CarriesOut S.Store D.digest_of self.old self.new tenant.now (remove_key tenant.now name.now) result }
+        requires { Works S.Store P.Shelf D.digest_of self.old }
+        ensures { CarriesOut S.Store P.Shelf D.digest_of self.old self.new tenant.now (remove_key tenant.now name.now) result }
     {
         if !are_names(alloc, tenant, name)? {
             return Err(StepError::Refused(Refusal::InvalidName));

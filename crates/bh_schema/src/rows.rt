@@ -17,6 +17,5 @@ pub mod retains;
 pub mod rules;
 pub mod tallies;
 pub mod tenants;
-pub mod transactions;
 pub mod versions;
 pub mod writing;

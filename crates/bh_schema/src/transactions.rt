@@ -5,56 +5,63 @@ ghost use Rattle.bh_storage.specs.Calls.{IsAtRest, IsWorking, LeavesNothingNew, 
 ghost use Rattle.bh_schema.specs.Storage.{IsClean, IsIntact, IsOpen, seen, left, Works, Keeps, KeepsSettings, Empties};
 
 use crate::host::{Digester, Host};
-use crate::rows::transactions;
 use crate::trouble::or_trouble;
+use bh_shelf::shelf::Shelf;
 use bh_storage::error::Trouble;
 use sqlite::Alter;
 
-impl<S: Alter + Drop, D: Digester + Drop> Host<S, D> {
+impl<S: Alter + Drop, P: Shelf + Drop, D: Digester + Drop> Host<S, P, D> {
     /// Opens a transaction. Fails if a fault has shut the connection.
     pub fn begin(&mut self) -> Result<(), Trouble>
-        requires { IsClean S.Store self.old → IsAtRest (IsSoundHost D.digest_of) (seen S.Store self.old) }
-        ensures within { Keeps S.Store self.old self.new }
-        ensures survives { IsIntact S.Store self.new → LeavesNothingNew (left S.Store) self.old self.new }
-        ensures opens { OnOk result (IsIntact S.Store self.new → IsOpen S.Store self.old × IsOpen S.Store self.new) }
-        ensures same { OnOk result (IsIntact S.Store self.new → (seen S.Store self.new).now ≡ (seen S.Store self.old).now) }
-        ensures working { OnOk result (IsIntact S.Store self.new → IsWorking (IsSoundHost D.digest_of) (seen S.Store self.new)) }
-        ensures settings { KeepsSettings S.Store self.old self.new }
+        requires { IsClean S.Store P.Shelf self.old → IsAtRest (IsSoundHost D.digest_of) (seen S.Store P.Shelf self.old) }
+        ensures within { Keeps S.Store P.Shelf self.old self.new }
+        ensures survives { IsIntact S.Store P.Shelf self.new → LeavesNothingNew (left S.Store P.Shelf) self.old self.new }
+        ensures opens { OnOk result (IsIntact S.Store P.Shelf self.new → IsOpen S.Store P.Shelf self.old
+            × IsOpen S.Store P.Shelf self.new) }
+        ensures same { OnOk result (IsIntact S.Store P.Shelf self.new
+            → (seen S.Store P.Shelf self.new).now ≡ (seen S.Store P.Shelf self.old).now) }
+        ensures working { OnOk result (IsIntact S.Store P.Shelf self.new
+            → IsWorking (IsSoundHost D.digest_of) (seen S.Store P.Shelf self.new)) }
+        ensures settings { KeepsSettings S.Store P.Shelf self.old self.new }
     {
-        or_trouble(transactions::begin(&mut self.connection))?;
+        or_trouble(self.connection.begin())?;
         Ok(())
     }
 
     /// Commits the transaction. The changes then survive a crash.
     pub fn commit(&mut self) -> Result<(), Trouble>
-        requires { Works S.Store D.digest_of self.old }
-        ensures intact { IsIntact S.Store self.new → IsIntact S.Store self.old }
-        ensures opened { IsIntact S.Store self.new → IsOpen S.Store self.new → IsOpen S.Store self.old }
-        ensures opens { OnOk result (IsIntact S.Store self.new → IsOpen S.Store self.old × IsOpen S.Store self.new) }
-        ensures done { OnOk result (IsIntact S.Store self.new → Commits (seen S.Store self.old) (seen S.Store self.new)) }
-        ensures survives { OnOk result (IsIntact S.Store self.new → (x : Tables) → left S.Store self.new x
-            → x ≡ (seen S.Store self.old).now) }
-        ensures crash { OnErr result (IsOpen S.Store self.old → IsIntact S.Store self.new → (x : Tables) → left S.Store self.new x
-            → left S.Store self.old x ⊎ (x ≡ (seen S.Store self.old).now)) }
-        ensures kept { OnErr result (IsClean S.Store self.new → (seen S.Store self.new).kept ≡ (seen S.Store self.old).kept) }
-        ensures limits { (seen S.Store self.new).limits ≡ (seen S.Store self.old).limits }
-        ensures settings { KeepsSettings S.Store self.old self.new }
+        requires { Works S.Store P.Shelf D.digest_of self.old }
+        ensures intact { IsIntact S.Store P.Shelf self.new → IsIntact S.Store P.Shelf self.old }
+        ensures opened { IsIntact S.Store P.Shelf self.new → IsOpen S.Store P.Shelf self.new → IsOpen S.Store P.Shelf self.old }
+        ensures opens { OnOk result (IsIntact S.Store P.Shelf self.new → IsOpen S.Store P.Shelf self.old
+            × IsOpen S.Store P.Shelf self.new) }
+        ensures done { OnOk result (IsIntact S.Store P.Shelf self.new
+            → Commits (seen S.Store P.Shelf self.old) (seen S.Store P.Shelf self.new)) }
+        ensures survives { OnOk result (IsIntact S.Store P.Shelf self.new → (x : Tables) → left S.Store P.Shelf self.new x
+            → x ≡ (seen S.Store P.Shelf self.old).now) }
+        ensures crash { OnErr result (IsOpen S.Store P.Shelf self.old → IsIntact S.Store P.Shelf self.new → (x : Tables)
+            → left S.Store P.Shelf self.new x
+            → left S.Store P.Shelf self.old x ⊎ (x ≡ (seen S.Store P.Shelf self.old).now)) }
+        ensures kept { OnErr result (IsClean S.Store P.Shelf self.new
+            → (seen S.Store P.Shelf self.new).kept ≡ (seen S.Store P.Shelf self.old).kept) }
+        ensures limits { (seen S.Store P.Shelf self.new).limits ≡ (seen S.Store P.Shelf self.old).limits }
+        ensures settings { KeepsSettings S.Store P.Shelf self.old self.new }
     {
-        or_trouble(transactions::commit(&mut self.connection))?;
+        or_trouble(self.connection.commit())?;
         Ok(())
     }
 
     /// Rolls back the transaction, if one is open: the tables are those that were committed. The
     /// cache of blocks is emptied.
     pub fn take_back(&mut self)
-        ensures intact { IsIntact S.Store self.new → IsIntact S.Store self.old }
-        ensures opened { IsIntact S.Store self.new → IsOpen S.Store self.new → IsOpen S.Store self.old }
-        ensures survives { IsIntact S.Store self.new → LeavesNothingNew (left S.Store) self.old self.new }
-        ensures back { IsClean S.Store self.new → TakesBack (seen S.Store self.old) (seen S.Store self.new) }
-        ensures limits { (seen S.Store self.new).limits ≡ (seen S.Store self.old).limits }
-        ensures settings { Empties S.Store self.old self.new }
+        ensures intact { IsIntact S.Store P.Shelf self.new → IsIntact S.Store P.Shelf self.old }
+        ensures opened { IsIntact S.Store P.Shelf self.new → IsOpen S.Store P.Shelf self.new → IsOpen S.Store P.Shelf self.old }
+        ensures survives { IsIntact S.Store P.Shelf self.new → LeavesNothingNew (left S.Store P.Shelf) self.old self.new }
+        ensures back { IsClean S.Store P.Shelf self.new → TakesBack (seen S.Store P.Shelf self.old) (seen S.Store P.Shelf self.new) }
+        ensures limits { (seen S.Store P.Shelf self.new).limits ≡ (seen S.Store P.Shelf self.old).limits }
+        ensures settings { Empties S.Store P.Shelf self.old self.new }
     {
-        transactions::take_back(&mut self.connection);
+        self.connection.take_back();
         // Blocks that were stored in the transaction are gone.
         self.cache.clear();
     }

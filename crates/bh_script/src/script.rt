@@ -1,6 +1,6 @@
 ghost use Rattle.std.specs.Prelude.{◌≡◌, false, IfOk, IfErr, OnOk};
-ghost use Rattle.sqlite.specs.Held.{state};
 ghost use Rattle.sqlite.specs.Steps.{over_memory};
+ghost use Rattle.bh_base.specs.Connections.{state, without_packs};
 ghost use Rattle.bh_create.specs.Creation.{IsNewHost};
 ghost use Rattle.bh_cache.specs.Kept.{no_blocks};
 ghost use Rattle.bh_memo.specs.Facts.{nothing};
@@ -10,16 +10,18 @@ ghost use Rattle.bh_script.specs.Answers.{WritesScript, WritesScriptAlone, is_wr
 use crate::answers::answer_lines;
 use crate::error::ScriptError;
 use crate::input::BadLine;
+use bh_base::connection::Connection;
 use bh_create::create;
 use bh_dispatch::recalling::RecallingStorage;
 use bh_link::ends::Sink;
 use bh_link::link::Link;
 use bh_operation::routes::Routes;
 use bh_schema::host::Digester;
+use bh_shelf::no_shelf::NoShelf;
 use bh_storage::error::Trouble;
 use bh_types::block_digest::BlockDigest;
 use bh_types::limits::{Limits, Tuning};
-use sqlite::{Connection, MemStore};
+use sqlite::{Connection as Database, MemStore};
 use std::alloc::Global;
 
 /// Applies a script's events, up to the first invalid line, to a new host in memory with these
@@ -56,13 +58,18 @@ fn new_host<D: Digester + Drop>(
     digest: BlockDigest,
     limits: Limits,
     tuning: Tuning,
-) -> Result<RecallingStorage<MemStore, D>, Trouble>
+) -> Result<RecallingStorage<MemStore, NoShelf, D>, Trouble>
     ensures limits { IfOk result (λ made. made.storage.host.limits ≡ limits) }
-    ensures made { IfOk result (λ made. IsNewHost made.storage.host.limits digest (state over_memory made.storage.host.connection)) }
+    ensures made { IfOk result (λ made. IsNewHost made.storage.host.limits digest
+        (state over_memory without_packs made.storage.host.connection)) }
     ensures cache { IfOk result (λ made. made.storage.host.cache ≡ no_blocks tuning) }
     ensures memo { IfOk result (λ made. made.memo ≡ nothing) }
 {
-    let connection = Connection::open_in_memory(alloc)?;
+    let database = Database::open_in_memory(alloc)?;
+    let connection = Connection {
+        database,
+        packs: NoShelf,
+    };
     match create(connection, digester, digest, limits, tuning) {
         Ok(host) => Ok(RecallingStorage::new(alloc, host)),
         Err(_) => Err(Trouble::Store),

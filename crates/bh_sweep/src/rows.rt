@@ -4,88 +4,98 @@ ghost use Rattle.std.specs.List.{sum_by};
 ghost use Rattle.bh_rows.specs.Means.{is_trouble};
 ghost use Rattle.bh_tables.specs.Shown.{shown_used};
 ghost use Rattle.bh_tables.specs.Typed.{BlockRow, TenantRow, Tables, totals_of, number as stored};
-ghost use Rattle.bh_schema.specs.Connections.{IsClean, tables, InTransaction, StaysWithin, WasOpen, ChangesNothing, IsTrouble, IsTroubleIf};
+ghost use Rattle.bh_base.specs.Connections.{IsClean, tables, InTransaction, StaysWithin, WasOpen, ChangesNothing, IsTrouble, IsTroubleIf};
 ghost use Rattle.bh_sweep.specs.Counted.{used_by};
 
+use bh_base::connection::Connection;
 use bh_schema::rows::counts::read_total;
-use sqlite::{Alter, Connection, Error, Row};
+use bh_shelf::shelf::Shelf;
+use sqlite::{Alter, Error, Row};
 
-fn block_rows<S: Alter>(connection: &mut Connection<S>) -> Result<Vec<Row>, Error>
-    requires inside { InTransaction S.Store connection.old }
-    ensures within { StaysWithin S.Store connection.old connection.new }
-    ensures opens { OnOk result (WasOpen S.Store connection.old connection.new) }
-    ensures same { OnOk result (ChangesNothing S.Store connection.old connection.new) }
-    ensures rows { IfOk result (λ rows. IsClean S.Store connection.new
-        → rows.items ≡ (stored (length (tables S.Store connection.old).blocks) ∷ []) ∷ []) }
-    ensures trouble { IfErr result (IsTroubleIf S.Store connection.old connection.new
-        (length (tables S.Store connection.old).blocks < 2 ^ 63)) }
+fn block_rows<S: Alter, P: Shelf>(connection: &mut Connection<S, P>) -> Result<Vec<Row>, Error>
+    requires inside { InTransaction S.Store P.Shelf connection.old }
+    ensures within { StaysWithin S.Store P.Shelf connection.old connection.new }
+    ensures opens { OnOk result (WasOpen S.Store P.Shelf connection.old connection.new) }
+    ensures same { OnOk result (ChangesNothing S.Store P.Shelf connection.old connection.new) }
+    ensures rows { IfOk result (λ rows. IsClean S.Store P.Shelf connection.new
+        → rows.items ≡ (stored (length (tables S.Store P.Shelf connection.old).blocks) ∷ []) ∷ []) }
+    ensures trouble { IfErr result (IsTroubleIf S.Store P.Shelf connection.old connection.new
+        (length (tables S.Store P.Shelf connection.old).blocks < 2 ^ 63)) }
 {
-    connection.query_all("SELECT coalesce(sum(1), 0) FROM blocks", &[])
+    connection
+        .database
+        .query_all("SELECT coalesce(sum(1), 0) FROM blocks", &[])
 }
 
-fn stored_rows<S: Alter>(connection: &mut Connection<S>) -> Result<Vec<Row>, Error>
-    requires inside { InTransaction S.Store connection.old }
-    ensures within { StaysWithin S.Store connection.old connection.new }
-    ensures opens { OnOk result (WasOpen S.Store connection.old connection.new) }
-    ensures same { OnOk result (ChangesNothing S.Store connection.old connection.new) }
-    ensures rows { IfOk result (λ rows. IsClean S.Store connection.new
-        → rows.items ≡ (stored (sum_by (λ (b : BlockRow). length b.bytes) (tables S.Store connection.old).blocks) ∷ []) ∷ []) }
-    ensures trouble { IfErr result (IsTroubleIf S.Store connection.old connection.new
-        (sum_by (λ (b : BlockRow). length b.bytes) (tables S.Store connection.old).blocks < 2 ^ 63)) }
+fn stored_rows<S: Alter, P: Shelf>(connection: &mut Connection<S, P>) -> Result<Vec<Row>, Error>
+    requires inside { InTransaction S.Store P.Shelf connection.old }
+    ensures within { StaysWithin S.Store P.Shelf connection.old connection.new }
+    ensures opens { OnOk result (WasOpen S.Store P.Shelf connection.old connection.new) }
+    ensures same { OnOk result (ChangesNothing S.Store P.Shelf connection.old connection.new) }
+    ensures rows { IfOk result (λ rows. IsClean S.Store P.Shelf connection.new
+        → rows.items ≡ (stored (sum_by (λ (b : BlockRow). length b.bytes) (tables S.Store P.Shelf connection.old).blocks) ∷ []) ∷ []) }
+    ensures trouble { IfErr result (IsTroubleIf S.Store P.Shelf connection.old connection.new
+        (sum_by (λ (b : BlockRow). length b.bytes) (tables S.Store P.Shelf connection.old).blocks < 2 ^ 63)) }
 {
-    connection.query_all("SELECT coalesce(sum(length(bytes)), 0) FROM blocks", &[])
+    connection
+        .database
+        .query_all("SELECT coalesce(sum(length(bytes)), 0) FROM blocks", &[])
 }
 
-fn used_rows<S: Alter>(connection: &mut Connection<S>) -> Result<Vec<Row>, Error>
-    requires inside { InTransaction S.Store connection.old }
-    ensures within { StaysWithin S.Store connection.old connection.new }
-    ensures opens { OnOk result (WasOpen S.Store connection.old connection.new) }
-    ensures same { OnOk result (ChangesNothing S.Store connection.old connection.new) }
-    ensures rows { IfOk result (λ rows. IsClean S.Store connection.new
-        → rows.items ≡ map (shown_used (totals_of (tables S.Store connection.old))) (tables S.Store connection.old).tenants) }
-    ensures trouble { IfErr result (IsTrouble S.Store connection.old connection.new) }
+fn used_rows<S: Alter, P: Shelf>(connection: &mut Connection<S, P>) -> Result<Vec<Row>, Error>
+    requires inside { InTransaction S.Store P.Shelf connection.old }
+    ensures within { StaysWithin S.Store P.Shelf connection.old connection.new }
+    ensures opens { OnOk result (WasOpen S.Store P.Shelf connection.old connection.new) }
+    ensures same { OnOk result (ChangesNothing S.Store P.Shelf connection.old connection.new) }
+    ensures rows { IfOk result (λ rows. IsClean S.Store P.Shelf connection.new
+        → rows.items ≡ map (shown_used (totals_of (tables S.Store P.Shelf connection.old)))
+        (tables S.Store P.Shelf connection.old).tenants) }
+    ensures trouble { IfErr result (IsTrouble S.Store P.Shelf connection.old connection.new) }
 {
-    connection.query_all("SELECT used FROM tenants ORDER BY rowid", &[])
+    connection
+        .database
+        .query_all("SELECT used FROM tenants ORDER BY rowid", &[])
 }
 
-fn clash_rows<S: Alter>(connection: &mut Connection<S>) -> Result<Vec<Row>, Error>
-    requires inside { InTransaction S.Store connection.old }
-    ensures within { StaysWithin S.Store connection.old connection.new }
-    ensures opens { OnOk result (WasOpen S.Store connection.old connection.new) }
-    ensures same { OnOk result (ChangesNothing S.Store connection.old connection.new) }
-    ensures rows { IfOk result (λ rows. IsClean S.Store connection.new
-        → rows.items ≡ (stored (length (filter (λ (b : BlockRow). nat_lt 0 b.ord) (tables S.Store connection.old).blocks)) ∷ []) ∷ []) }
-    ensures trouble { IfErr result (IsTroubleIf S.Store connection.old connection.new
-        (length (filter (λ (b : BlockRow). nat_lt 0 b.ord) (tables S.Store connection.old).blocks) < 2 ^ 63)) }
+fn clash_rows<S: Alter, P: Shelf>(connection: &mut Connection<S, P>) -> Result<Vec<Row>, Error>
+    requires inside { InTransaction S.Store P.Shelf connection.old }
+    ensures within { StaysWithin S.Store P.Shelf connection.old connection.new }
+    ensures opens { OnOk result (WasOpen S.Store P.Shelf connection.old connection.new) }
+    ensures same { OnOk result (ChangesNothing S.Store P.Shelf connection.old connection.new) }
+    ensures rows { IfOk result (λ rows. IsClean S.Store P.Shelf connection.new
+        → rows.items ≡ (stored (length (filter (λ (b : BlockRow). nat_lt 0 b.ord)
+        (tables S.Store P.Shelf connection.old).blocks)) ∷ []) ∷ []) }
+    ensures trouble { IfErr result (IsTroubleIf S.Store P.Shelf connection.old connection.new
+        (length (filter (λ (b : BlockRow). nat_lt 0 b.ord) (tables S.Store P.Shelf connection.old).blocks) < 2 ^ 63)) }
 {
-    connection.query_all("SELECT coalesce(sum(1), 0) FROM blocks WHERE ord > 0", &[])
+    connection.database.query_all("SELECT coalesce(sum(1), 0) FROM blocks WHERE ord > 0", &[])
 }
 
 /// The number of blocks.
-pub fn block_count<S: Alter>(connection: &mut Connection<S>) -> Result<u64, Error>
-    requires inside { InTransaction S.Store connection.old }
-    ensures within { StaysWithin S.Store connection.old connection.new }
-    ensures opens { OnOk result (WasOpen S.Store connection.old connection.new) }
-    ensures same { OnOk result (ChangesNothing S.Store connection.old connection.new) }
-    ensures count { IfOk result (λ n. IsClean S.Store connection.new
-        → n ≡ length (tables S.Store connection.old).blocks) }
-    ensures trouble { IfErr result (IsTroubleIf S.Store connection.old connection.new
-        (length (tables S.Store connection.old).blocks < 2 ^ 63)) }
+pub fn block_count<S: Alter, P: Shelf>(connection: &mut Connection<S, P>) -> Result<u64, Error>
+    requires inside { InTransaction S.Store P.Shelf connection.old }
+    ensures within { StaysWithin S.Store P.Shelf connection.old connection.new }
+    ensures opens { OnOk result (WasOpen S.Store P.Shelf connection.old connection.new) }
+    ensures same { OnOk result (ChangesNothing S.Store P.Shelf connection.old connection.new) }
+    ensures count { IfOk result (λ n. IsClean S.Store P.Shelf connection.new
+        → n ≡ length (tables S.Store P.Shelf connection.old).blocks) }
+    ensures trouble { IfErr result (IsTroubleIf S.Store P.Shelf connection.old connection.new
+        (length (tables S.Store P.Shelf connection.old).blocks < 2 ^ 63)) }
 {
     let rows = block_rows(connection)?;
     read_total(&rows)
 }
 
 /// The bytes of all blocks. The store refuses a sum of 2^63 or more.
-pub fn stored_total<S: Alter>(connection: &mut Connection<S>) -> Result<u64, Error>
-    requires inside { InTransaction S.Store connection.old }
-    ensures within { StaysWithin S.Store connection.old connection.new }
-    ensures opens { OnOk result (WasOpen S.Store connection.old connection.new) }
-    ensures same { OnOk result (ChangesNothing S.Store connection.old connection.new) }
-    ensures total { IfOk result (λ n. IsClean S.Store connection.new
-        → n ≡ sum_by (λ (b : BlockRow). length b.bytes) (tables S.Store connection.old).blocks) }
-    ensures trouble { IfErr result (IsTroubleIf S.Store connection.old connection.new
-        (sum_by (λ (b : BlockRow). length b.bytes) (tables S.Store connection.old).blocks < 2 ^ 63)) }
+pub fn stored_total<S: Alter, P: Shelf>(connection: &mut Connection<S, P>) -> Result<u64, Error>
+    requires inside { InTransaction S.Store P.Shelf connection.old }
+    ensures within { StaysWithin S.Store P.Shelf connection.old connection.new }
+    ensures opens { OnOk result (WasOpen S.Store P.Shelf connection.old connection.new) }
+    ensures same { OnOk result (ChangesNothing S.Store P.Shelf connection.old connection.new) }
+    ensures total { IfOk result (λ n. IsClean S.Store P.Shelf connection.new
+        → n ≡ sum_by (λ (b : BlockRow). length b.bytes) (tables S.Store P.Shelf connection.old).blocks) }
+    ensures trouble { IfErr result (IsTroubleIf S.Store P.Shelf connection.old connection.new
+        (sum_by (λ (b : BlockRow). length b.bytes) (tables S.Store P.Shelf connection.old).blocks < 2 ^ 63)) }
 {
     let rows = stored_rows(connection)?;
     read_total(&rows)
@@ -113,14 +123,14 @@ fn add_used(rows: &[Row]) -> Result<u128, Error>
 }
 
 /// The bytes that all tenants together use.
-pub fn used_total<S: Alter>(connection: &mut Connection<S>) -> Result<u128, Error>
-    requires inside { InTransaction S.Store connection.old }
-    ensures within { StaysWithin S.Store connection.old connection.new }
-    ensures opens { OnOk result (WasOpen S.Store connection.old connection.new) }
-    ensures same { OnOk result (ChangesNothing S.Store connection.old connection.new) }
-    ensures total { IfOk result (λ n. IsClean S.Store connection.new
-        → n ≡ sum_by (used_by (tables S.Store connection.old)) (tables S.Store connection.old).tenants) }
-    ensures trouble { IfErr result (IsTrouble S.Store connection.old connection.new) }
+pub fn used_total<S: Alter, P: Shelf>(connection: &mut Connection<S, P>) -> Result<u128, Error>
+    requires inside { InTransaction S.Store P.Shelf connection.old }
+    ensures within { StaysWithin S.Store P.Shelf connection.old connection.new }
+    ensures opens { OnOk result (WasOpen S.Store P.Shelf connection.old connection.new) }
+    ensures same { OnOk result (ChangesNothing S.Store P.Shelf connection.old connection.new) }
+    ensures total { IfOk result (λ n. IsClean S.Store P.Shelf connection.new
+        → n ≡ sum_by (used_by (tables S.Store P.Shelf connection.old)) (tables S.Store P.Shelf connection.old).tenants) }
+    ensures trouble { IfErr result (IsTrouble S.Store P.Shelf connection.old connection.new) }
 {
     let rows = used_rows(connection)?;
     add_used(&rows)
@@ -128,15 +138,15 @@ pub fn used_total<S: Alter>(connection: &mut Connection<S>) -> Result<u128, Erro
 
 /// The number of blocks with an ordinal above 0: when they were stored, another block had their
 /// digest.
-pub fn clash_count<S: Alter>(connection: &mut Connection<S>) -> Result<u64, Error>
-    requires inside { InTransaction S.Store connection.old }
-    ensures within { StaysWithin S.Store connection.old connection.new }
-    ensures opens { OnOk result (WasOpen S.Store connection.old connection.new) }
-    ensures same { OnOk result (ChangesNothing S.Store connection.old connection.new) }
-    ensures count { IfOk result (λ n. IsClean S.Store connection.new
-        → n ≡ length (filter (λ (b : BlockRow). nat_lt 0 b.ord) (tables S.Store connection.old).blocks)) }
-    ensures trouble { IfErr result (IsTroubleIf S.Store connection.old connection.new
-        (length (filter (λ (b : BlockRow). nat_lt 0 b.ord) (tables S.Store connection.old).blocks) < 2 ^ 63)) }
+pub fn clash_count<S: Alter, P: Shelf>(connection: &mut Connection<S, P>) -> Result<u64, Error>
+    requires inside { InTransaction S.Store P.Shelf connection.old }
+    ensures within { StaysWithin S.Store P.Shelf connection.old connection.new }
+    ensures opens { OnOk result (WasOpen S.Store P.Shelf connection.old connection.new) }
+    ensures same { OnOk result (ChangesNothing S.Store P.Shelf connection.old connection.new) }
+    ensures count { IfOk result (λ n. IsClean S.Store P.Shelf connection.new
+        → n ≡ length (filter (λ (b : BlockRow). nat_lt 0 b.ord) (tables S.Store P.Shelf connection.old).blocks)) }
+    ensures trouble { IfErr result (IsTroubleIf S.Store P.Shelf connection.old connection.new
+        (length (filter (λ (b : BlockRow). nat_lt 0 b.ord) (tables S.Store P.Shelf connection.old).blocks) < 2 ^ 63)) }
 {
     let rows = clash_rows(connection)?;
     read_total(&rows)

@@ -2,13 +2,15 @@
 
 ghost use Rattle.std.specs.Prelude.{◌≡◌, map, IfOk};
 ghost use Rattle.bh_view.specs.View.{rows_of};
-ghost use Rattle.bh_schema.specs.Connections.{IsClean, tables, InTransaction};
+ghost use Rattle.bh_base.specs.Connections.{IsClean, tables, InTransaction};
 ghost use Rattle.bh_schema.specs.Calls.{Reads};
 ghost use Rattle.bh_tenant_rows.specs.Shown.{shown_name};
 ghost use Rattle.bh_tenant_rows.specs.Owned.{shown_in, IsTextOf};
 
+use bh_base::connection::Connection;
+use bh_shelf::shelf::Shelf;
 use sqlite::types::ToSql;
-use sqlite::{Alter, Connection, Error, Row};
+use sqlite::{Alter, Error, Row};
 
 /// A table in which each tenant has rows of its own.
 #[derive(Clone, Copy)]
@@ -50,25 +52,29 @@ impl Owned {
 }
 
 /// A tenant's rows in a table.
-pub fn owned_rows<S: Alter>(
-    connection: &mut Connection<S>,
+pub fn owned_rows<S: Alter, P: Shelf>(
+    connection: &mut Connection<S, P>,
     table: Owned,
     tenant: &str,
 ) -> Result<Vec<Row>, Error>
-    requires inside { InTransaction S.Store connection.old }
-    ensures reads { Reads S.Store connection.old connection.new result }
-    ensures rows { IfOk result (λ rows. IsClean S.Store connection.new
-        → rows.items ≡ shown_in table (rows_of tenant.now (tables S.Store connection.old))) }
+    requires inside { InTransaction S.Store P.Shelf connection.old }
+    ensures reads { Reads S.Store P.Shelf connection.old connection.new result }
+    ensures rows { IfOk result (λ rows. IsClean S.Store P.Shelf connection.new
+        → rows.items ≡ shown_in table (rows_of tenant.now (tables S.Store P.Shelf connection.old))) }
 {
-    connection.query_all(table.text(), &[tenant.to_sql()])
+    connection
+        .database
+        .query_all(table.text(), &[tenant.to_sql()])
 }
 
 /// The names of all tenants.
-pub fn name_rows<S: Alter>(connection: &mut Connection<S>) -> Result<Vec<Row>, Error>
-    requires inside { InTransaction S.Store connection.old }
-    ensures reads { Reads S.Store connection.old connection.new result }
-    ensures rows { IfOk result (λ rows. IsClean S.Store connection.new
-        → rows.items ≡ map shown_name (tables S.Store connection.old).tenants) }
+pub fn name_rows<S: Alter, P: Shelf>(connection: &mut Connection<S, P>) -> Result<Vec<Row>, Error>
+    requires inside { InTransaction S.Store P.Shelf connection.old }
+    ensures reads { Reads S.Store P.Shelf connection.old connection.new result }
+    ensures rows { IfOk result (λ rows. IsClean S.Store P.Shelf connection.new
+        → rows.items ≡ map shown_name (tables S.Store P.Shelf connection.old).tenants) }
 {
-    connection.query_all("SELECT tenant FROM tenants ORDER BY rowid", &[])
+    connection
+        .database
+        .query_all("SELECT tenant FROM tenants ORDER BY rowid", &[])
 }

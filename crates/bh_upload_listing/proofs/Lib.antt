@@ -4,4 +4,5 @@ pub mod Sorting
 pub mod Viewed
 pub mod Looping
 pub mod Answering
+pub mod Refusing
 pub mod PartsViewed

@@ -3,7 +3,7 @@
 ghost use Rattle.std.specs.Prelude.{◌≡◌, ◌<◌, ◌^◌, map, option_map, IfOk};
 ghost use Rattle.bh_tables.specs.Typed.{PartRow};
 ghost use Rattle.bh_schema.specs.Calls.{MayRead};
-ghost use Rattle.bh_schema.specs.Connections.{IsClean, tables, InTransaction, StaysWithin, StaysOpen};
+ghost use Rattle.bh_base.specs.Connections.{IsClean, tables, InTransaction, StaysWithin, StaysOpen};
 ghost use Rattle.bh_schema.specs.Working.{Works, StillWorks};
 ghost use Rattle.bh_model.specs.Listings.{list_parts};
 ghost use Rattle.bh_model.specs.Operations.{Parts};
@@ -15,15 +15,17 @@ ghost use Rattle.bh_upload_listing.specs.Parts as spec;
 ghost use Rattle.bh_upload_listing.specs.Parts.{seen_part};
 
 use crate::rows::part_rows;
+use bh_base::connection::Connection;
 use bh_docs::{PartEntry, PartsPage, Stored};
 use bh_listing::from_row::{FromRow, read_rows};
 use bh_listing::tell::{last_shown, moment_of, shown_of};
 use bh_schema::trouble::or_trouble;
+use bh_shelf::shelf::Shelf;
 use bh_storage::error::{StepError, Trouble};
 use bh_types::id::UploadId;
 use bh_types::refusal::Refusal;
 use bh_uploads::reads::{NamedUpload, found_upload};
-use sqlite::{Alter, Connection, Error, Row};
+use sqlite::{Alter, Error, Row};
 use std::alloc::{AllocError, Global};
 
 /// A request for a page of an upload's parts.
@@ -65,21 +67,22 @@ impl FromRow for PartLine {
 
 /// The first parts of an upload with a greater number than `after`, by number, at most `count` of
 /// them.
-fn part_lines<S: Alter>(
-    connection: &mut Connection<S>,
+fn part_lines<S: Alter, P: Shelf>(
+    connection: &mut Connection<S, P>,
     alloc: Global,
     tenant: &str,
     upload: u64,
     after: u64,
     count: u64,
 ) -> Result<Vec<PartLine>, Trouble>
-    requires inside { InTransaction S.Store connection.old }
+    requires inside { InTransaction S.Store P.Shelf connection.old }
     requires upload { upload < 2 ^ 62 }
     requires early { after < 2 ^ 63 }
     requires small { count < 2 ^ 63 }
-    ensures reads { MayRead S.Store connection.old connection.new result }
-    ensures lines { IfOk result (λ lines. IsClean S.Store connection.new
-        → map seen_part lines.items ≡ map part_item (parts_from tenant.now upload after count (tables S.Store connection.old).parts)) }
+    ensures reads { MayRead S.Store P.Shelf connection.old connection.new result }
+    ensures lines { IfOk result (λ lines. IsClean S.Store P.Shelf connection.new
+        → map seen_part lines.items
+        ≡ map part_item (parts_from tenant.now upload after count (tables S.Store P.Shelf connection.old).parts)) }
 {
     let rows = or_trouble(part_rows(connection, tenant, upload, after, count))?;
     or_trouble(read_rows(alloc, &rows))
@@ -143,20 +146,20 @@ fn told_parts(
 }
 
 /// S3's ListParts: a page of an upload's parts. Refusals: NoSuchBucket, NoSuchUpload.
-pub fn list_parts<S: Alter>(
-    connection: &mut Connection<S>,
+pub fn list_parts<S: Alter, P: Shelf>(
+    connection: &mut Connection<S, P>,
     alloc: Global,
     upload: &NamedUpload<'_>,
     asked: PartsAsked,
 ) -> Result<PartsPage, StepError<Refusal>>
-    requires working { Works S.Store connection.old }
-    ensures within { StaysWithin S.Store connection.old connection.new }
-    ensures opens { Unless result (StaysOpen S.Store connection.old connection.new) }
-    ensures working { Unless result (StillWorks S.Store connection.old connection.new) }
-    ensures carries { IsClean S.Store connection.new
+    requires working { Works S.Store P.Shelf connection.old }
+    ensures within { StaysWithin S.Store P.Shelf connection.old connection.new }
+    ensures opens { Unless result (StaysOpen S.Store P.Shelf connection.old connection.new) }
+    ensures working { Unless result (StillWorks S.Store P.Shelf connection.old connection.new) }
+    ensures carries { IsClean S.Store P.Shelf connection.new
         → Carries (λ page. Parts (parts_view page)) upload.now.tenant.now
         (list_parts upload.now.bucket.now upload.now.key.now upload.now.upload asked.max asked.after)
-        (tables S.Store connection.old) (tables S.Store connection.new) result }
+        (tables S.Store P.Shelf connection.old) (tables S.Store P.Shelf connection.new) result }
 {
     // A marker has at most ten digits.
     if asked.after >= 1 << 63 {

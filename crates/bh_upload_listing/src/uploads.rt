@@ -2,7 +2,7 @@
 
 ghost use Rattle.std.specs.Prelude.{◌≡◌, ◌^◌, min, map, option_map, IfOk};
 ghost use Rattle.bh_schema.specs.Calls.{MayRead};
-ghost use Rattle.bh_schema.specs.Connections.{IsClean, tables, StaysWithin, StaysOpen};
+ghost use Rattle.bh_base.specs.Connections.{IsClean, tables, StaysWithin, StaysOpen};
 ghost use Rattle.bh_schema.specs.Working.{Works, StillWorks};
 ghost use Rattle.bh_model.specs.Listings.{list_uploads};
 ghost use Rattle.bh_model.specs.Operations.{Uploads};
@@ -17,6 +17,7 @@ ghost use Rattle.bh_listing.specs.Told.{asked_view};
 ghost use Rattle.bh_listing.specs.Uploads.{own_items};
 ghost use Rattle.bh_upload_listing.specs.Places.{place_view, marked, place_by, listed_from};
 
+use bh_base::connection::Connection;
 use bh_docs::UploadsPage;
 use bh_listing::rows::{Keys, lines_at};
 use bh_listing::tell::tell;
@@ -24,13 +25,14 @@ use bh_objects::reads::bucket_state;
 use bh_pages::gathering::{Listed, PageAsked, past};
 use bh_pages::places::Place;
 use bh_pages::uploads::{UploadLine, UploadReading};
+use bh_shelf::shelf::Shelf;
 use bh_storage::error::{StepError, Trouble};
 use bh_types::bucket::BucketName;
 use bh_types::counters::COUNTER_END;
 use bh_types::id::UploadId;
 use bh_types::names::TenantName;
 use bh_types::refusal::Refusal;
-use sqlite::{Alter, Connection};
+use sqlite::Alter;
 use std::alloc::{AllocError, Global};
 
 /// The number after which uploads are later than this one. No counter reaches 2^62.
@@ -85,20 +87,20 @@ fn start_place(
 }
 
 /// The entries of a page of a bucket's uploads from a place on, and one more if there is one.
-fn gather_uploads<S: Alter>(
-    connection: &mut Connection<S>,
+fn gather_uploads<S: Alter, P: Shelf>(
+    connection: &mut Connection<S, P>,
     alloc: Global,
     tenant: &str,
     bucket: &str,
     asked: &PageAsked<'_>,
     place: Place,
 ) -> Result<Vec<Listed<UploadLine>>, Trouble>
-    requires working { Works S.Store connection.old }
+    requires working { Works S.Store P.Shelf connection.old }
     requires under { IsUnder asked.now.prefix.now place.key.items place.after }
-    ensures reads { MayRead S.Store connection.old connection.new result }
-    ensures gathered { IfOk result (λ entries. IsClean S.Store connection.new
+    ensures reads { MayRead S.Store P.Shelf connection.old connection.new result }
+    ensures gathered { IfOk result (λ entries. IsClean S.Store P.Shelf connection.new
         → IsPage asked.now.max (map seen_entry entries.items)
-        (listed_from asked.now (seen_place place) (own_items tenant.now bucket.now (tables S.Store connection.old).uploads))) }
+        (listed_from asked.now (seen_place place) (own_items tenant.now bucket.now (tables S.Store P.Shelf connection.old).uploads))) }
 {
     let upto = past(alloc, asked.prefix, 255)?;
     let keys = Keys {
@@ -124,22 +126,22 @@ fn gather_uploads<S: Alter>(
 }
 
 /// S3's ListMultipartUploads: a page of a bucket's uploads. Refusal: NoSuchBucket.
-pub fn list_uploads<S: Alter>(
-    connection: &mut Connection<S>,
+pub fn list_uploads<S: Alter, P: Shelf>(
+    connection: &mut Connection<S, P>,
     alloc: Global,
     tenant: &TenantName,
     bucket: &BucketName,
     asked: &PageAsked<'_>,
     upload: Option<UploadId>,
 ) -> Result<UploadsPage, StepError<Refusal>>
-    requires working { Works S.Store connection.old }
-    ensures within { StaysWithin S.Store connection.old connection.new }
-    ensures opens { Unless result (StaysOpen S.Store connection.old connection.new) }
-    ensures working { Unless result (StillWorks S.Store connection.old connection.new) }
-    ensures carries { IsClean S.Store connection.new
+    requires working { Works S.Store P.Shelf connection.old }
+    ensures within { StaysWithin S.Store P.Shelf connection.old connection.new }
+    ensures opens { Unless result (StaysOpen S.Store P.Shelf connection.old connection.new) }
+    ensures working { Unless result (StillWorks S.Store P.Shelf connection.old connection.new) }
+    ensures carries { IsClean S.Store P.Shelf connection.new
         → Carries (λ page. Uploads (uploads_view page)) tenant.now
         (list_uploads bucket.now (asked_view asked.now) (place_view asked.now upload))
-        (tables S.Store connection.old) (tables S.Store connection.new) result }
+        (tables S.Store P.Shelf connection.old) (tables S.Store P.Shelf connection.new) result }
 {
     bucket_state(connection, tenant, bucket)?;
     let place = start_place(alloc, asked, upload)?;

@@ -1,14 +1,13 @@
 -- What is kept of a tenant and of an upload, once parts come or go.
-use Rattle.std.proofs.Common.{◌≡◌, ℕ, pos, true, List, [], ◌∷◌, map, filter, Some, None, Ok, Err, Result, IfOk, IfErr, slice_get, refl, sym, ap, ◌∙◌, subst, unsigned_abs}
+use Rattle.std.proofs.Common.{◌≡◌, ℕ, pos, true, List, [], ◌∷◌, map, filter, Some, None, Ok, Err, Result, IfOk, IfErr, slice_get, refl, sym, ap, ◌∙◌, unsigned_abs}
 use Rattle.std.proofs.lemmas.Bool.{and_parts}
-use Rattle.sqlite.specs.Effect.{IsDatabase}
 use Rattle.sqlite.specs.Order.{Row}
-use Rattle.sqlite.specs.State.{State, IsLive}
+use Rattle.sqlite.specs.State.{State}
 use Rattle.sqlite.specs.declared.error.Error.{Error}
 use Rattle.sqlite_keyed.proofs.KeyedLemmas.{same_int}
 use Rattle.sqlite_typed.proofs.TestLemmas.{same_bytes}
 use Rattle.bh_rows.specs.Means.{is_trouble}
-use Rattle.bh_tables.specs.Schema.{Octets, host_schema}
+use Rattle.bh_tables.specs.Schema.{Octets}
 use Rattle.bh_tables.specs.Typed.{totals_of, number, bytes_kept, used_changed, kept_changed, PartColumns, PartRow, UploadRow, Tables, tables_in}
 use Rattle.bh_tables.specs.Bodies.{resolved_part}
 use Rattle.bh_tables.specs.Shown.{is_tenant, is_part, is_part_of, is_upload, shown_kept}
@@ -17,8 +16,9 @@ use Rattle.bh_tables.proofs.PartTotals.{upload_name, totals_parts_deleted, total
 use Rattle.bh_tables.proofs.TallyLemmas.{totals_tenant_changed}
 use Rattle.bh_view.proofs.FilterLemmas.{first_passes}
 use Rattle.bh_view.proofs.FindLemmas.{first_find}
-use Rattle.bh_schema.specs.Layer.{standing, IsIntact, IsOpen, IsStateClean, IsInside}
+use Rattle.bh_base.specs.Layer.{standing, IsIntact, IsStateClean, IsInside}
 use Rattle.bh_schema.proofs.Finds.{row_of}
+use Rattle.bh_schema.proofs.VersionSteps.{IsObeyed, sound_at}
 use Rattle.bh_uploads.specs.Found.{part_bytes_in}
 use Rattle.bh_uploads.specs.Writes.{with_next_entry, part_placed, without_parts}
 
@@ -26,11 +26,6 @@ use Rattle.bh_uploads.specs.Writes.{with_next_entry, part_placed, without_parts}
 pub alone : (old new : State) (r : Result ℕ Error) → IfErr r (λ e. IsIntact new → (standing old).limit ≡ None → Unit {0} → is_trouble e ≡ true) → IfErr r (λ e. IsIntact new → (standing old).limit ≡ None → is_trouble e ≡ true)
 alone old new (Ok n) h = tt
 alone old new (Err e) h = λ intact unlimited. h intact unlimited tt
-
--- the rows of a connection obey the schema
-sound_at : (s : State) → IsLive s → IsStateClean s → IsInside (standing s) → IsDatabase (record { schema = host_schema; trees = (standing s).now.trees })
-unfolding standing IsOpen
-sound_at s live clean inside = subst (λ d. IsDatabase (record { schema = d; trees = s.now.trees })) inside.host.schema (live clean.is_open).0
 
 number_same : (m n : ℕ) → pos m ≡ pos n → m ≡ n
 number_same m n e = ap unsigned_abs e
@@ -47,7 +42,7 @@ own_upload tenant upload p is =
     λ i. (same_bytes p.tenant tenant one.0 i, number_same p.upload upload (same_int (pos p.upload) (pos upload) one.1) i)
 
 -- a part comes in the place of another
-pub placed_law : (s : State) → IsLive s → IsStateClean s → IsInside (standing s) → (p : PartColumns) (next less : ℕ) → part_bytes_in p.tenant p.upload p.part (tables_in (standing s).now) ≡ less
+pub placed_law : (s : State) → IsObeyed s → IsStateClean s → IsInside (standing s) → (p : PartColumns) (next less : ℕ) → part_bytes_in p.tenant p.upload p.part (tables_in (standing s).now) ≡ less
     → kept_changed (p.tenant, p.upload) p.size less (used_changed p.tenant p.size less (totals_of (tables_in (standing s).now))) ≡ totals_of (part_placed p next (tables_in (standing s).now))
 placed_law s live clean inside p next less held =
     let t = tables_in (standing s).now in

@@ -14,3 +14,4 @@ pub mod Chosen
 pub mod Planning
 pub mod Completing
 pub mod Receiving
+pub mod Unfound

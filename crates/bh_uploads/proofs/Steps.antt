@@ -1,7 +1,7 @@
 -- What calls on a connection leave, one after another.
 use Rattle.std.proofs.Common.{◌≡◌}
 use Rattle.sqlite.specs.State.{State}
-use Rattle.bh_schema.specs.Layer.{standing, IsIntact, IsStateClean, StateWithin}
+use Rattle.bh_base.specs.Layer.{standing, IsIntact, IsStateClean, StateWithin}
 use Rattle.bh_schema.specs.Working.{StillWorking}
 use Rattle.bh_objects.proofs.Working.{asked_working, works_then}
 

@@ -6,7 +6,7 @@ ghost use Rattle.bh_storage.specs.Answers.{begun_answer};
 ghost use Rattle.bh_storage.specs.Calls.{Unless, Carries};
 ghost use Rattle.bh_view.specs.Sound.{AreDays};
 ghost use Rattle.bh_view.specs.View.{latest_of};
-ghost use Rattle.bh_schema.specs.Connections.{IsClean, tables, InTransaction};
+ghost use Rattle.bh_base.specs.Connections.{IsClean, tables, InTransaction};
 ghost use Rattle.bh_schema.specs.Working.{Works, WorksOn};
 ghost use Rattle.bh_objects.specs.Calls.{Changes};
 ghost use Rattle.bh_objects.specs.Found.{IsKeyText};
@@ -15,8 +15,10 @@ ghost use Rattle.bh_uploads.specs.Writes.{upload_written};
 use crate::lifecycle::bucket_rule;
 use crate::reads::next_upload;
 use crate::rows::uploads::{UploadRecord, insert_upload};
+use bh_base::connection::Connection;
 use bh_schema::rows::tenants::{TenantNumber, set_number};
 use bh_schema::trouble::or_trouble;
+use bh_shelf::shelf::Shelf;
 use bh_storage::answer::BegunUpload;
 use bh_storage::error::{StepError, Trouble};
 use bh_types::bucket::BucketName;
@@ -25,7 +27,7 @@ use bh_types::key::ObjectKey;
 use bh_types::moment::{Moment, abort_moment};
 use bh_types::names::TenantName;
 use bh_types::refusal::Refusal;
-use sqlite::{Alter, Connection};
+use sqlite::Alter;
 use std::alloc::Global;
 
 /// A new multipart upload.
@@ -39,14 +41,14 @@ pub struct NewUpload<'a> {
 }
 
 /// Adds the upload with this number, which the tenant's counter returned.
-fn write_upload<S: Alter>(
-    connection: &mut Connection<S>,
+fn write_upload<S: Alter, P: Shelf>(
+    connection: &mut Connection<S, P>,
     upload: &NewUpload<'_>,
     number: u64,
 ) -> Result<(), Trouble>
-    requires inside { InTransaction S.Store connection.old }
+    requires inside { InTransaction S.Store P.Shelf connection.old }
     requires small { number < 2 ^ 62 }
-    ensures changes { Changes S.Store connection.old connection.new result
+    ensures changes { Changes S.Store P.Shelf connection.old connection.new result
         (upload_written upload.now.tenant.now upload.now.bucket.now upload.now.key.now upload.now.at number) }
     ensures key { OnOk result (IsKeyText upload.now.key.now) }
 {
@@ -101,18 +103,18 @@ fn begun(
 
 /// S3's CreateMultipartUpload, at a moment that is not after the last stamp. Refusals:
 /// NoSuchBucket, CounterExhausted.
-pub fn begin_upload<S: Alter>(
-    connection: &mut Connection<S>,
+pub fn begin_upload<S: Alter, P: Shelf>(
+    connection: &mut Connection<S, P>,
     alloc: Global,
     upload: &NewUpload<'_>,
 ) -> Result<BegunUpload, StepError<Refusal>>
-    requires working { Works S.Store connection.old }
-    requires early { IsClean S.Store connection.old → upload.now.at ≤ latest_of (tables S.Store connection.old) }
-    ensures works { WorksOn S.Store (Unless result) connection.old connection.new }
-    ensures carries { IsClean S.Store connection.new
+    requires working { Works S.Store P.Shelf connection.old }
+    requires early { IsClean S.Store P.Shelf connection.old → upload.now.at ≤ latest_of (tables S.Store P.Shelf connection.old) }
+    ensures works { WorksOn S.Store P.Shelf (Unless result) connection.old connection.new }
+    ensures carries { IsClean S.Store P.Shelf connection.new
         → Carries begun_answer upload.now.tenant.now
         (machine.create_upload upload.now.at upload.now.bucket.now upload.now.key.now)
-        (tables S.Store connection.old) (tables S.Store connection.new) result }
+        (tables S.Store P.Shelf connection.old) (tables S.Store P.Shelf connection.new) result }
 {
     let days = bucket_rule(connection, upload.tenant, upload.bucket)?;
     let number = next_upload(connection, upload.tenant)?;

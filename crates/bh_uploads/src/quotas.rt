@@ -3,19 +3,21 @@ ghost use Rattle.std.specs.Prelude.{◌≡◌, ◌<◌, ◌^◌, IfOk};
 ghost use Rattle.bh_storage.specs.Calls.{Unless, Decides};
 ghost use Rattle.bh_view.specs.View.{view};
 ghost use Rattle.bh_schema.specs.Calls.{MayRead};
-ghost use Rattle.bh_schema.specs.Connections.{IsClean, tables, InTransaction};
+ghost use Rattle.bh_base.specs.Connections.{IsClean, tables, InTransaction};
 ghost use Rattle.bh_schema.specs.Working.{Works, WorksOn};
 ghost use Rattle.bh_uploads.specs.Found.{part_bytes_in, replaced_body, part_entry_in};
 
 use crate::counting::given;
 use crate::rows::parts::find_body;
+use bh_base::connection::Connection;
 use bh_objects::quotas::require_room;
 use bh_objects::reads::tenant_account;
 use bh_schema::trouble::or_trouble;
+use bh_shelf::shelf::Shelf;
 use bh_storage::error::{StepError, Trouble};
 use bh_types::names::TenantName;
 use bh_types::refusal::Refusal;
-use sqlite::{Alter, Connection};
+use sqlite::Alter;
 
 /// The part that a new one replaces.
 #[derive(Clone, Copy)]
@@ -26,19 +28,19 @@ struct Replaced {
 }
 
 /// The part of a number, if there is one, as far as its replacement needs it.
-fn replaced_part<S: Alter>(
-    connection: &mut Connection<S>,
+fn replaced_part<S: Alter, P: Shelf>(
+    connection: &mut Connection<S, P>,
     tenant: &TenantName,
     upload: u64,
     number: u32,
 ) -> Result<Replaced, Trouble>
-    requires inside { InTransaction S.Store connection.old }
+    requires inside { InTransaction S.Store P.Shelf connection.old }
     requires small { upload < 2 ^ 62 }
-    ensures reads { MayRead S.Store connection.old connection.new result }
-    ensures bytes { IfOk result (λ replaced. IsClean S.Store connection.new
-        → replaced.bytes ≡ part_bytes_in tenant.now upload number (tables S.Store connection.old)) }
-    ensures body { IfOk result (λ replaced. IsClean S.Store connection.new
-        → replaced.body ≡ replaced_body tenant.now upload number (tables S.Store connection.old)) }
+    ensures reads { MayRead S.Store P.Shelf connection.old connection.new result }
+    ensures bytes { IfOk result (λ replaced. IsClean S.Store P.Shelf connection.new
+        → replaced.bytes ≡ part_bytes_in tenant.now upload number (tables S.Store P.Shelf connection.old)) }
+    ensures body { IfOk result (λ replaced. IsClean S.Store P.Shelf connection.new
+        → replaced.body ≡ replaced_body tenant.now upload number (tables S.Store P.Shelf connection.old)) }
 {
     match or_trouble(find_body(connection, tenant.as_str(), upload, u64::from(number)))? {
         Some(found) => Ok(Replaced {
@@ -64,25 +66,25 @@ pub struct PartEntry {
 
 /// The entry number of a new part of `added` bytes. Refusals: QuotaExceeded, CounterExhausted. The
 /// part that it replaces doesn't count.
-pub fn part_entry<S: Alter>(
-    connection: &mut Connection<S>,
+pub fn part_entry<S: Alter, P: Shelf>(
+    connection: &mut Connection<S, P>,
     tenant: &TenantName,
     upload: u64,
     number: u32,
     added: u64,
 ) -> Result<PartEntry, StepError<Refusal>>
-    requires working { Works S.Store connection.old }
+    requires working { Works S.Store P.Shelf connection.old }
     requires upload { upload < 2 ^ 62 }
-    ensures works { WorksOn S.Store (Unless result) connection.old connection.new }
-    ensures decides { IsClean S.Store connection.new
+    ensures works { WorksOn S.Store P.Shelf (Unless result) connection.old connection.new }
+    ensures decides { IsClean S.Store P.Shelf connection.new
         → Decides (λ taken. taken.entry)
-        (part_entry_in (part_bytes_in tenant.now upload number (tables S.Store connection.old)) added
-        (view (tables S.Store connection.old) tenant.now))
-        (tables S.Store connection.old) (tables S.Store connection.new) result }
-    ensures replaced { IfOk result (λ taken. IsClean S.Store connection.new
-        → taken.replaced ≡ replaced_body tenant.now upload number (tables S.Store connection.old)) }
-    ensures bytes { IfOk result (λ taken. IsClean S.Store connection.new
-        → part_bytes_in tenant.now upload number (tables S.Store connection.old) ≡ taken.bytes) }
+        (part_entry_in (part_bytes_in tenant.now upload number (tables S.Store P.Shelf connection.old)) added
+        (view (tables S.Store P.Shelf connection.old) tenant.now))
+        (tables S.Store P.Shelf connection.old) (tables S.Store P.Shelf connection.new) result }
+    ensures replaced { IfOk result (λ taken. IsClean S.Store P.Shelf connection.new
+        → taken.replaced ≡ replaced_body tenant.now upload number (tables S.Store P.Shelf connection.old)) }
+    ensures bytes { IfOk result (λ taken. IsClean S.Store P.Shelf connection.new
+        → part_bytes_in tenant.now upload number (tables S.Store P.Shelf connection.old) ≡ taken.bytes) }
     ensures small { IfOk result (λ taken. taken.entry < 2 ^ 62) }
 {
     let replaced = replaced_part(connection, tenant, upload, number)?;

@@ -2,7 +2,7 @@ ghost use Rattle.std.specs.Prelude.{◌≡◌, ◌<◌, ◌^◌, IfOk, OnOk};
 ghost use Rattle.bh_storage.specs.Calls.{Unless, Decides};
 ghost use Rattle.bh_view.specs.View.{view};
 ghost use Rattle.bh_schema.specs.Calls.{Reads};
-ghost use Rattle.bh_schema.specs.Connections.{IsClean, tables, InTransaction};
+ghost use Rattle.bh_base.specs.Connections.{IsClean, tables, InTransaction};
 ghost use Rattle.bh_schema.specs.Working.{Works, WorksOn};
 ghost use Rattle.bh_uploads.specs.Found.{next_upload_in, is_begun_for, upload_there, upload_in};
 ghost use Rattle.bh_uploads.specs.Rows.{AreListed, upload_seen, listed_parts};
@@ -11,8 +11,10 @@ use crate::counting::given;
 use crate::rows;
 use crate::rows::parts::PartList;
 use crate::rows::uploads::UploadHead;
+use bh_base::connection::Connection;
 use bh_objects::reads::{bucket_state, next_counters};
 use bh_schema::trouble::or_trouble;
+use bh_shelf::shelf::Shelf;
 use bh_storage::error::{StepError, Trouble};
 use bh_types::bucket::BucketName;
 use bh_types::bucket_state::BucketState;
@@ -21,7 +23,7 @@ use bh_types::id::UploadId;
 use bh_types::key::ObjectKey;
 use bh_types::names::TenantName;
 use bh_types::refusal::Refusal;
-use sqlite::{Alter, Connection};
+use sqlite::Alter;
 use std::alloc::Global;
 
 /// An upload in a request.
@@ -43,15 +45,15 @@ pub struct FoundUpload {
 }
 
 /// The number of the tenant's next upload. Refusal: CounterExhausted.
-pub fn next_upload<S: Alter>(
-    connection: &mut Connection<S>,
+pub fn next_upload<S: Alter, P: Shelf>(
+    connection: &mut Connection<S, P>,
     tenant: &TenantName,
 ) -> Result<u64, StepError<Refusal>>
-    requires { Works S.Store connection.old }
-    ensures works { WorksOn S.Store (Unless result) connection.old connection.new }
-    ensures decides { IsClean S.Store connection.new
-        → Decides (λ n. n) (next_upload_in (view (tables S.Store connection.old) tenant.now))
-        (tables S.Store connection.old) (tables S.Store connection.new) result }
+    requires { Works S.Store P.Shelf connection.old }
+    ensures works { WorksOn S.Store P.Shelf (Unless result) connection.old connection.new }
+    ensures decides { IsClean S.Store P.Shelf connection.new
+        → Decides (λ n. n) (next_upload_in (view (tables S.Store P.Shelf connection.old) tenant.now))
+        (tables S.Store P.Shelf connection.old) (tables S.Store P.Shelf connection.new) result }
     ensures small { IfOk result (λ n. n < 2 ^ 62) }
 {
     let counters = next_counters(connection, tenant)?;
@@ -68,17 +70,17 @@ fn is_of(head: &UploadHead, bucket: &BucketName, key: &ObjectKey) -> bool
 
 /// Fails with NoSuchUpload unless a tenant's upload of a number is for this bucket, which must
 /// exist, and this key.
-fn require_upload<S: Alter>(
-    connection: &mut Connection<S>,
+fn require_upload<S: Alter, P: Shelf>(
+    connection: &mut Connection<S, P>,
     upload: &NamedUpload<'_>,
     number: u64,
 ) -> Result<(), StepError<Refusal>>
-    requires { Works S.Store connection.old }
-    ensures works { WorksOn S.Store (Unless result) connection.old connection.new }
-    ensures decides { IsClean S.Store connection.new
+    requires { Works S.Store P.Shelf connection.old }
+    ensures works { WorksOn S.Store P.Shelf (Unless result) connection.old connection.new }
+    ensures decides { IsClean S.Store P.Shelf connection.new
         → Decides (λ _. tt)
-        (upload_there upload.now.tenant.now upload.now.bucket.now upload.now.key.now number (tables S.Store connection.old))
-        (tables S.Store connection.old) (tables S.Store connection.new) result }
+        (upload_there upload.now.tenant.now upload.now.bucket.now upload.now.key.now number (tables S.Store P.Shelf connection.old))
+        (tables S.Store P.Shelf connection.old) (tables S.Store P.Shelf connection.new) result }
     ensures small { OnOk result (number < 2 ^ 62) }
 {
     // No counter reaches this number.
@@ -98,16 +100,17 @@ fn require_upload<S: Alter>(
 }
 
 /// The upload in a request. Refusals: NoSuchBucket, NoSuchUpload.
-pub fn found_upload<S: Alter>(
-    connection: &mut Connection<S>,
+pub fn found_upload<S: Alter, P: Shelf>(
+    connection: &mut Connection<S, P>,
     upload: &NamedUpload<'_>,
 ) -> Result<FoundUpload, StepError<Refusal>>
-    requires { Works S.Store connection.old }
-    ensures works { WorksOn S.Store (Unless result) connection.old connection.new }
-    ensures decides { IsClean S.Store connection.new
+    requires { Works S.Store P.Shelf connection.old }
+    ensures works { WorksOn S.Store P.Shelf (Unless result) connection.old connection.new }
+    ensures decides { IsClean S.Store P.Shelf connection.new
         → Decides (λ found. (found.mode, found.number))
-        (upload_in upload.now.bucket.now upload.now.key.now upload.now.upload (view (tables S.Store connection.old) upload.now.tenant.now))
-        (tables S.Store connection.old) (tables S.Store connection.new) result }
+        (upload_in upload.now.bucket.now upload.now.key.now upload.now.upload (view
+        (tables S.Store P.Shelf connection.old) upload.now.tenant.now))
+        (tables S.Store P.Shelf connection.old) (tables S.Store P.Shelf connection.new) result }
     ensures small { IfOk result (λ found. found.number < 2 ^ 62) }
 {
     let mode = bucket_state(connection, upload.tenant, upload.bucket)?;
@@ -122,17 +125,17 @@ pub fn found_upload<S: Alter>(
 }
 
 /// The parts of an upload, in the order of their numbers.
-pub fn upload_parts<S: Alter>(
-    connection: &mut Connection<S>,
+pub fn upload_parts<S: Alter, P: Shelf>(
+    connection: &mut Connection<S, P>,
     alloc: Global,
     tenant: &TenantName,
     number: u64,
 ) -> Result<PartList, Trouble>
-    requires inside { InTransaction S.Store connection.old }
+    requires inside { InTransaction S.Store P.Shelf connection.old }
     requires small { number < 2 ^ 62 }
-    ensures reads { Reads S.Store connection.old connection.new result }
-    ensures parts { IfOk result (λ list. IsClean S.Store connection.new
-        → AreListed list (listed_parts tenant.now number (tables S.Store connection.old))) }
+    ensures reads { Reads S.Store P.Shelf connection.old connection.new result }
+    ensures parts { IfOk result (λ list. IsClean S.Store P.Shelf connection.new
+        → AreListed list (listed_parts tenant.now number (tables S.Store P.Shelf connection.old))) }
 {
     or_trouble(rows::parts::part_list(connection, alloc, tenant.as_str(), number))
 }

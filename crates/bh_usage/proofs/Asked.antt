@@ -9,7 +9,7 @@ use Rattle.bh_view.specs.Blocks.{AreDigests}
 use Rattle.bh_view.specs.Bodies.{HasBodies}
 use Rattle.bh_view.specs.Sound.{IsSound}
 use Rattle.bh_view.specs.View.{limits_in}
-use Rattle.bh_schema.specs.Layer.{Standing, standing, IsIntact, IsStateClean, IsInside, StateWithin}
+use Rattle.bh_base.specs.Layer.{Standing, standing, IsIntact, IsStateClean, IsInside, StateWithin}
 use Rattle.bh_schema.specs.Working.{tables_at, IsWorking, StillWorking}
 
 still_working : (old new : State) → standing new ≡ standing old → IsWorking old → StillWorking old new

@@ -1,6 +1,8 @@
 //! Packs over files in memory: prints what each call returns.
 #![tactic(auto)]
 
+mod shelves;
+
 use bh_packs::folder::InMemory;
 use bh_packs::packs::Packs;
 use bh_packs::place::{Bounds, Lane, Large, Place};
@@ -42,7 +44,8 @@ fn main(rt: HostRuntime) -> io::Result<()> {
     read_all(&rt, &mut shelf, &fruits)?;
     hold(&rt, &mut shelf)?;
     damage(&rt, &mut shelf)?;
-    read_all(&rt, &mut shelf, &fruits)
+    read_all(&rt, &mut shelf, &fruits)?;
+    shelves::show(&rt, rt.alloc(), BOUNDS)
 }
 
 /// Small bodies share packs while they fit, and a large one has its own.
@@ -143,7 +146,7 @@ fn damage(rt: &impl Runtime, shelf: &mut Shelf) -> io::Result<()> {
     println!(rt; "a bit is flipped")
 }
 
-fn word_of(trouble: &Trouble) -> &'static str {
+pub(crate) fn word_of(trouble: &Trouble) -> &'static str {
     match trouble {
         Trouble::Missing => "missing",
         Trouble::Taken => "taken",

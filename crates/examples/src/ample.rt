@@ -6,6 +6,7 @@ ghost use Rattle.bh_storage.specs.Calls.{Clean, IsAtRest};
 use crate::digest_runs::{answers, settings};
 use crate::dump::rows_of;
 use crate::ends::WHOLE;
+use crate::joined::without_packs;
 use crate::series::{Count, is_told, tell};
 use crate::served::{Passed, Sent, serve};
 use bh_blocks::digester::Sha256Digester;
@@ -155,7 +156,7 @@ fn all_alike<H: Storage>(
 /// rows of its tables then.
 fn served(alloc: Global, events: &[Event], told: &[Told]) -> Result<(Count, String), Fault> {
     let routes = Routes::new(alloc)?;
-    let connection = Connection::open_in_memory(alloc)?;
+    let connection = without_packs(Connection::open_in_memory(alloc)?);
     let (limits, tuning) = settings().ok_or(Fault::Form)?;
     match create(
         connection,
@@ -167,7 +168,7 @@ fn served(alloc: Global, events: &[Event], told: &[Told]) -> Result<(Count, Stri
         Ok(host) => {
             let mut storage = HostStorage { host };
             let count = all_alike(alloc, &routes, &mut storage, events, told);
-            let rows = rows_of(alloc, &mut storage.host.connection)?;
+            let rows = rows_of(alloc, &mut storage.host.connection.database)?;
             Ok((count, rows))
         }
         Err(_) => Err(Fault::Memory),

@@ -6,6 +6,7 @@ ghost use Rattle.bh_storage.specs.Calls.{Clean, IsAtRest};
 use crate::digest_runs::settings;
 use crate::dump::{rows_after, rows_of};
 use crate::ends::{Cut, WHOLE};
+use crate::joined::without_packs;
 use crate::series::{Count, events_of, tell};
 use crate::served::{Passed, Sent, serve};
 use bh_blocks::digester::Sha256Digester;
@@ -53,7 +54,7 @@ fn pass<H: Storage>(
 /// A request's connection to a new host after the earlier events.
 fn ending_of(alloc: Global, turn: Turn<'_>, cut: Cut) -> Result<Ending, Fault> {
     let routes = Routes::new(alloc)?;
-    let connection = Connection::open_in_memory(alloc)?;
+    let connection = without_packs(Connection::open_in_memory(alloc)?);
     let Some((limits, tuning)) = settings() else {
         return Err(Fault::Form);
     };
@@ -67,7 +68,7 @@ fn ending_of(alloc: Global, turn: Turn<'_>, cut: Cut) -> Result<Ending, Fault> {
         Ok(host) => {
             let mut storage = HostStorage { host };
             let passed = pass(alloc, &routes, &mut storage, turn, cut)?;
-            let rows = rows_of(alloc, &mut storage.host.connection)?;
+            let rows = rows_of(alloc, &mut storage.host.connection.database)?;
             Ok(Ending { passed, rows })
         }
         Err(_) => Err(Fault::Memory),

@@ -5,6 +5,7 @@ ghost use Rattle.bh_storage.specs.Calls.{Clean, IsAtRest};
 ghost use Rattle.bh_connection.specs.Each.{IsGoing};
 
 use crate::ends::{Last, Narrow, cut_of, reader};
+use crate::joined::without_packs;
 use crate::series::events_in;
 use bh_blocks::digester::Sha256Digester;
 use bh_connection::{Arrival, End, Served, serve_each};
@@ -162,7 +163,7 @@ fn stored(rt: &(impl Files + AllocGlobal), name: &str, ending: &str) -> io::Resu
 
 fn answered(alloc: Global, events: &[Event], cuts: &str) -> io::Result<Vec<u8>> {
     let routes = Routes::new(alloc)?;
-    let connection = Connection::open_in_memory(alloc)?;
+    let connection = without_packs(Connection::open_in_memory(alloc)?);
     match create(
         connection,
         Sha256Digester,

@@ -2,6 +2,7 @@
 //! reports, which count blocks with another one's digest.
 
 use crate::digesters::{Constant, Parity};
+use crate::joined::without_packs;
 use crate::series::events_of;
 use bh_blocks::digester::{FastDigester, Sha256Digester};
 use bh_create::create;
@@ -50,7 +51,7 @@ pub fn answers<D: Digester + Drop>(
     events: &[Event],
 ) -> Result<Option<Answered>, Trouble> {
     let routes = Routes::new(alloc)?;
-    let connection = Connection::open_in_memory(alloc)?;
+    let connection = without_packs(Connection::open_in_memory(alloc)?);
     let Some((limits, tuning)) = settings_keeping(cache_blocks) else {
         return Ok(None);
     };
@@ -64,7 +65,7 @@ pub fn answers<D: Digester + Drop>(
     Ok(Some(Answered {
         dones,
         cached,
-        connection: storage.host.into_connection(),
+        connection: storage.host.into_connection().database,
     }))
 }
 

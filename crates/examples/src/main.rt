@@ -10,6 +10,7 @@ mod digesters;
 mod disks;
 mod dump;
 mod ends;
+mod joined;
 mod reopened;
 mod retried;
 mod series;

@@ -4,6 +4,7 @@
 use crate::digest_runs::settings;
 use crate::disks::{memory, options};
 use crate::dump::rows_of;
+use crate::joined::without_packs;
 use crate::series::{Count, events_of, tell};
 use crate::stops::{Expected, answered, expect, is_at};
 use bh_again::stop_and_open_host;
@@ -44,6 +45,7 @@ fn reopen<D: Crash + Drop>(
 ) -> Result<Opened<FileStore<D>>, Fault> {
     let (limits, tuning) = settings().ok_or(Fault::Form)?;
     let digest = BlockDigest::Sha256;
+    let connection = without_packs(connection);
     let Ok(host) = create(connection, Sha256Digester, digest, limits, tuning) else {
         return Err(Fault::Memory);
     };

@@ -6,6 +6,7 @@
 
 ghost use Rattle.bh_storage.specs.Calls.{Clean, IsAtRest};
 
+use crate::joined::without_packs;
 use crate::series::events_in;
 use bh_blocks::digester::Sha256Digester;
 use bh_create::create;
@@ -61,7 +62,7 @@ pub fn retry(rt: &(impl Input + Print + AllocGlobal)) -> io::Result<bool> {
     };
     let events = events_in(alloc, bytes.as_slice())?;
     let routes = Routes::new(alloc)?;
-    let connection = Connection::open_in_memory(alloc)?;
+    let connection = without_packs(Connection::open_in_memory(alloc)?);
     match create(
         connection,
         Sha256Digester,

@@ -7,6 +7,7 @@ ghost use Rattle.bh_storage.specs.Calls.{Clean, IsAtRest};
 use crate::digest_runs::{answers, settings};
 use crate::disks::{Fused, fuse, images, is_blown, memory, options};
 use crate::dump::{rows_after, rows_of};
+use crate::joined::without_packs;
 use crate::series::{Count, events_of, is_told, tell};
 use bh_blocks::digester::Sha256Digester;
 use bh_create::create;
@@ -94,14 +95,18 @@ fn run_on<S: Alter + Drop>(
     let routes = Routes::new(alloc)?;
     let (limits, tuning) = settings().ok_or(Fault::Form)?;
     let digest = BlockDigest::Sha256;
+    let connection = without_packs(connection);
     match create(connection, Sha256Digester, digest, limits, tuning) {
         Ok(host) => {
             let mut storage = HostStorage { host };
             let answers = expected.answers.as_slice();
             let count = answered(alloc, &routes, &mut storage, expected.events, answers)?;
-            Ok((Some(count), storage.host.into_connection().into_store()))
+            Ok((
+                Some(count),
+                storage.host.into_connection().database.into_store(),
+            ))
         }
-        Err(error) => Ok((None, error.connection.into_store())),
+        Err(error) => Ok((None, error.connection.database.into_store())),
     }
 }
 

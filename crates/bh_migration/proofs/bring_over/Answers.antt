@@ -1,7 +1,6 @@
 use Rattle.sqlite.specs.Held.{state}
-use Rattle.bh_schema.specs.Layer.{standing}
-use Rattle.bh_schema.proofs.Storing.{left_kept}
-use Rattle.bh_migration.proofs.Stages.{shows_same}
+use Rattle.bh_base.specs.Layer.{standing}
+use Rattle.bh_migration.proofs.Stages.{left_kept, shows_same}
 use Rattle.bh_migration.proofs.bring_over.Goals as goal
 
 pub returns-in-Ok-clause-left : goal.returns-in-Ok-clause-left

@@ -1,7 +1,7 @@
 use Rattle.std.proofs.Common.{ap, sym, subst, ◌∙◌}
 use Rattle.sqlite.specs.Held.{state}
 use Rattle.bh_rows.specs.Means.{is_trouble}
-use Rattle.bh_schema.specs.Layer.{Standing}
+use Rattle.bh_base.specs.Layer.{Standing}
 use Rattle.bh_schema.proofs.Finds.{handed_on}
 use Rattle.bh_migration.specs.Migration.{IsEarlierHost}
 use Rattle.bh_migration.proofs.Stages.{may_leave}

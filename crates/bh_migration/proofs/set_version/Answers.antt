@@ -1,5 +1,5 @@
 use Rattle.sqlite.specs.Held.{state}
-use Rattle.bh_schema.proofs.Calls.{changes_within, changes_opens}
+use Rattle.bh_base.proofs.Calls.{changes_within, changes_opens}
 use Rattle.bh_migration.proofs.Stages.{version_changes, version_keeps, version_holds, version_trouble}
 use Rattle.bh_migration.proofs.set_version.Goals as goal
 

@@ -1,7 +1,7 @@
 use Rattle.std.proofs.Common.{subst}
 use Rattle.std.proofs.lemmas.Result.{on_ok_weaker}
 use Rattle.sqlite.specs.Held.{state}
-use Rattle.bh_schema.specs.Layer.{standing}
+use Rattle.bh_base.specs.Layer.{standing}
 use Rattle.bh_migration.specs.Migration.{HoldsUntallied}
 use Rattle.bh_migration.proofs.tally.Goals as goal
 

@@ -2,11 +2,13 @@
 
 ghost use Rattle.std.specs.Prelude.{◌≡◌, IfOk, IfErr};
 ghost use Rattle.bh_schema.specs.Calls.{Reads};
-ghost use Rattle.bh_schema.specs.Connections.{IsClean, tables, InTransaction, IsTrouble};
+ghost use Rattle.bh_base.specs.Connections.{IsClean, tables, InTransaction, IsTrouble};
 ghost use Rattle.bh_schema.specs.Contents.{has_content, IsTextOf};
 
+use bh_base::connection::Connection;
+use bh_shelf::shelf::Shelf;
 use sqlite::types::ToSql;
-use sqlite::{Alter, Connection, Error};
+use sqlite::{Alter, Error};
 
 /// The kinds of a bucket's contents.
 #[derive(Clone, Copy)]
@@ -35,18 +37,20 @@ impl Content {
 }
 
 /// Whether a tenant's bucket of this name has such contents.
-pub fn bucket_has<S: Alter>(
-    connection: &mut Connection<S>,
+pub fn bucket_has<S: Alter, P: Shelf>(
+    connection: &mut Connection<S, P>,
     tenant: &str,
     bucket: &str,
     content: Content,
 ) -> Result<bool, Error>
-    requires inside { InTransaction S.Store connection.old }
-    ensures reads { Reads S.Store connection.old connection.new result }
-    ensures found { IfOk result (λ found. IsClean S.Store connection.new
-        → found ≡ has_content content tenant.now bucket.now (tables S.Store connection.old)) }
-    ensures trouble { IfErr result (IsTrouble S.Store connection.old connection.new) }
+    requires inside { InTransaction S.Store P.Shelf connection.old }
+    ensures reads { Reads S.Store P.Shelf connection.old connection.new result }
+    ensures found { IfOk result (λ found. IsClean S.Store P.Shelf connection.new
+        → found ≡ has_content content tenant.now bucket.now (tables S.Store P.Shelf connection.old)) }
+    ensures trouble { IfErr result (IsTrouble S.Store P.Shelf connection.old connection.new) }
 {
-    let rows = connection.query_all(content.text(), &[tenant.to_sql(), bucket.to_sql()])?;
+    let rows = connection
+        .database
+        .query_all(content.text(), &[tenant.to_sql(), bucket.to_sql()])?;
     Ok(!rows.is_empty())
 }

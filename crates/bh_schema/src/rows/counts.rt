@@ -4,11 +4,13 @@ ghost use Rattle.std.specs.Prelude.{◌≡◌, ◌∷◌, [], ℕ, ◌<◌, ◌^
 ghost use Rattle.bh_rows.specs.Means.{is_trouble};
 ghost use Rattle.bh_tables.specs.Typed.{number as stored};
 ghost use Rattle.bh_schema.specs.Calls.{Reads};
-ghost use Rattle.bh_schema.specs.Connections.{IsClean, tables, InTransaction, IsTroubleIf};
+ghost use Rattle.bh_base.specs.Connections.{IsClean, tables, InTransaction, IsTroubleIf};
 ghost use Rattle.bh_schema.specs.Counted.{how_many, IsTextOf};
 
+use bh_base::connection::Connection;
+use bh_shelf::shelf::Shelf;
 use sqlite::types::ToSql;
-use sqlite::{Alter, Connection, Error, Row};
+use sqlite::{Alter, Error, Row};
 
 /// The one number in a sum's result.
 pub fn read_total(rows: &[Row]) -> Result<u64, Error>
@@ -48,17 +50,20 @@ impl TenantSum {
 }
 
 /// A count or a sum over a tenant's rows. The store refuses a sum of 2^63 or more.
-pub fn tenant_sum<S: Alter>(
-    connection: &mut Connection<S>,
+pub fn tenant_sum<S: Alter, P: Shelf>(
+    connection: &mut Connection<S, P>,
     tenant: &str,
     sum: TenantSum,
 ) -> Result<u64, Error>
-    requires inside { InTransaction S.Store connection.old }
-    ensures reads { Reads S.Store connection.old connection.new result }
-    ensures total { IfOk result (λ n. IsClean S.Store connection.new → n ≡ how_many sum tenant.now (tables S.Store connection.old)) }
-    ensures trouble { IfErr result (IsTroubleIf S.Store connection.old connection.new
-        (how_many sum tenant.now (tables S.Store connection.old) < 2 ^ 63)) }
+    requires inside { InTransaction S.Store P.Shelf connection.old }
+    ensures reads { Reads S.Store P.Shelf connection.old connection.new result }
+    ensures total { IfOk result (λ n. IsClean S.Store P.Shelf connection.new
+        → n ≡ how_many sum tenant.now (tables S.Store P.Shelf connection.old)) }
+    ensures trouble { IfErr result (IsTroubleIf S.Store P.Shelf connection.old connection.new
+        (how_many sum tenant.now (tables S.Store P.Shelf connection.old) < 2 ^ 63)) }
 {
-    let rows = connection.query_all(sum.text(), &[tenant.to_sql()])?;
+    let rows = connection
+        .database
+        .query_all(sum.text(), &[tenant.to_sql()])?;
     read_total(&rows)
 }

@@ -4,34 +4,39 @@
 ghost use Rattle.std.specs.Prelude.{◌≡◌, ◌+◌, ◌≤◌, ◌^◌, [], true, Some, IfOk, IfErr, OnOk};
 ghost use Rattle.bh_rows.specs.Means.{is_trouble};
 ghost use Rattle.bh_schema.specs.Calls.{Reads, WritesOn};
-ghost use Rattle.bh_schema.specs.Connections.{IsClean, stands, tables, InTransaction, InMidst, Rewrites, IsTrouble, IsTroubleIf};
+ghost use Rattle.bh_base.specs.Connections.{IsClean, stands, tables, InTransaction, InMidst, Rewrites, IsTrouble, IsTroubleIf};
 ghost use Rattle.bh_schema.specs.Garbage.{garbage_in, weight_added, weight_set, Reweighs};
-ghost use Rattle.bh_schema.specs.Layer.{IsInsideBy};
+ghost use Rattle.bh_base.specs.Layer.{IsInsideBy};
 ghost use Rattle.bh_tables.specs.Typed.{Totals};
 
 use crate::rows::number::number;
 use crate::rows::reading::first_of;
 use crate::rows::writing::write;
-use sqlite::{Alter, Connection, Error, ErrorCode};
+use bh_base::connection::Connection;
+use bh_shelf::shelf::Shelf;
+use sqlite::{Alter, Error, ErrorCode};
 
 /// The number, if it has a row. Only that is read.
-fn find_garbage<S: Alter>(connection: &mut Connection<S>) -> Result<Option<u64>, Error>
-    requires inside { InTransaction S.Store connection.old }
-    ensures reads { Reads S.Store connection.old connection.new result }
-    ensures found { IfOk result (λ found. IsClean S.Store connection.new
-        → found ≡ Some (garbage_in (tables S.Store connection.old))) }
-    ensures trouble { IfErr result (IsTrouble S.Store connection.old connection.new) }
+fn find_garbage<S: Alter, P: Shelf>(connection: &mut Connection<S, P>) -> Result<Option<u64>, Error>
+    requires inside { InTransaction S.Store P.Shelf connection.old }
+    ensures reads { Reads S.Store P.Shelf connection.old connection.new result }
+    ensures found { IfOk result (λ found. IsClean S.Store P.Shelf connection.new
+        → found ≡ Some (garbage_in (tables S.Store P.Shelf connection.old))) }
+    ensures trouble { IfErr result (IsTrouble S.Store P.Shelf connection.old connection.new) }
 {
-    let rows = connection.query_all("SELECT bytes FROM unneeded ORDER BY rowid", &[])?;
+    let rows = connection
+        .database
+        .query_all("SELECT bytes FROM unneeded ORDER BY rowid", &[])?;
     first_of(&rows)
 }
 
 /// How many bytes the blocks have that no reference names. Only one row is read.
-pub fn garbage_bytes<S: Alter>(connection: &mut Connection<S>) -> Result<u64, Error>
-    requires inside { InTransaction S.Store connection.old }
-    ensures reads { Reads S.Store connection.old connection.new result }
-    ensures is { IfOk result (λ bytes. IsClean S.Store connection.new → bytes ≡ garbage_in (tables S.Store connection.old)) }
-    ensures trouble { IfErr result (IsTrouble S.Store connection.old connection.new) }
+pub fn garbage_bytes<S: Alter, P: Shelf>(connection: &mut Connection<S, P>) -> Result<u64, Error>
+    requires inside { InTransaction S.Store P.Shelf connection.old }
+    ensures reads { Reads S.Store P.Shelf connection.old connection.new result }
+    ensures is { IfOk result (λ bytes. IsClean S.Store P.Shelf connection.new
+        → bytes ≡ garbage_in (tables S.Store P.Shelf connection.old)) }
+    ensures trouble { IfErr result (IsTrouble S.Store P.Shelf connection.old connection.new) }
 {
     match find_garbage(connection)? {
         Some(bytes) => Ok(bytes),
@@ -40,31 +45,37 @@ pub fn garbage_bytes<S: Alter>(connection: &mut Connection<S>) -> Result<u64, Er
 }
 
 /// Adds the row of the number, as one step of a write.
-pub fn insert_garbage<S: Alter>(connection: &mut Connection<S>, bytes: u64) -> Result<usize, Error>
-    requires midst { InMidst S.Store connection.old }
+pub fn insert_garbage<S: Alter, P: Shelf>(
+    connection: &mut Connection<S, P>,
+    bytes: u64,
+) -> Result<usize, Error>
+    requires midst { InMidst S.Store P.Shelf connection.old }
     requires small { bytes ≤ 2 ^ 62 }
-    ensures writes { WritesOn S.Store connection.old connection.new result }
-    ensures rewrites { OnOk result (Rewrites S.Store connection.old connection.new (weight_added bytes) (λ rows. rows)) }
-    ensures trouble { IfErr result (IsTroubleIf S.Store connection.old connection.new (IsClean S.Store connection.old
-        → (sums : Totals) → IsInsideBy sums (stands S.Store connection.old) → sums.garbage ≡ [])) }
+    ensures writes { WritesOn S.Store P.Shelf connection.old connection.new result }
+    ensures rewrites { OnOk result (Rewrites S.Store P.Shelf connection.old connection.new (weight_added bytes) (λ rows. rows)) }
+    ensures trouble { IfErr result (IsTroubleIf S.Store P.Shelf connection.old connection.new (IsClean S.Store P.Shelf connection.old
+        → (sums : Totals) → IsInsideBy sums (stands S.Store P.Shelf connection.old) → sums.garbage ≡ [])) }
 {
     write(
-        connection,
+        &mut connection.database,
         "INSERT INTO unneeded (bytes) VALUES (?1)",
         &[number(bytes)],
     )
 }
 
 /// Sets the number, as one step of a write.
-fn set_garbage<S: Alter>(connection: &mut Connection<S>, bytes: u64) -> Result<usize, Error>
-    requires midst { InMidst S.Store connection.old }
+fn set_garbage<S: Alter, P: Shelf>(
+    connection: &mut Connection<S, P>,
+    bytes: u64,
+) -> Result<usize, Error>
+    requires midst { InMidst S.Store P.Shelf connection.old }
     requires small { bytes ≤ 2 ^ 62 }
-    ensures writes { WritesOn S.Store connection.old connection.new result }
-    ensures rewrites { OnOk result (Rewrites S.Store connection.old connection.new (weight_set bytes) (λ rows. rows)) }
-    ensures trouble { IfErr result (IsTrouble S.Store connection.old connection.new) }
+    ensures writes { WritesOn S.Store P.Shelf connection.old connection.new result }
+    ensures rewrites { OnOk result (Rewrites S.Store P.Shelf connection.old connection.new (weight_set bytes) (λ rows. rows)) }
+    ensures trouble { IfErr result (IsTrouble S.Store P.Shelf connection.old connection.new) }
 {
     write(
-        connection,
+        &mut connection.database,
         "UPDATE unneeded SET bytes = ?1",
         &[number(bytes)],
     )
@@ -90,16 +101,16 @@ fn reweighed(n: u64, more: u64, less: u64) -> Result<u64, Error>
 
 /// Sets the number, which was `before`, for blocks of `more` bytes that lost their last use and of
 /// `less` bytes that got a use or went: as one step of a write.
-pub fn reweigh<S: Alter>(
-    connection: &mut Connection<S>,
+pub fn reweigh<S: Alter, P: Shelf>(
+    connection: &mut Connection<S, P>,
     before: u64,
     more: u64,
     less: u64,
 ) -> Result<(), Error>
-    requires midst { InMidst S.Store connection.old }
-    ensures writes { WritesOn S.Store connection.old connection.new result }
-    ensures rewrites { OnOk result (Reweighs S.Store connection.old connection.new before more less) }
-    ensures trouble { IfErr result (IsTrouble S.Store connection.old connection.new) }
+    requires midst { InMidst S.Store P.Shelf connection.old }
+    ensures writes { WritesOn S.Store P.Shelf connection.old connection.new result }
+    ensures rewrites { OnOk result (Reweighs S.Store P.Shelf connection.old connection.new before more less) }
+    ensures trouble { IfErr result (IsTrouble S.Store P.Shelf connection.old connection.new) }
 {
     let bytes = reweighed(before, more, less)?;
     set_garbage(connection, bytes)?;

@@ -2,12 +2,14 @@
 
 ghost use Rattle.std.specs.Prelude.{IfErr, OnOk};
 ghost use Rattle.bh_schema.specs.Calls.{Writes};
-ghost use Rattle.bh_schema.specs.Connections.{InTransaction, Becomes, IsTrouble};
+ghost use Rattle.bh_base.specs.Connections.{InTransaction, Becomes, IsTrouble};
 ghost use Rattle.bh_schema.specs.Named.{without_named, IsTextOf};
 
 use crate::rows::writing::write;
+use bh_base::connection::Connection;
+use bh_shelf::shelf::Shelf;
 use sqlite::types::ToSql;
-use sqlite::{Alter, Connection, Error};
+use sqlite::{Alter, Error};
 
 /// Such a row.
 #[derive(Clone, Copy)]
@@ -30,16 +32,20 @@ impl Named {
 }
 
 /// Deletes such a row of a tenant, if there is one.
-pub fn delete_named<S: Alter>(
-    connection: &mut Connection<S>,
+pub fn delete_named<S: Alter, P: Shelf>(
+    connection: &mut Connection<S, P>,
     tenant: &str,
     name: &str,
     row: Named,
 ) -> Result<usize, Error>
-    requires inside { InTransaction S.Store connection.old }
-    ensures writes { Writes S.Store connection.old connection.new result }
-    ensures holds { OnOk result (Becomes S.Store connection.old connection.new (without_named row tenant.now name.now)) }
-    ensures trouble { IfErr result (IsTrouble S.Store connection.old connection.new) }
+    requires inside { InTransaction S.Store P.Shelf connection.old }
+    ensures writes { Writes S.Store P.Shelf connection.old connection.new result }
+    ensures holds { OnOk result (Becomes S.Store P.Shelf connection.old connection.new (without_named row tenant.now name.now)) }
+    ensures trouble { IfErr result (IsTrouble S.Store P.Shelf connection.old connection.new) }
 {
-    write(connection, row.text(), &[tenant.to_sql(), name.to_sql()])
+    write(
+        &mut connection.database,
+        row.text(),
+        &[tenant.to_sql(), name.to_sql()],
+    )
 }

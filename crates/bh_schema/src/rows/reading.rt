@@ -7,10 +7,12 @@ ghost use Rattle.bh_rows.specs.Means.{is_trouble};
 ghost use Rattle.bh_tables.specs.Schema.{Octets};
 ghost use Rattle.bh_tables.specs.Typed.{Tables};
 ghost use Rattle.bh_schema.specs.Calls.{Reads};
-ghost use Rattle.bh_schema.specs.Connections.{IsClean, tables, InTransaction, IsTrouble, IsTroubleIf};
+ghost use Rattle.bh_base.specs.Connections.{IsClean, tables, InTransaction, IsTrouble, IsTroubleIf};
 ghost use Rattle.bh_schema.specs.Reading.{Reading, lone_number, lone_text};
 
-use sqlite::{Alter, Connection, Error, Row};
+use bh_base::connection::Connection;
+use bh_shelf::shelf::Shelf;
+use sqlite::{Alter, Error, Row};
 use std::alloc::Global;
 
 /// A value that is read from a row.
@@ -48,12 +50,15 @@ pub trait Listed: FromRow {
     ghost listed: { Octets → Tables → List Shown };
 
     /// A tenant's values.
-    fn rows<S: Alter>(connection: &mut Connection<S>, tenant: &str) -> Result<Vec<Row>, Error>
-        requires inside { InTransaction S.Store connection.old }
-        ensures reads { Reads S.Store connection.old connection.new result }
-        ensures rows { IfOk result (λ rows. IsClean S.Store connection.new
-            → rows.items ≡ listed tenant.now (tables S.Store connection.old)) }
-        ensures trouble { IfErr result (IsTrouble S.Store connection.old connection.new) };
+    fn rows<S: Alter, P: Shelf>(
+        connection: &mut Connection<S, P>,
+        tenant: &str,
+    ) -> Result<Vec<Row>, Error>
+        requires inside { InTransaction S.Store P.Shelf connection.old }
+        ensures reads { Reads S.Store P.Shelf connection.old connection.new result }
+        ensures rows { IfOk result (λ rows. IsClean S.Store P.Shelf connection.new
+            → rows.items ≡ listed tenant.now (tables S.Store P.Shelf connection.old)) }
+        ensures trouble { IfErr result (IsTrouble S.Store P.Shelf connection.old connection.new) };
 }
 
 /// The value of the first row, if there is a row.
@@ -84,18 +89,18 @@ pub fn all_of<R: FromRow + Drop>(alloc: Global, rows: &[Row]) -> Result<Vec<R>, 
 }
 
 /// A tenant's list of such values.
-pub fn list_of<S: Alter, R: Listed + Drop>(
-    connection: &mut Connection<S>,
+pub fn list_of<S: Alter, P: Shelf, R: Listed + Drop>(
+    connection: &mut Connection<S, P>,
     alloc: Global,
     tenant: &str,
 ) -> Result<Vec<R>, Error>
-    requires inside { InTransaction S.Store connection.old }
-    ensures reads { Reads S.Store connection.old connection.new result }
-    ensures listed { IfOk result (λ values. IsClean S.Store connection.new
-        → (ts : List (R.reading).Typed) → R.listed tenant.now (tables S.Store connection.old) ≡ map (R.reading).shown ts
+    requires inside { InTransaction S.Store P.Shelf connection.old }
+    ensures reads { Reads S.Store P.Shelf connection.old connection.new result }
+    ensures listed { IfOk result (λ values. IsClean S.Store P.Shelf connection.new
+        → (ts : List (R.reading).Typed) → R.listed tenant.now (tables S.Store P.Shelf connection.old) ≡ map (R.reading).shown ts
         → map (R.reading).meaning values.items ≡ map (R.reading).told ts) }
-    ensures trouble { IfErr result (IsTroubleIf S.Store connection.old connection.new
-        ((ts : List (R.reading).Typed) × (R.listed tenant.now (tables S.Store connection.old) ≡ map (R.reading).shown ts)
+    ensures trouble { IfErr result (IsTroubleIf S.Store P.Shelf connection.old connection.new
+        ((ts : List (R.reading).Typed) × (R.listed tenant.now (tables S.Store P.Shelf connection.old) ≡ map (R.reading).shown ts)
         × AllByRecursion (R.reading).IsReadable ts)) }
 {
     let rows = R::rows(connection, tenant)?;

@@ -2,15 +2,17 @@ ghost use Rattle.std.specs.Prelude.{Option, Some, None, map, IfErr, OnOk};
 ghost use Rattle.sqlite_keyed.specs.Lists.{update_where};
 ghost use Rattle.bh_tables.specs.Shown.{is_bucket, shown_rule};
 ghost use Rattle.bh_schema.specs.Calls.{Writes};
-ghost use Rattle.bh_schema.specs.Connections.{tables, InTransaction, Becomes, IsTrouble};
+ghost use Rattle.bh_base.specs.Connections.{tables, InTransaction, Becomes, IsTrouble};
 ghost use Rattle.bh_schema.specs.Rows.{listed_rules};
 ghost use Rattle.bh_schema.specs.Views.{rule_reading};
 
 use crate::rows::number::number;
 use crate::rows::reading::{FromRow, Listed};
 use crate::rows::writing::write;
+use bh_base::connection::Connection;
+use bh_shelf::shelf::Shelf;
 use sqlite::types::ToSql;
-use sqlite::{Alter, Connection, Error, Row};
+use sqlite::{Alter, Error, Row};
 
 /// A bucket's rule for unfinished uploads.
 #[derive(Drop)]
@@ -33,42 +35,42 @@ impl FromRow for BucketRule {
 
 /// Sets the rule of a tenant's bucket of this name, if there is one: uploads become stale after
 /// `days` days.
-pub fn set_days<S: Alter>(
-    connection: &mut Connection<S>,
+pub fn set_days<S: Alter, P: Shelf>(
+    connection: &mut Connection<S, P>,
     tenant: &str,
     bucket: &str,
     days: u16,
 ) -> Result<usize, Error>
-    requires inside { InTransaction S.Store connection.old }
-    ensures writes { Writes S.Store connection.old connection.new result }
-    ensures holds { OnOk result (Becomes S.Store connection.old connection.new
+    requires inside { InTransaction S.Store P.Shelf connection.old }
+    ensures writes { Writes S.Store P.Shelf connection.old connection.new result }
+    ensures holds { OnOk result (Becomes S.Store P.Shelf connection.old connection.new
         (λ rows. record rows {
           buckets = update_where (is_bucket tenant.now bucket.now)
               (λ b. record b { days = Some days }) rows.buckets;
         })) }
-    ensures trouble { IfErr result (IsTrouble S.Store connection.old connection.new) }
+    ensures trouble { IfErr result (IsTrouble S.Store P.Shelf connection.old connection.new) }
 {
     write(
-        connection,
+        &mut connection.database,
         "UPDATE buckets SET days = ?3 WHERE tenant = ?1 AND bucket = ?2",
         &[tenant.to_sql(), bucket.to_sql(), number(u64::from(days))],
     )
 }
 
 /// Deletes the rule of a tenant's bucket of this name, if there is one.
-pub fn clear_days<S: Alter>(
-    connection: &mut Connection<S>,
+pub fn clear_days<S: Alter, P: Shelf>(
+    connection: &mut Connection<S, P>,
     tenant: &str,
     bucket: &str,
 ) -> Result<usize, Error>
-    requires inside { InTransaction S.Store connection.old }
-    ensures writes { Writes S.Store connection.old connection.new result }
-    ensures holds { OnOk result (Becomes S.Store connection.old connection.new
+    requires inside { InTransaction S.Store P.Shelf connection.old }
+    ensures writes { Writes S.Store P.Shelf connection.old connection.new result }
+    ensures holds { OnOk result (Becomes S.Store P.Shelf connection.old connection.new
         (λ rows. record rows { buckets = update_where (is_bucket tenant.now bucket.now) (λ b. record b { days = None }) rows.buckets })) }
-    ensures trouble { IfErr result (IsTrouble S.Store connection.old connection.new) }
+    ensures trouble { IfErr result (IsTrouble S.Store P.Shelf connection.old connection.new) }
 {
     write(
-        connection,
+        &mut connection.database,
         "UPDATE buckets SET days = NULL WHERE tenant = ?1 AND bucket = ?2",
         &[tenant.to_sql(), bucket.to_sql()],
     )
@@ -78,8 +80,11 @@ pub fn clear_days<S: Alter>(
 impl Listed for BucketRule {
     ghost listed = { λ tenant tables. map shown_rule (listed_rules tenant tables) };
 
-    fn rows<S: Alter>(connection: &mut Connection<S>, tenant: &str) -> Result<Vec<Row>, Error> {
-        connection.query_all(
+    fn rows<S: Alter, P: Shelf>(
+        connection: &mut Connection<S, P>,
+        tenant: &str,
+    ) -> Result<Vec<Row>, Error> {
+        connection.database.query_all(
             "SELECT bucket, days FROM buckets WHERE tenant = ?1 AND days >= 0 ORDER BY bucket, rowid",
             &[tenant.to_sql()],
         )

@@ -8,15 +8,17 @@ ghost use Rattle.bh_rows.specs.Means.{is_trouble};
 ghost use Rattle.bh_tables.specs.Typed.{Totals, tally, is_tally, set_to, tallied};
 ghost use Rattle.bh_tables.specs.Shown.{is_tenant};
 ghost use Rattle.bh_schema.specs.Calls.{Reads, WritesOn};
-ghost use Rattle.bh_schema.specs.Connections.{IsClean, stands, tables, InTransaction, InMidst, Rewrites, Enters, IsTrouble, IsTroubleIf};
-ghost use Rattle.bh_schema.specs.Layer.{IsInsideBy};
+ghost use Rattle.bh_base.specs.Connections.{IsClean, stands, tables, InTransaction, InMidst, Rewrites, Enters, IsTrouble, IsTroubleIf};
+ghost use Rattle.bh_base.specs.Layer.{IsInsideBy};
 ghost use Rattle.bh_schema.specs.Tallies.{tenant_tally, tally_reading, marked_as, entries_changed};
 
 use crate::rows::number::number;
 use crate::rows::reading::{FromRow, first_of};
 use crate::rows::writing::write;
+use bh_base::connection::Connection;
+use bh_shelf::shelf::Shelf;
 use sqlite::types::ToSql;
-use sqlite::{Alter, Connection, Error, ErrorCode, Row};
+use sqlite::{Alter, Error, ErrorCode, Row};
 
 /// A tenant's numbers of versions and markers, and of versions that are the newest entries of their
 /// keys.
@@ -40,18 +42,18 @@ impl FromRow for Tally {
 }
 
 /// The tally of the tenant of this name, if there is one. Only its row is read.
-pub fn find_tally<S: Alter>(
-    connection: &mut Connection<S>,
+pub fn find_tally<S: Alter, P: Shelf>(
+    connection: &mut Connection<S, P>,
     tenant: &str,
 ) -> Result<Option<Tally>, Error>
-    requires inside { InTransaction S.Store connection.old }
-    ensures reads { Reads S.Store connection.old connection.new result }
-    ensures found { IfOk result (λ found. IsClean S.Store connection.new
-        → found ≡ option_map (tenant_tally (tables S.Store connection.old))
-        (find (is_tenant tenant.now) (tables S.Store connection.old).tenants)) }
-    ensures trouble { IfErr result (IsTrouble S.Store connection.old connection.new) }
+    requires inside { InTransaction S.Store P.Shelf connection.old }
+    ensures reads { Reads S.Store P.Shelf connection.old connection.new result }
+    ensures found { IfOk result (λ found. IsClean S.Store P.Shelf connection.new
+        → found ≡ option_map (tenant_tally (tables S.Store P.Shelf connection.old))
+        (find (is_tenant tenant.now) (tables S.Store P.Shelf connection.old).tenants)) }
+    ensures trouble { IfErr result (IsTrouble S.Store P.Shelf connection.old connection.new) }
 {
-    let rows = connection.query_all(
+    let rows = connection.database.query_all(
         "SELECT versions, markers, objects FROM tallies WHERE tenant = ?1 ORDER BY rowid",
         &[tenant.to_sql()],
     )?;
@@ -59,39 +61,42 @@ pub fn find_tally<S: Alter>(
 }
 
 /// Adds the tally of a new tenant, as one step of that write.
-pub fn insert_tally<S: Alter>(connection: &mut Connection<S>, tenant: &str) -> Result<usize, Error>
-    requires midst { InMidst S.Store connection.old }
-    ensures writes { WritesOn S.Store connection.old connection.new result }
-    ensures rewrites { OnOk result (Rewrites S.Store connection.old connection.new
+pub fn insert_tally<S: Alter, P: Shelf>(
+    connection: &mut Connection<S, P>,
+    tenant: &str,
+) -> Result<usize, Error>
+    requires midst { InMidst S.Store P.Shelf connection.old }
+    ensures writes { WritesOn S.Store P.Shelf connection.old connection.new result }
+    ensures rewrites { OnOk result (Rewrites S.Store P.Shelf connection.old connection.new
         (tallied (λ tallies. tallies ++ tally tenant.now 0 0 0 ∷ [])) (λ rows. rows)) }
-    ensures trouble { IfErr result (IsTroubleIf S.Store connection.old connection.new (IsClean S.Store connection.old
-        → ((sums : Totals) → IsInsideBy sums (stands S.Store connection.old) → list_any (is_tally tenant.now) sums.tallies ≡ false)
-        × (list_any (is_tenant tenant.now) (tables S.Store connection.old).tenants ≡ true))) }
+    ensures trouble { IfErr result (IsTroubleIf S.Store P.Shelf connection.old connection.new (IsClean S.Store P.Shelf connection.old
+        → ((sums : Totals) → IsInsideBy sums (stands S.Store P.Shelf connection.old) → list_any (is_tally tenant.now) sums.tallies ≡ false)
+        × (list_any (is_tenant tenant.now) (tables S.Store P.Shelf connection.old).tenants ≡ true))) }
 {
     write(
-        connection,
+        &mut connection.database,
         "INSERT INTO tallies (tenant, versions, markers, objects) VALUES (?1, 0, 0, 0)",
         &[tenant.to_sql()],
     )
 }
 
 /// Sets a tenant's tally, as one step of a write of its versions.
-fn set_tally<S: Alter>(
-    connection: &mut Connection<S>,
+fn set_tally<S: Alter, P: Shelf>(
+    connection: &mut Connection<S, P>,
     tenant: &str,
     tally: Tally,
 ) -> Result<usize, Error>
-    requires midst { InMidst S.Store connection.old }
+    requires midst { InMidst S.Store P.Shelf connection.old }
     requires versions { tally.versions ≤ 2 ^ 62 }
     requires markers { tally.markers ≤ 2 ^ 62 }
     requires objects { tally.objects ≤ 2 ^ 62 }
-    ensures writes { WritesOn S.Store connection.old connection.new result }
-    ensures rewrites { OnOk result (Rewrites S.Store connection.old connection.new
+    ensures writes { WritesOn S.Store P.Shelf connection.old connection.new result }
+    ensures rewrites { OnOk result (Rewrites S.Store P.Shelf connection.old connection.new
         (tallied (update_where (is_tally tenant.now) (set_to tally.versions tally.markers tally.objects))) (λ rows. rows)) }
-    ensures trouble { IfErr result (IsTrouble S.Store connection.old connection.new) }
+    ensures trouble { IfErr result (IsTrouble S.Store P.Shelf connection.old connection.new) }
 {
     write(
-        connection,
+        &mut connection.database,
         "UPDATE tallies SET versions = ?2, markers = ?3, objects = ?4 WHERE tenant = ?1",
         &[
             tenant.to_sql(),
@@ -141,15 +146,15 @@ fn recounted(n: u64, more: u64, less: u64) -> Result<u64, Error>
 }
 
 /// Updates a tenant's tally for an added or deleted entry of a key: the first step of such a write.
-pub fn recount<S: Alter>(
-    connection: &mut Connection<S>,
+pub fn recount<S: Alter, P: Shelf>(
+    connection: &mut Connection<S, P>,
     tenant: &str,
     change: EntryChange,
 ) -> Result<(), Error>
-    requires inside { InTransaction S.Store connection.old }
-    ensures writes { WritesOn S.Store connection.old connection.new result }
-    ensures enters { OnOk result (Enters S.Store connection.old connection.new (entries_changed tenant.now change) (λ rows. rows)) }
-    ensures trouble { IfErr result (IsTrouble S.Store connection.old connection.new) }
+    requires inside { InTransaction S.Store P.Shelf connection.old }
+    ensures writes { WritesOn S.Store P.Shelf connection.old connection.new result }
+    ensures enters { OnOk result (Enters S.Store P.Shelf connection.old connection.new (entries_changed tenant.now change) (λ rows. rows)) }
+    ensures trouble { IfErr result (IsTrouble S.Store P.Shelf connection.old connection.new) }
 {
     let tally = match find_tally(connection, tenant)? {
         Some(tally) => tally,

@@ -4,7 +4,7 @@ ghost use Rattle.std.specs.Str.{IsUtf8};
 ghost use Rattle.bh_tables.specs.Typed.{VersionRow as Stored};
 ghost use Rattle.bh_tables.specs.Shown.{is_version};
 ghost use Rattle.bh_schema.specs.Calls.{Reads, Writes, WritesOn};
-ghost use Rattle.bh_schema.specs.Connections.{IsClean, tables, InTransaction, InMidst, Rewrites, Enters, Becomes, IsTrouble, IsTroubleIf};
+ghost use Rattle.bh_base.specs.Connections.{IsClean, tables, InTransaction, InMidst, Rewrites, Enters, Becomes, IsTrouble, IsTroubleIf};
 ghost use Rattle.bh_schema.specs.Rows.{seen_head, newest_at, IsNewVersion};
 ghost use Rattle.bh_schema.specs.Views.{head_seen, head_reading};
 ghost use Rattle.bh_schema.specs.Tallies.{place_of, marker_in, place_after, coming, going, entries_changed, IsNewer};
@@ -16,8 +16,10 @@ use crate::rows::reading::{FromRow, first_of};
 use crate::rows::tallies::{EntryChange, recount};
 use crate::rows::tenants::{use_entry, use_less, use_numbers};
 use crate::rows::writing::write;
+use bh_base::connection::Connection;
+use bh_shelf::shelf::Shelf;
 use sqlite::types::ToSql;
-use sqlite::{Alter, Connection, Error, ErrorCode, Row};
+use sqlite::{Alter, Error, ErrorCode, Row};
 
 /// The metadata of a version or a marker, without its bytes.
 #[derive(Drop)]
@@ -83,22 +85,22 @@ impl FromRow for VersionHead {
 }
 
 /// The newest version or marker of a key, if it has one.
-pub fn newest_version<S: Alter>(
-    connection: &mut Connection<S>,
+pub fn newest_version<S: Alter, P: Shelf>(
+    connection: &mut Connection<S, P>,
     tenant: &str,
     bucket: &str,
     okey: &[u8],
 ) -> Result<Option<VersionHead>, Error>
-    requires inside { InTransaction S.Store connection.old }
-    ensures reads { Reads S.Store connection.old connection.new result }
-    ensures found { IfOk result (λ found. IsClean S.Store connection.new
+    requires inside { InTransaction S.Store P.Shelf connection.old }
+    ensures reads { Reads S.Store P.Shelf connection.old connection.new result }
+    ensures found { IfOk result (λ found. IsClean S.Store P.Shelf connection.new
         → option_map head_seen found ≡ option_map seen_head
-        (newest_at tenant.now bucket.now okey.now (tables S.Store connection.old).versions)) }
-    ensures trouble { IfErr result (IsTroubleIf S.Store connection.old connection.new
-        ((v : Stored) → newest_at tenant.now bucket.now okey.now (tables S.Store connection.old).versions ≡ Some v
+        (newest_at tenant.now bucket.now okey.now (tables S.Store P.Shelf connection.old).versions)) }
+    ensures trouble { IfErr result (IsTroubleIf S.Store P.Shelf connection.old connection.new
+        ((v : Stored) → newest_at tenant.now bucket.now okey.now (tables S.Store P.Shelf connection.old).versions ≡ Some v
         → IsUtf8 v.checksum)) }
 {
-    let rows = connection.query_all(
+    let rows = connection.database.query_all(
         "SELECT seq, id, marker, stamp, size, sum FROM versions WHERE tenant = ?1 AND bucket = ?2 AND okey = ?3 ORDER BY seq DESC, rowid LIMIT 1",
         &[tenant.to_sql(), bucket.to_sql(), okey.to_sql()],
     )?;
@@ -106,24 +108,24 @@ pub fn newest_version<S: Alter>(
 }
 
 /// The version or marker of a key with this id, without its bytes, if there is one; 0 is `null`.
-pub fn version_of_id<S: Alter>(
-    connection: &mut Connection<S>,
+pub fn version_of_id<S: Alter, P: Shelf>(
+    connection: &mut Connection<S, P>,
     tenant: &str,
     bucket: &str,
     okey: &[u8],
     id: u64,
 ) -> Result<Option<VersionHead>, Error>
-    requires inside { InTransaction S.Store connection.old }
+    requires inside { InTransaction S.Store P.Shelf connection.old }
     requires small { id < 2 ^ 63 }
-    ensures reads { Reads S.Store connection.old connection.new result }
-    ensures found { IfOk result (λ found. IsClean S.Store connection.new
+    ensures reads { Reads S.Store P.Shelf connection.old connection.new result }
+    ensures found { IfOk result (λ found. IsClean S.Store P.Shelf connection.new
         → option_map head_seen found ≡ option_map seen_head
-        (find (is_version tenant.now bucket.now okey.now id) (tables S.Store connection.old).versions)) }
-    ensures trouble { IfErr result (IsTroubleIf S.Store connection.old connection.new
-        ((v : Stored) → find (is_version tenant.now bucket.now okey.now id) (tables S.Store connection.old).versions ≡ Some v
+        (find (is_version tenant.now bucket.now okey.now id) (tables S.Store P.Shelf connection.old).versions)) }
+    ensures trouble { IfErr result (IsTroubleIf S.Store P.Shelf connection.old connection.new
+        ((v : Stored) → find (is_version tenant.now bucket.now okey.now id) (tables S.Store P.Shelf connection.old).versions ≡ Some v
         → IsUtf8 v.checksum)) }
 {
-    let rows = connection.query_all(
+    let rows = connection.database.query_all(
         "SELECT seq, id, marker, stamp, size, sum FROM versions WHERE tenant = ?1 AND bucket = ?2 AND okey = ?3 AND id = ?4 ORDER BY rowid",
         &[tenant.to_sql(), bucket.to_sql(), okey.to_sql(), number(id)],
     )?;
@@ -132,20 +134,20 @@ pub fn version_of_id<S: Alter>(
 
 /// Adds the row of a version, whose bytes are those of the body of its name, as one step of a write
 /// that updates its tenant's use.
-fn insert_version<S: Alter>(
-    connection: &mut Connection<S>,
+fn insert_version<S: Alter, P: Shelf>(
+    connection: &mut Connection<S, P>,
     version: &NewVersion<'_>,
 ) -> Result<usize, Error>
-    requires midst { InMidst S.Store connection.old }
+    requires midst { InMidst S.Store P.Shelf connection.old }
     requires seq { version.now.seq < 2 ^ 63 }
     requires id { version.now.id < 2 ^ 63 }
     requires stamp { version.now.stamp < 2 ^ 63 }
     requires size { version.now.size < 2 ^ 63 }
-    ensures writes { WritesOn S.Store connection.old connection.new result }
-    ensures rewrites { OnOk result (Rewrites S.Store connection.old connection.new (λ sums. sums) (with_version version.now)) }
+    ensures writes { WritesOn S.Store P.Shelf connection.old connection.new result }
+    ensures rewrites { OnOk result (Rewrites S.Store P.Shelf connection.old connection.new (λ sums. sums) (with_version version.now)) }
 {
     write(
-        connection,
+        &mut connection.database,
         "INSERT INTO versions (tenant, seq, bucket, okey, id, marker, stamp, size, sum) VALUES (?1, ?2, ?3, ?4, ?5, 0, ?6, ?7, ?8)",
         &[
             version.tenant.to_sql(),
@@ -162,43 +164,43 @@ fn insert_version<S: Alter>(
 
 /// Deletes the row of the version or marker of a key with this id, as one step of a write that
 /// updates its tenant's use.
-fn remove_version<S: Alter>(
-    connection: &mut Connection<S>,
+fn remove_version<S: Alter, P: Shelf>(
+    connection: &mut Connection<S, P>,
     tenant: &str,
     bucket: &str,
     okey: &[u8],
     id: u64,
 ) -> Result<usize, Error>
-    requires midst { InMidst S.Store connection.old }
+    requires midst { InMidst S.Store P.Shelf connection.old }
     requires small { id < 2 ^ 63 }
-    ensures writes { WritesOn S.Store connection.old connection.new result }
-    ensures rewrites { OnOk result (Rewrites S.Store connection.old connection.new (λ sums. sums)
+    ensures writes { WritesOn S.Store P.Shelf connection.old connection.new result }
+    ensures rewrites { OnOk result (Rewrites S.Store P.Shelf connection.old connection.new (λ sums. sums)
         (without_version tenant.now bucket.now okey.now id)) }
 {
     write(
-        connection,
+        &mut connection.database,
         "DELETE FROM versions WHERE tenant = ?1 AND bucket = ?2 AND okey = ?3 AND id = ?4",
         &[tenant.to_sql(), bucket.to_sql(), okey.to_sql(), number(id)],
     )
 }
 
 /// Adds the row of a delete marker, as one step of a write that updates its tenant's tally.
-fn insert_marker_row<S: Alter>(
-    connection: &mut Connection<S>,
+fn insert_marker_row<S: Alter, P: Shelf>(
+    connection: &mut Connection<S, P>,
     marker: &NewMarker<'_>,
 ) -> Result<usize, Error>
-    requires midst { InMidst S.Store connection.old }
+    requires midst { InMidst S.Store P.Shelf connection.old }
     requires seq { marker.now.seq < 2 ^ 63 }
     requires id { marker.now.id < 2 ^ 63 }
     requires stamp { marker.now.stamp < 2 ^ 63 }
-    ensures writes { WritesOn S.Store connection.old connection.new result }
-    ensures rewrites { OnOk result (Rewrites S.Store connection.old connection.new (λ sums. sums) (with_marker marker.now)) }
-    ensures trouble { IfErr result (IsTroubleIf S.Store connection.old connection.new (IsClean S.Store connection.old
-        → IsNewVersion (tables S.Store connection.old) marker.now.tenant.now marker.now.bucket.now marker.now.okey.now
+    ensures writes { WritesOn S.Store P.Shelf connection.old connection.new result }
+    ensures rewrites { OnOk result (Rewrites S.Store P.Shelf connection.old connection.new (λ sums. sums) (with_marker marker.now)) }
+    ensures trouble { IfErr result (IsTroubleIf S.Store P.Shelf connection.old connection.new (IsClean S.Store P.Shelf connection.old
+        → IsNewVersion (tables S.Store P.Shelf connection.old) marker.now.tenant.now marker.now.bucket.now marker.now.okey.now
         marker.now.seq marker.now.id)) }
 {
     write(
-        connection,
+        &mut connection.database,
         "INSERT INTO versions (tenant, seq, bucket, okey, id, marker, stamp, size, sum) VALUES (?1, ?2, ?3, ?4, ?5, 1, ?6, 0, '')",
         &[
             marker.tenant.to_sql(),
@@ -230,24 +232,25 @@ fn marker_before(newest: Option<Place>, seq: u64) -> Result<Option<u64>, Error>
 }
 
 /// Updates a tenant's tally for a new entry of a key: the first step of that write.
-fn entry_comes<S: Alter>(
-    connection: &mut Connection<S>,
+fn entry_comes<S: Alter, P: Shelf>(
+    connection: &mut Connection<S, P>,
     tenant: &str,
     bucket: &str,
     okey: &[u8],
     seq: u64,
     marker: u64,
 ) -> Result<(), Error>
-    requires inside { InTransaction S.Store connection.old }
-    ensures writes { WritesOn S.Store connection.old connection.new result }
-    ensures enters { OnOk result (Enters S.Store connection.old connection.new
-        (entries_changed tenant.now (coming tenant.now bucket.now okey.now marker (tables S.Store connection.old))) (λ rows. rows)) }
-    ensures newer { OnOk result (IsClean S.Store connection.new
-        → IsNewer tenant.now bucket.now okey.now seq (tables S.Store connection.old)) }
-    ensures trouble { IfErr result (IsTrouble S.Store connection.old connection.new) }
+    requires inside { InTransaction S.Store P.Shelf connection.old }
+    ensures writes { WritesOn S.Store P.Shelf connection.old connection.new result }
+    ensures enters { OnOk result (Enters S.Store P.Shelf connection.old connection.new
+        (entries_changed tenant.now (coming tenant.now bucket.now okey.now marker (tables S.Store P.Shelf connection.old)))
+        (λ rows. rows)) }
+    ensures newer { OnOk result (IsClean S.Store P.Shelf connection.new
+        → IsNewer tenant.now bucket.now okey.now seq (tables S.Store P.Shelf connection.old)) }
+    ensures trouble { IfErr result (IsTrouble S.Store P.Shelf connection.old connection.new) }
 {
     // Asked for what it ensures: one entry of a tenant has a number at most.
-    let _schema = connection.schema();
+    let _schema = connection.database.schema();
     let newest = newest_places(connection, tenant, bucket, okey)?;
     let before = marker_before(newest.first, seq)?;
     recount(
@@ -289,21 +292,21 @@ fn newest_after(newest: NewestPlaces, id: u64) -> Option<Place>
 
 /// Updates a tenant's tally for the deletion of the entry of a key with this id: the first step of
 /// that write.
-fn entry_goes<S: Alter>(
-    connection: &mut Connection<S>,
+fn entry_goes<S: Alter, P: Shelf>(
+    connection: &mut Connection<S, P>,
     tenant: &str,
     bucket: &str,
     okey: &[u8],
     id: u64,
 ) -> Result<(), Error>
-    requires inside { InTransaction S.Store connection.old }
+    requires inside { InTransaction S.Store P.Shelf connection.old }
     requires small { id < 2 ^ 63 }
-    ensures writes { WritesOn S.Store connection.old connection.new result }
-    ensures enters { OnOk result (Enters S.Store connection.old connection.new
-        (entries_changed tenant.now (going tenant.now bucket.now okey.now id (tables S.Store connection.old))) (λ rows. rows)) }
+    ensures writes { WritesOn S.Store P.Shelf connection.old connection.new result }
+    ensures enters { OnOk result (Enters S.Store P.Shelf connection.old connection.new
+        (entries_changed tenant.now (going tenant.now bucket.now okey.now id (tables S.Store P.Shelf connection.old))) (λ rows. rows)) }
 {
     // Asked for what it ensures: one entry of a key has an id at most.
-    let _schema = connection.schema();
+    let _schema = connection.database.schema();
     let newest = newest_places(connection, tenant, bucket, okey)?;
     let gone = place_of_id(connection, tenant, bucket, okey, id)?;
     recount(
@@ -320,23 +323,23 @@ fn entry_goes<S: Alter>(
 
 /// Adds a version, whose bytes are those of the body of its name. The tenant's next entry gets this
 /// number.
-pub fn add_version<S: Alter>(
-    connection: &mut Connection<S>,
+pub fn add_version<S: Alter, P: Shelf>(
+    connection: &mut Connection<S, P>,
     version: &NewVersion<'_>,
     next: u64,
 ) -> Result<(), Error>
-    requires inside { InTransaction S.Store connection.old }
+    requires inside { InTransaction S.Store P.Shelf connection.old }
     requires seq { version.now.seq < 2 ^ 63 }
     requires id { version.now.id < 2 ^ 63 }
     requires stamp { version.now.stamp < 2 ^ 63 }
     requires size { version.now.size < 2 ^ 62 }
     requires small { next < 2 ^ 63 }
-    ensures writes { Writes S.Store connection.old connection.new result }
-    ensures holds { OnOk result (Becomes S.Store connection.old connection.new
+    ensures writes { Writes S.Store P.Shelf connection.old connection.new result }
+    ensures holds { OnOk result (Becomes S.Store P.Shelf connection.old connection.new
         (λ rows. with_version version.now (with_next version.now.tenant.now next rows))) }
 {
     // Asked for what it ensures: one entry of a tenant has a number at most.
-    let _schema = connection.schema();
+    let _schema = connection.database.schema();
     entry_comes(
         connection,
         version.tenant,
@@ -351,25 +354,25 @@ pub fn add_version<S: Alter>(
 }
 
 /// Adds a numbered version. The tenant's next numbered version and next entry get these numbers.
-pub fn add_numbered<S: Alter>(
-    connection: &mut Connection<S>,
+pub fn add_numbered<S: Alter, P: Shelf>(
+    connection: &mut Connection<S, P>,
     version: &NewVersion<'_>,
     next_version: u64,
     next_entry: u64,
 ) -> Result<(), Error>
-    requires inside { InTransaction S.Store connection.old }
+    requires inside { InTransaction S.Store P.Shelf connection.old }
     requires seq { version.now.seq < 2 ^ 63 }
     requires id { version.now.id < 2 ^ 63 }
     requires stamp { version.now.stamp < 2 ^ 63 }
     requires size { version.now.size < 2 ^ 62 }
     requires version { next_version < 2 ^ 63 }
     requires entry { next_entry < 2 ^ 63 }
-    ensures writes { Writes S.Store connection.old connection.new result }
-    ensures holds { OnOk result (Becomes S.Store connection.old connection.new
+    ensures writes { Writes S.Store P.Shelf connection.old connection.new result }
+    ensures holds { OnOk result (Becomes S.Store P.Shelf connection.old connection.new
         (λ rows. with_version version.now (with_numbers version.now.tenant.now next_version next_entry rows))) }
 {
     // Asked for what it ensures: one entry of a tenant has a number at most.
-    let _schema = connection.schema();
+    let _schema = connection.database.schema();
     entry_comes(
         connection,
         version.tenant,
@@ -391,22 +394,22 @@ pub fn add_numbered<S: Alter>(
 }
 
 /// Adds a delete marker.
-pub fn insert_marker<S: Alter>(
-    connection: &mut Connection<S>,
+pub fn insert_marker<S: Alter, P: Shelf>(
+    connection: &mut Connection<S, P>,
     marker: &NewMarker<'_>,
 ) -> Result<usize, Error>
-    requires inside { InTransaction S.Store connection.old }
+    requires inside { InTransaction S.Store P.Shelf connection.old }
     requires seq { marker.now.seq < 2 ^ 63 }
     requires id { marker.now.id < 2 ^ 63 }
     requires stamp { marker.now.stamp < 2 ^ 63 }
-    ensures writes { Writes S.Store connection.old connection.new result }
-    ensures holds { OnOk result (Becomes S.Store connection.old connection.new (with_marker marker.now)) }
-    ensures trouble { IfErr result (IsTroubleIf S.Store connection.old connection.new
-        (IsNewVersion (tables S.Store connection.old) marker.now.tenant.now marker.now.bucket.now marker.now.okey.now
+    ensures writes { Writes S.Store P.Shelf connection.old connection.new result }
+    ensures holds { OnOk result (Becomes S.Store P.Shelf connection.old connection.new (with_marker marker.now)) }
+    ensures trouble { IfErr result (IsTroubleIf S.Store P.Shelf connection.old connection.new
+        (IsNewVersion (tables S.Store P.Shelf connection.old) marker.now.tenant.now marker.now.bucket.now marker.now.okey.now
         marker.now.seq marker.now.id)) }
 {
     // Asked for what it ensures: one entry of a tenant has a number at most.
-    let _schema = connection.schema();
+    let _schema = connection.database.schema();
     entry_comes(
         connection,
         marker.tenant,
@@ -420,25 +423,25 @@ pub fn insert_marker<S: Alter>(
 
 /// Deletes the version or marker of a key with this id, and subtracts its size from the tenant's
 /// use.
-pub fn delete_version<S: Alter>(
-    connection: &mut Connection<S>,
+pub fn delete_version<S: Alter, P: Shelf>(
+    connection: &mut Connection<S, P>,
     tenant: &str,
     bucket: &str,
     okey: &[u8],
     id: u64,
     size: u64,
 ) -> Result<(), Error>
-    requires inside { InTransaction S.Store connection.old }
+    requires inside { InTransaction S.Store P.Shelf connection.old }
     requires small { id < 2 ^ 63 }
     requires few { size < 2 ^ 62 }
-    requires held { IsClean S.Store connection.old
-        → bytes_of_id tenant.now bucket.now okey.now id (tables S.Store connection.old) ≡ size }
-    ensures writes { Writes S.Store connection.old connection.new result }
-    ensures holds { OnOk result (Becomes S.Store connection.old connection.new
+    requires held { IsClean S.Store P.Shelf connection.old
+        → bytes_of_id tenant.now bucket.now okey.now id (tables S.Store P.Shelf connection.old) ≡ size }
+    ensures writes { Writes S.Store P.Shelf connection.old connection.new result }
+    ensures holds { OnOk result (Becomes S.Store P.Shelf connection.old connection.new
         (without_version tenant.now bucket.now okey.now id)) }
 {
     // Asked for what it ensures: one entry of a key has an id at most.
-    let _schema = connection.schema();
+    let _schema = connection.database.schema();
     entry_goes(connection, tenant, bucket, okey, id)?;
     use_less(connection, tenant, size)?;
     remove_version(connection, tenant, bucket, okey, id)?;

@@ -4,15 +4,17 @@ ghost use Rattle.bh_tables.specs.Typed.{PartRow as Stored};
 ghost use Rattle.bh_tables.specs.Bodies.{resolved_part};
 ghost use Rattle.bh_tables.specs.Shown.{is_part, is_part_of, shown_part};
 ghost use Rattle.bh_schema.specs.Calls.{Reads, WritesOn};
-ghost use Rattle.bh_schema.specs.Connections.{IsClean, tables, InTransaction, InMidst, Rewrites, IsTrouble};
+ghost use Rattle.bh_base.specs.Connections.{IsClean, tables, InTransaction, InMidst, Rewrites, IsTrouble};
 ghost use Rattle.bh_uploads.specs.Rows.{AreListed, body_reading, seen_row, row_seen, part_body, stored_part, listed_parts};
 
+use bh_base::connection::Connection;
 use bh_core::parts::PartRow;
 use bh_schema::rows::number::number;
 use bh_schema::rows::reading::{FromRow, first_of};
 use bh_schema::rows::writing::write;
+use bh_shelf::shelf::Shelf;
 use sqlite::types::ToSql;
-use sqlite::{Alter, Connection, Error, Row};
+use sqlite::{Alter, Error, Row};
 use std::alloc::Global;
 
 /// A part without its bytes.
@@ -88,36 +90,36 @@ fn read_parts(alloc: Global, rows: &[Row]) -> Result<PartList, Error>
     })
 }
 
-fn part_rows<S: Alter>(
-    connection: &mut Connection<S>,
+fn part_rows<S: Alter, P: Shelf>(
+    connection: &mut Connection<S, P>,
     tenant: &str,
     upload: u64,
 ) -> Result<Vec<Row>, Error>
-    requires inside { InTransaction S.Store connection.old }
+    requires inside { InTransaction S.Store P.Shelf connection.old }
     requires small { upload < 2 ^ 63 }
-    ensures reads { Reads S.Store connection.old connection.new result }
-    ensures rows { IfOk result (λ rows. IsClean S.Store connection.new
-        → rows.items ≡ map shown_part (listed_parts tenant.now upload (tables S.Store connection.old))) }
-    ensures trouble { IfErr result (IsTrouble S.Store connection.old connection.new) }
+    ensures reads { Reads S.Store P.Shelf connection.old connection.new result }
+    ensures rows { IfOk result (λ rows. IsClean S.Store P.Shelf connection.new
+        → rows.items ≡ map shown_part (listed_parts tenant.now upload (tables S.Store P.Shelf connection.old))) }
+    ensures trouble { IfErr result (IsTrouble S.Store P.Shelf connection.old connection.new) }
 {
-    connection.query_all(
+    connection.database.query_all(
         "SELECT number, size, sum, stamp, body FROM parts WHERE tenant = ?1 AND upload = ?2 ORDER BY number, rowid",
         &[tenant.to_sql(), number(upload)],
     )
 }
 
 /// All parts of an upload, in the order of their numbers.
-pub fn part_list<S: Alter>(
-    connection: &mut Connection<S>,
+pub fn part_list<S: Alter, P: Shelf>(
+    connection: &mut Connection<S, P>,
     alloc: Global,
     tenant: &str,
     upload: u64,
 ) -> Result<PartList, Error>
-    requires inside { InTransaction S.Store connection.old }
+    requires inside { InTransaction S.Store P.Shelf connection.old }
     requires small { upload < 2 ^ 63 }
-    ensures reads { Reads S.Store connection.old connection.new result }
-    ensures parts { IfOk result (λ list. IsClean S.Store connection.new
-        → AreListed list (listed_parts tenant.now upload (tables S.Store connection.old))) }
+    ensures reads { Reads S.Store P.Shelf connection.old connection.new result }
+    ensures parts { IfOk result (λ list. IsClean S.Store P.Shelf connection.new
+        → AreListed list (listed_parts tenant.now upload (tables S.Store P.Shelf connection.old))) }
 {
     let rows = part_rows(connection, tenant, upload)?;
     read_parts(alloc, &rows)
@@ -135,20 +137,20 @@ impl FromRow for PartBody {
 }
 
 /// The body of the part with this number, if it exists.
-pub fn find_body<S: Alter>(
-    connection: &mut Connection<S>,
+pub fn find_body<S: Alter, P: Shelf>(
+    connection: &mut Connection<S, P>,
     tenant: &str,
     upload: u64,
     part: u64,
 ) -> Result<Option<PartBody>, Error>
-    requires inside { InTransaction S.Store connection.old }
+    requires inside { InTransaction S.Store P.Shelf connection.old }
     requires upload { upload < 2 ^ 63 }
     requires part { part < 2 ^ 63 }
-    ensures reads { Reads S.Store connection.old connection.new result }
-    ensures found { IfOk result (λ found. IsClean S.Store connection.new
-        → found ≡ option_map part_body (find (is_part tenant.now upload part) (tables S.Store connection.old).parts)) }
+    ensures reads { Reads S.Store P.Shelf connection.old connection.new result }
+    ensures found { IfOk result (λ found. IsClean S.Store P.Shelf connection.new
+        → found ≡ option_map part_body (find (is_part tenant.now upload part) (tables S.Store P.Shelf connection.old).parts)) }
 {
-    let rows = connection.query_all(
+    let rows = connection.database.query_all(
         "SELECT body, size FROM parts WHERE tenant = ?1 AND upload = ?2 AND number = ?3 ORDER BY rowid",
         &[tenant.to_sql(), number(upload), number(part)],
     )?;
@@ -157,22 +159,22 @@ pub fn find_body<S: Alter>(
 
 /// Adds a part, whose bytes are those of its body, as one step of a write that updates its tenant's
 /// use and its upload's bytes.
-pub fn insert_part<S: Alter>(
-    connection: &mut Connection<S>,
+pub fn insert_part<S: Alter, P: Shelf>(
+    connection: &mut Connection<S, P>,
     part: &PartRecord<'_>,
 ) -> Result<usize, Error>
-    requires midst { InMidst S.Store connection.old }
+    requires midst { InMidst S.Store P.Shelf connection.old }
     requires upload { part.now.upload < 2 ^ 63 }
     requires number { part.now.number < 2 ^ 63 }
     requires size { part.now.size < 2 ^ 63 }
     requires stamp { part.now.stamp < 2 ^ 63 }
     requires body { part.now.body < 2 ^ 63 }
-    ensures writes { WritesOn S.Store connection.old connection.new result }
-    ensures rewrites { OnOk result (Rewrites S.Store connection.old connection.new (λ sums. sums)
+    ensures writes { WritesOn S.Store P.Shelf connection.old connection.new result }
+    ensures rewrites { OnOk result (Rewrites S.Store P.Shelf connection.old connection.new (λ sums. sums)
         (λ rows. record rows { parts = rows.parts ++ resolved_part rows.refs rows.blocks (stored_part part.now) ∷ [] })) }
 {
     write(
-        connection,
+        &mut connection.database,
         "INSERT INTO parts (tenant, upload, number, size, sum, stamp, body) VALUES (?1, ?2, ?3, ?4, ?5, ?6, ?7)",
         &[
             part.tenant.to_sql(),
@@ -188,22 +190,22 @@ pub fn insert_part<S: Alter>(
 
 /// Deletes the part with a number, if there is one, as one step of a write that updates its
 /// tenant's use and its upload's bytes.
-pub fn delete_part<S: Alter>(
-    connection: &mut Connection<S>,
+pub fn delete_part<S: Alter, P: Shelf>(
+    connection: &mut Connection<S, P>,
     tenant: &str,
     upload: u64,
     part: u64,
 ) -> Result<usize, Error>
-    requires midst { InMidst S.Store connection.old }
+    requires midst { InMidst S.Store P.Shelf connection.old }
     requires upload { upload < 2 ^ 63 }
     requires part { part < 2 ^ 63 }
-    ensures writes { WritesOn S.Store connection.old connection.new result }
-    ensures rewrites { OnOk result (Rewrites S.Store connection.old connection.new (λ sums. sums)
+    ensures writes { WritesOn S.Store P.Shelf connection.old connection.new result }
+    ensures rewrites { OnOk result (Rewrites S.Store P.Shelf connection.old connection.new (λ sums. sums)
         (λ rows. record rows { parts = delete_where (is_part tenant.now upload part) rows.parts })) }
-    ensures trouble { IfErr result (IsTrouble S.Store connection.old connection.new) }
+    ensures trouble { IfErr result (IsTrouble S.Store P.Shelf connection.old connection.new) }
 {
     write(
-        connection,
+        &mut connection.database,
         "DELETE FROM parts WHERE tenant = ?1 AND upload = ?2 AND number = ?3",
         &[tenant.to_sql(), number(upload), number(part)],
     )
@@ -211,20 +213,20 @@ pub fn delete_part<S: Alter>(
 
 /// Deletes all parts of an upload, as one step of a write that updates its tenant's use and the
 /// upload's bytes.
-pub fn delete_parts<S: Alter>(
-    connection: &mut Connection<S>,
+pub fn delete_parts<S: Alter, P: Shelf>(
+    connection: &mut Connection<S, P>,
     tenant: &str,
     upload: u64,
 ) -> Result<usize, Error>
-    requires midst { InMidst S.Store connection.old }
+    requires midst { InMidst S.Store P.Shelf connection.old }
     requires small { upload < 2 ^ 63 }
-    ensures writes { WritesOn S.Store connection.old connection.new result }
-    ensures rewrites { OnOk result (Rewrites S.Store connection.old connection.new (λ sums. sums)
+    ensures writes { WritesOn S.Store P.Shelf connection.old connection.new result }
+    ensures rewrites { OnOk result (Rewrites S.Store P.Shelf connection.old connection.new (λ sums. sums)
         (λ rows. record rows { parts = delete_where (is_part_of tenant.now upload) rows.parts })) }
-    ensures trouble { IfErr result (IsTrouble S.Store connection.old connection.new) }
+    ensures trouble { IfErr result (IsTrouble S.Store P.Shelf connection.old connection.new) }
 {
     write(
-        connection,
+        &mut connection.database,
         "DELETE FROM parts WHERE tenant = ?1 AND upload = ?2",
         &[tenant.to_sql(), number(upload)],
     )

@@ -1,22 +1,22 @@
 use Rattle.std.proofs.Common.{refl, ◌++◌, ◌∷◌, [], pos, length, subst}
-use Rattle.sqlite.specs.Held.{state}
+use Rattle.bh_base.specs.Connections.{state}
 use Rattle.bh_tables.specs.Typed.{Totals, Tables, BlockRow, UseRow, counted, tables_in, rebodied}
-use Rattle.bh_schema.specs.Layer.{standing, Holds}
-use Rattle.bh_schema.proofs.Calls.{in_midst}
+use Rattle.bh_base.specs.Layer.{standing, Holds}
+use Rattle.bh_base.proofs.Calls.{in_midst}
 use Rattle.bh_schema.proofs.VersionSteps.{then_turned, ended}
 use Rattle.bh_blocks.specs.Named.{placed_at}
 use Rattle.bh_blocks.proofs.Counting.{added_twice, piece_law}
 use Rattle.bh_blocks.proofs.blocks.add_block.Goals as goal
 
 pub insert_block-requires-clause-midst : goal.insert_block-requires-clause-midst
-insert_block-requires-clause-midst g c clean = in_midst (standing (state g.S.Store c.args.connection.now)) (c.requires.inside clean)
+insert_block-requires-clause-midst g c clean = in_midst (standing (state g.S.Store g.P.Shelf c.args.connection.now)) (c.requires.inside clean)
 
 pub returns-clause-added : goal.returns-clause-added
 returns-clause-added g c clean =
-    let a = state g.S.Store c.args.connection.now in
-    let b = state g.S.Store c.insert_block.new.connection in
-    let d = state g.S.Store c.insert_ref.new.connection in
-    let e = state g.S.Store c.change_uses.new.connection in
+    let a = state g.S.Store g.P.Shelf c.args.connection.now in
+    let b = state g.S.Store g.P.Shelf c.insert_block.new.connection in
+    let d = state g.S.Store g.P.Shelf c.insert_ref.new.connection in
+    let e = state g.S.Store g.P.Shelf c.change_uses.new.connection in
     let one = c.in_ok-insert_block.ensures in
     let two = c.in_ok-insert_ref.ensures in
     let three = c.in_ok-change_uses.ensures in

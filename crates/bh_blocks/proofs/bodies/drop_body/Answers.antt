@@ -1,6 +1,6 @@
 use Rattle.std.proofs.Common.{◌≡◌, ◌+◌, arith, sym, ap, ◌∙◌, subst}
 use Rattle.std.proofs.lemmas.Result.{on_ok_weaker}
-use Rattle.sqlite.specs.Held.{state}
+use Rattle.bh_base.specs.Connections.{state}
 use Rattle.sqlite_keyed.specs.Lists.{delete_where}
 use Rattle.bh_rows.specs.Means.{is_trouble}
 use Rattle.bh_tables.specs.Typed.{Tables, lowered_by, totals_of, tables_in, rebodied}
@@ -9,8 +9,8 @@ use Rattle.bh_tables.specs.Shown.{is_of_body}
 use Rattle.bh_tables.proofs.TotalLemmas.{uses_dropped}
 use Rattle.bh_tables.proofs.GarbageLemmas.{unneeded_dropped, measured_fewer}
 use Rattle.bh_schema.specs.Garbage.{garbage_in}
-use Rattle.bh_schema.specs.Layer.{Standing, standing, IsStateClean, IsInsideBy, HoldsBy}
-use Rattle.bh_schema.proofs.Calls.{in_midst}
+use Rattle.bh_base.specs.Layer.{Standing, standing, IsStateClean, IsInsideBy, HoldsBy}
+use Rattle.bh_base.proofs.Calls.{in_midst}
 use Rattle.bh_schema.proofs.Finds.{handed_on}
 use Rattle.bh_blocks.specs.Uses.{AreUsed}
 use Rattle.bh_blocks.proofs.Counting.{body_used}
@@ -23,16 +23,16 @@ garbage_bytes-requires g c = record { inside = still_inside _ _ c.in_ok-rows.ens
 
 pub lower_all-requires : goal.lower_all-requires
 lower_all-requires g c = record {
-  midst = λ clean. in_midst (standing (state g.S.Store c.garbage_bytes.new.connection))
+  midst = λ clean. in_midst (standing (state g.S.Store g.P.Shelf c.garbage_bytes.new.connection))
       (still_inside _ _ c.in_ok-garbage.ensures.reads.within c.in_ok-garbage.ensures.reads.same (still_inside _ _ c.in_ok-rows.ensures.reads.within c.in_ok-rows.ensures.reads.same c.requires.inside) clean);
 }
 
 pub returns-clause-dropped : goal.returns-clause-dropped
 returns-clause-dropped g c = on_ok_weaker c.reweigh.result (λ reweighs clean.
-    let a = standing (state g.S.Store c.args.connection.now) in
-    let b = standing (state g.S.Store c.garbage_bytes.new.connection) in
-    let e = standing (state g.S.Store c.delete_refs.new.connection) in
-    let f = standing (state g.S.Store c.reweigh.new.connection) in
+    let a = standing (state g.S.Store g.P.Shelf c.args.connection.now) in
+    let b = standing (state g.S.Store g.P.Shelf c.garbage_bytes.new.connection) in
+    let e = standing (state g.S.Store g.P.Shelf c.delete_refs.new.connection) in
+    let f = standing (state g.S.Store g.P.Shelf c.reweigh.new.connection) in
     let zero = c.in_ok-rows.ensures in
     let counts = c.in_ok-garbage.ensures in
     let one = c.in_ok-freed.ensures in
@@ -62,8 +62,8 @@ returns-clause-dropped g c = on_ok_weaker c.reweigh.result (λ reweighs clean.
 
 pub returns-in_err-freed-clause-trouble : goal.returns-in_err-freed-clause-trouble
 returns-in_err-freed-clause-trouble g c = handed_on _ _ _ c.from_residual-in_err-freed.ensures (λ e same intact unlimited.
-    let a = state g.S.Store c.args.connection.now in
-    let b = state g.S.Store c.garbage_bytes.new.connection in
+    let a = state g.S.Store g.P.Shelf c.args.connection.now in
+    let b = state g.S.Store g.P.Shelf c.garbage_bytes.new.connection in
     let zero = c.in_ok-rows.ensures in
     let counts = c.in_ok-garbage.ensures in
     let one = c.in_err-freed.ensures in

@@ -1,10 +1,10 @@
 use Rattle.std.proofs.Common.{◌≡◌, sym, ap, ◌∙◌, subst}
-use Rattle.sqlite.specs.Held.{state}
+use Rattle.bh_base.specs.Connections.{state}
 use Rattle.bh_rows.specs.Means.{is_trouble}
 use Rattle.bh_tables.specs.Garbage.{HasUses}
 use Rattle.bh_tables.specs.Typed.{Tables, counted, lowered, tables_in}
 use Rattle.bh_tables.specs.Shown.{Name, ref_name}
-use Rattle.bh_schema.specs.Layer.{Standing, standing, IsMidst, IsInsideBy, HoldsBy}
+use Rattle.bh_base.specs.Layer.{Standing, standing, IsMidst, IsInsideBy, HoldsBy}
 use Rattle.bh_schema.proofs.Finds.{handed_on}
 use Rattle.bh_blocks.specs.Uses.{IsUsed}
 use Rattle.bh_blocks.proofs.Counting.{lowered_named}
@@ -20,10 +20,10 @@ returns-clause-rewrites g c r is clean sums by =
     let same = c.in_ok-uses.ensures.reads.same mid.intact in
     let q : Name = (c.deref-2.result.now, c.in_ok-block.block.ord) in
     let named : q ≡ ref_name r = (λ i. (c.deref-2.ensures.value i, c.in_ok-block.block.ord)) ∙ c.in_ok-block.ensures.name r is in
-    let x = standing (state g.S.Store c.change_uses.new.connection) in
+    let x = standing (state g.S.Store g.P.Shelf c.change_uses.new.connection) in
     let h = c.in_ok-change_uses.ensures.rewrites clean sums (subst (IsInsideBy sums) (sym same) by) in
     subst (λ (y : Standing). HoldsBy (counted (lowered (ref_name r)) sums) (tables_in y.now) x) same
-    (lowered_named q (ref_name r) sums (tables_in (standing (state g.S.Store c.uses_of.new.connection)).now) x named h)
+    (lowered_named q (ref_name r) sums (tables_in (standing (state g.S.Store g.P.Shelf c.uses_of.new.connection)).now) x named h)
 
 pub returns-clause-frees : goal.returns-clause-frees
 returns-clause-frees g c r is clean sums by =
@@ -39,4 +39,4 @@ returns-in_err-change_uses-clause-trouble g c = handed_on _ _ _ c.from_residual-
     let q : Name = (c.deref-2.result.now, c.in_ok-block.block.ord) in
     let named : q ≡ ref_name r = (λ i. (c.deref-2.ensures.value i, c.in_ok-block.block.ord)) ∙ c.in_ok-block.ensures.name r is in
     ap is_trouble same ∙ c.in_err-change_uses.ensures.trouble intact (c.in_ok-uses.ensures.reads.within.follows.limit ∙ unlimited)
-    (subst (λ n. IsUsed n (standing (state g.S.Store c.uses_of.new.connection))) (sym named) (subst (IsUsed (ref_name r)) (sym still) used)))
+    (subst (λ n. IsUsed n (standing (state g.S.Store g.P.Shelf c.uses_of.new.connection))) (sym named) (subst (IsUsed (ref_name r)) (sym still) used)))

@@ -1,9 +1,9 @@
 use Rattle.std.proofs.Common.{arith, ◌≡◌, ◌++◌, ◌+◌, ℕ, List, drop, map, flat_map, sym, ap, ◌∙◌, subst}
-use Rattle.sqlite.specs.Held.{state}
+use Rattle.bh_base.specs.Connections.{state}
 use Rattle.bh_tables.specs.Typed.{RefRow, tables_in}
 use Rattle.bh_tables.specs.Bodies.{placed}
 use Rattle.bh_tables.specs.Shown.{shown_ref}
-use Rattle.bh_schema.specs.Layer.{Standing, IsInside}
+use Rattle.bh_base.specs.Layer.{Standing, IsInside}
 use Rattle.bh_schema.specs.Working.{tables_at}
 use Rattle.bh_schema.proofs.Storing.{within_then}
 use Rattle.bh_blocks.proofs.BodySteps.{named_next, named_all}
@@ -22,7 +22,7 @@ pub loop-body-preserved : goal.loop-body-preserved
 loop-body-preserved g c =
     let inv = c.loop-body.invariant in
     let step = c.in_ok-found.ensures in
-    let old = tables_at (state g.S.Store c.args.connection.now) in
+    let old = tables_at (state g.S.Store g.P.Shelf c.args.connection.now) in
     let f : ℕ → List RefRow = λ body. placed old.refs (c.args.tenant.now, body) in
     let i = c.loop-body.body-index in
     record {
@@ -31,7 +31,7 @@ loop-body-preserved g c =
       same = λ intact. step.reads.same intact ∙ inv.same (step.reads.within.follows.intact intact);
       rows = λ clean.
           let was = step.reads.within.follows.clean clean in
-          let same : tables_at (state g.S.Store c.loop-body.connection) ≡ old = ap (λ (x : Standing). tables_in x.now) (inv.same was.intact) in
+          let same : tables_at (state g.S.Store g.P.Shelf c.loop-body.connection) ≡ old = ap (λ (x : Standing). tables_in x.now) (inv.same was.intact) in
           let body = c.in_ok-in_range.field-0 in
           ap (λ l. l ++ map shown_ref (flat_map f (drop (i + 1) c.args.bodies.now))) c.in_ok-append_rows.ensures
           ∙ named_next f c.args.bodies.now i body _ c.loop-body.rows.items c.in_ok-found.found.items _ c.loop-body-test.true c.in_ok-in_range.ensures.same
@@ -40,6 +40,6 @@ loop-body-preserved g c =
 
 pub returns-clause-rows : goal.returns-clause-rows
 returns-clause-rows g c clean =
-    let old = tables_at (state g.S.Store c.args.connection.now) in
+    let old = tables_at (state g.S.Store g.P.Shelf c.args.connection.now) in
     let f : ℕ → List RefRow = λ body. placed old.refs (c.args.tenant.now, body) in
     named_all f c.args.bodies.now c.loop-body.body-index c.loop-body.rows.items _ (λ low. let end = c.loop-body-test.false in omega (arith, low, end)) (c.loop-body.invariant.rows clean)

@@ -1,5 +1,5 @@
 use Rattle.std.proofs.Common.{◌≡◌, [], ◌∙◌}
-use Rattle.sqlite.specs.Held.{state}
+use Rattle.bh_base.specs.Connections.{state}
 use Rattle.bh_view.specs.Bodies.{pieces, body_stored}
 use Rattle.bh_schema.specs.Working.{tables_at}
 use Rattle.bh_blocks.specs.Drafts.{drafted}
@@ -9,7 +9,7 @@ use Rattle.bh_blocks.proofs.bodies.store_pieces.Goals as goal
 pub returns-clause-stored : goal.returns-clause-stored
 returns-clause-stored g c = λ clean.
     let digest = g.D.Digester.digest_of in
-    let old = tables_at (state g.S.Store c.args.connection.now) in
+    let old = tables_at (state g.S.Store g.P.Shelf c.args.connection.now) in
     let begun = c.begin_body-draft in
     let pushed = c.in_ok-push.ensures in
     let last = c.in_ok-end_body.ensures in

@@ -1,5 +1,5 @@
 use Rattle.std.proofs.Common.{◌++◌, refl, sym, ◌∙◌}
-use Rattle.sqlite.specs.Held.{state}
+use Rattle.bh_base.specs.Connections.{state}
 use Rattle.bh_view.specs.Bodies.{pieces, body_stored}
 use Rattle.bh_schema.specs.Working.{tables_at}
 use Rattle.bh_blocks.specs.Drafts.{drafted}
@@ -15,8 +15,8 @@ returns-then-waits-eq0-clause-goes g c = λ clean.
     let digest = g.D.Digester.digest_of in
     let draft = c.args.draft.now in
     let new = c.push_blocks.new.draft in
-    let now = tables_at (state g.S.Store c.args.connection.now) in
-    let then = tables_at (state g.S.Store c.push_blocks.new.connection) in
+    let now = tables_at (state g.S.Store g.P.Shelf c.args.connection.now) in
+    let then = tables_at (state g.S.Store g.P.Shelf c.push_blocks.new.connection) in
     let last = c.in_ok-push_blocks.ensures in
     goes_on digest draft new c.args.bytes.now now then last.of last.size
     (none_waits digest (drafted draft) draft.size draft.place new.place draft.waiting.items c.args.bytes.now new.waiting.items now then
@@ -27,7 +27,7 @@ pub returns-then-held-draft-clause-goes : goal.returns-then-held-draft-clause-go
 returns-then-held-draft-clause-goes g c = λ clean.
     let digest = g.D.Digester.digest_of in
     let draft = c.args.draft.now in
-    let now = tables_at (state g.S.Store c.args.connection.now) in
+    let now = tables_at (state g.S.Store g.P.Shelf c.args.connection.now) in
     goes_on digest draft (record draft { waiting = c.append.new.waiting }) c.args.bytes.now now now refl refl
     (waits digest (drafted draft) draft.size draft.place draft.waiting.items c.args.bytes.now c.cut_off.result.0.now c.append.new.waiting.items now
     (rw c.held-waits.ensures at c.cut_off.ensures.front) c.in_ok-append.ensures c.requires.fewer (rw c.held.ensures at c.if-held-draft.true))
@@ -38,9 +38,9 @@ returns-clause-goes g c = λ clean.
     let digest = g.D.Digester.digest_of in
     let draft = c.args.draft.now in
     let new = c.push_blocks-2.new.draft in
-    let now = tables_at (state g.S.Store c.args.connection.now) in
-    let mid = tables_at (state g.S.Store c.store_waiting.new.connection) in
-    let then = tables_at (state g.S.Store c.push_blocks-2.new.connection) in
+    let now = tables_at (state g.S.Store g.P.Shelf c.args.connection.now) in
+    let mid = tables_at (state g.S.Store g.P.Shelf c.store_waiting.new.connection) in
+    let then = tables_at (state g.S.Store g.P.Shelf c.push_blocks-2.new.connection) in
     let full = c.append.new.waiting.items in
     let first = c.in_ok-store_waiting.ensures in
     let last = c.in_ok-push_blocks-2.ensures in

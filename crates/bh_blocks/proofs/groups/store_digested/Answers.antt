@@ -1,7 +1,7 @@
 use Rattle.std.proofs.Common.{◌≡◌, [], slice_index_or, refl, ◌+◌, ◌*◌, ◌≤◌, ◌++◌, take, drop, length, length-drop, ap, sym, ◌∙◌, arith}
 use Rattle.std.proofs.lemmas.List.{drop-drop}
 use Rattle.std.proofs.lemmas.Nat.{mul-le}
-use Rattle.sqlite.specs.Held.{state}
+use Rattle.bh_base.specs.Connections.{state}
 use Rattle.bh_view.specs.Bodies.{pieces, body_stored}
 use Rattle.bh_schema.specs.Working.{tables_at}
 use Rattle.bh_schema.proofs.Storing.{within_then}
@@ -15,8 +15,8 @@ storing-preserved g c =
     let inv = c.storing.invariant in
     let size = c.args.size in
     let j = c.storing.j in
-    let old = tables_at (state g.S.Store c.storing.connection) in
-    let new = tables_at (state g.S.Store c.store_known.new.connection) in
+    let old = tables_at (state g.S.Store g.P.Shelf c.storing.connection) in
+    let new = tables_at (state g.S.Store g.P.Shelf c.store_known.new.connection) in
     let at = body_at c.args.from.now in
     let fits : (j + 1) * size ≤ c.args.count * size = mul-le (j + 1) size c.args.count size (omega arith) (omega arith) in
     let whole = c.requires.whole in

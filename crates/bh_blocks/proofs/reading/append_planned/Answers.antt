@@ -1,8 +1,8 @@
 use Rattle.std.proofs.Common.{ap, sym, subst, ◌∙◌, ◌≡◌, ◌++◌, ◌<◌, ◌^◌, append_assoc}
-use Rattle.sqlite.specs.Held.{state}
+use Rattle.bh_base.specs.Connections.{state}
 use Rattle.bh_tables.specs.Typed.{Tables, tables_in}
 use Rattle.bh_view.specs.Bodies.{HasBodies}
-use Rattle.bh_schema.specs.Layer.{Standing}
+use Rattle.bh_base.specs.Layer.{Standing}
 use Rattle.bh_schema.specs.Working.{tables_at}
 use Rattle.bh_schema.proofs.Storing.{within_then}
 use Rattle.bh_blocks.specs.Plans.{coming}
@@ -16,7 +16,7 @@ pub pieces-preserved : goal.pieces-preserved
 pieces-preserved g c =
     let inv = c.pieces.invariant in
     let step = c.in_ok-piece.ensures in
-    let old = tables_at (state g.S.Store c.args.connection.now) in
+    let old = tables_at (state g.S.Store g.P.Shelf c.args.connection.now) in
     record {
       within = within_then _ _ _ inv.opens inv.within step.within;
       opens = λ intact up. step.opens intact (inv.opens (step.within.follows.intact intact) up);
@@ -26,7 +26,7 @@ pieces-preserved g c =
       place = step.place;
       bytes = λ clean bodies.
           let was = step.within.follows.clean clean in
-          let same : tables_at (state g.S.Store c.pieces.connection) ≡ old = ap (λ (x : Standing). tables_in x.now) (inv.same was.intact) in
+          let same : tables_at (state g.S.Store g.P.Shelf c.pieces.connection) ≡ old = ap (λ (x : Standing). tables_in x.now) (inv.same was.intact) in
           let given = rw c.in-Some.is at step.gives clean (subst HasBodies (sym same) bodies) in
           ap (λ l. l ++ coming c.next_piece.new.plan old) (c.in_ok-append-in-Some.ensures ∙ ap (λ l. c.pieces.bytes.items ++ l) c.deref.ensures.value)
           ∙ append_assoc c.pieces.bytes.items c.in-Some.piece.items (coming c.next_piece.new.plan old)

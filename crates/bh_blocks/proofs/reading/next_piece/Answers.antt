@@ -1,10 +1,10 @@
 use Rattle.std.proofs.Common.{◌≡◌, ◌-◌, length, ap, sym, ◌∙◌}
-use Rattle.sqlite.specs.Held.{state}
+use Rattle.bh_base.specs.Connections.{state}
 use Rattle.bh_tables.specs.Bodies.{block_at}
 use Rattle.bh_tables.specs.Schema.{Octets}
 use Rattle.bh_tables.specs.Typed.{Tables, tables_in}
 use Rattle.bh_view.specs.Bodies.{bodies_in}
-use Rattle.bh_schema.specs.Layer.{Standing}
+use Rattle.bh_base.specs.Layer.{Standing}
 use Rattle.bh_schema.specs.Working.{tables_at}
 use Rattle.bh_blocks.specs.Named.{named_by}
 use Rattle.bh_blocks.specs.Plans.{planned}
@@ -21,8 +21,8 @@ returns-in_ok-place-in-Some-clause-gives g c = λ clean bodies.
     let part = c.in_ok-bytes-in-Some.ensures in
     let found = c.in_ok-find_shown.ensures in
     let was = part.within.follows.clean clean in
-    let old = tables_at (state g.S.Store c.args.connection.now) in
-    let same : tables_at (state g.S.Store c.find_shown.new.connection) ≡ old = ap (λ (x : Standing). tables_in x.now) (found.same was.intact) in
+    let old = tables_at (state g.S.Store g.P.Shelf c.args.connection.now) in
+    let same : tables_at (state g.S.Store g.P.Shelf c.find_shown.new.connection) ≡ old = ap (λ (x : Standing). tables_in x.now) (found.same was.intact) in
     let (first, shows) = rw c.in-Some.is at found.first was bodies in
     let shown = c.in-Some.shown in
     sym shows

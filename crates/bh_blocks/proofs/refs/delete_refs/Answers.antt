@@ -3,14 +3,17 @@ use Rattle.bh_tables.specs.Shown.{Name}
 use Rattle.bh_tables.proofs.RefTexts.{refs_deleted}
 use Rattle.bh_blocks.proofs.Counting.{alone}
 use Rattle.bh_blocks.proofs.UseCalls.{refs_go, refs_go_trouble}
+use Rattle.bh_base.specs.Connections.{backing}
+use Rattle.bh_base.specs.Shown.{shown}
 use Rattle.bh_blocks.proofs.refs.delete_refs.Goals as goal
 
 pub returns : goal.returns
 returns g c =
     let h = rw (c.to_sql.ensures, c.number.ensures) at c.execute.ensures in
-    let old = state g.S.Store c.args.connection.now in
+    let old = state g.S.Store c.args.connection.now.database in
+    let a = backing g.P.Shelf c.args.connection.now.packs in
     let new = state g.S.Store c.execute.new.self in
     let live = c.schema-schema.ensures.live in
     let q : Name = (c.args.tenant.now, c.args.body) in
-    let w = refs_go old new c.requires.midst c.execute.result live (refs_deleted q) h.runs h.survives in
-    record { writes = record { within = w.within; opens = w.opens; midst = w.midst }; rewrites = w.rewrites; trouble = alone old new c.execute.result (refs_go_trouble old new c.requires.midst c.execute.result live (refs_deleted q) h.runs h.survives) }
+    let w = refs_go a old new c.requires.midst c.execute.result live (refs_deleted q) h.runs h.survives in
+    record { writes = record { within = w.within; opens = w.opens; midst = w.midst }; rewrites = w.rewrites; trouble = alone (shown a old) (shown a new) c.execute.result (refs_go_trouble a old new c.requires.midst c.execute.result live (refs_deleted q) h.runs h.survives) }

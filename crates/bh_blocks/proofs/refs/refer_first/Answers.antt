@@ -1,24 +1,24 @@
 use Rattle.std.proofs.Common.{◌≡◌, ◌+◌, arith, ◌++◌, ◌∷◌, [], sym, subst}
 use Rattle.std.proofs.lemmas.Result.{on_ok_weaker}
-use Rattle.sqlite.specs.Held.{state}
+use Rattle.bh_base.specs.Connections.{state}
 use Rattle.bh_tables.specs.Bodies.{unneeded}
 use Rattle.bh_tables.specs.Typed.{totals_of, tables_in, raised, counted, rebodied}
-use Rattle.bh_schema.specs.Layer.{Standing, standing, IsInsideBy, HoldsBy}
-use Rattle.bh_schema.proofs.Calls.{in_midst}
+use Rattle.bh_base.specs.Layer.{Standing, standing, IsInsideBy, HoldsBy}
+use Rattle.bh_base.proofs.Calls.{in_midst}
 use Rattle.bh_blocks.specs.Named.{placed_at}
 use Rattle.bh_blocks.proofs.Garbage.{weighs_whole, referred}
 use Rattle.bh_blocks.proofs.Keeping.{still_inside}
 use Rattle.bh_blocks.proofs.refs.refer_first.Goals as goal
 
 pub add_ref-requires-clause-midst : goal.add_ref-requires-clause-midst
-add_ref-requires-clause-midst g c clean = in_midst (standing (state g.S.Store c.garbage_bytes.new.connection)) (still_inside _ _ c.in_ok-garbage.ensures.reads.within c.in_ok-garbage.ensures.reads.same c.requires.inside clean)
+add_ref-requires-clause-midst g c clean = in_midst (standing (state g.S.Store g.P.Shelf c.garbage_bytes.new.connection)) (still_inside _ _ c.in_ok-garbage.ensures.reads.within c.in_ok-garbage.ensures.reads.same c.requires.inside clean)
 
 pub returns-clause-holds : goal.returns-clause-holds
 returns-clause-holds g c = on_ok_weaker c.reweigh.result (λ reweighs clean.
-    let a = standing (state g.S.Store c.args.connection.now) in
-    let b = standing (state g.S.Store c.garbage_bytes.new.connection) in
-    let d = standing (state g.S.Store c.add_ref.new.connection) in
-    let e = standing (state g.S.Store c.reweigh.new.connection) in
+    let a = standing (state g.S.Store g.P.Shelf c.args.connection.now) in
+    let b = standing (state g.S.Store g.P.Shelf c.garbage_bytes.new.connection) in
+    let d = standing (state g.S.Store g.P.Shelf c.add_ref.new.connection) in
+    let e = standing (state g.S.Store g.P.Shelf c.reweigh.new.connection) in
     let zero = c.in_ok-garbage.ensures in
     let one = c.in_ok-add_ref.ensures in
     let mid = c.reweigh.ensures.writes.within.follows.clean clean in

@@ -1,7 +1,7 @@
 use Rattle.std.proofs.Common.{◌≡◌, ◌+◌, arith, false, sym, ap, ◌∙◌, subst}
 use Rattle.std.specs.List.{list_any}
 use Rattle.std.proofs.lemmas.Result.{on_ok_weaker}
-use Rattle.sqlite.specs.Held.{state}
+use Rattle.bh_base.specs.Connections.{state}
 use Rattle.sqlite_keyed.specs.Lists.{delete_where}
 use Rattle.bh_rows.specs.Means.{is_trouble}
 use Rattle.bh_tables.specs.Bodies.{unneeded}
@@ -10,8 +10,8 @@ use Rattle.bh_tables.specs.Shown.{Name, is_block, is_use}
 use Rattle.bh_tables.proofs.GarbageLemmas.{unneeded_without, measured_without}
 use Rattle.bh_tables.proofs.TotalLemmas.{uses_without}
 use Rattle.bh_schema.specs.Garbage.{garbage_in}
-use Rattle.bh_schema.specs.Layer.{Standing, standing, IsInsideBy, HoldsBy}
-use Rattle.bh_schema.proofs.Calls.{in_midst}
+use Rattle.bh_base.specs.Layer.{Standing, standing, IsInsideBy, HoldsBy}
+use Rattle.bh_base.proofs.Calls.{in_midst}
 use Rattle.bh_schema.proofs.Finds.{handed_on}
 use Rattle.bh_blocks.proofs.Garbage.{weighs_whole}
 use Rattle.bh_blocks.proofs.Keeping.{still_inside}
@@ -21,15 +21,15 @@ pub garbage_bytes-requires : goal.garbage_bytes-requires
 garbage_bytes-requires g c = record { inside = still_inside _ _ c.in_ok-size.ensures.reads.within c.in_ok-size.ensures.reads.same c.requires.inside }
 
 pub delete_block-requires-clause-midst : goal.delete_block-requires-clause-midst
-delete_block-requires-clause-midst g c clean = in_midst (standing (state g.S.Store c.garbage_bytes.new.connection))
+delete_block-requires-clause-midst g c clean = in_midst (standing (state g.S.Store g.P.Shelf c.garbage_bytes.new.connection))
     (still_inside _ _ c.in_ok-garbage.ensures.reads.within c.in_ok-garbage.ensures.reads.same (still_inside _ _ c.in_ok-size.ensures.reads.within c.in_ok-size.ensures.reads.same c.requires.inside) clean)
 
 pub returns-clause-removed : goal.returns-clause-removed
 returns-clause-removed g c = on_ok_weaker c.reweigh.result (λ reweighs clean.
-    let a = standing (state g.S.Store c.args.connection.now) in
-    let b = standing (state g.S.Store c.garbage_bytes.new.connection) in
-    let e = standing (state g.S.Store c.change_uses.new.connection) in
-    let f = standing (state g.S.Store c.reweigh.new.connection) in
+    let a = standing (state g.S.Store g.P.Shelf c.args.connection.now) in
+    let b = standing (state g.S.Store g.P.Shelf c.garbage_bytes.new.connection) in
+    let e = standing (state g.S.Store g.P.Shelf c.change_uses.new.connection) in
+    let f = standing (state g.S.Store g.P.Shelf c.reweigh.new.connection) in
     let zero = c.in_ok-size.ensures in
     let counts = c.in_ok-garbage.ensures in
     let one = c.in_ok-delete_block.ensures in

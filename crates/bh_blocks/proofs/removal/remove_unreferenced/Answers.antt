@@ -1,13 +1,13 @@
 use Rattle.std.proofs.Common.{◌≡◌, true, sym, ap, ◌∙◌, subst}
 use Rattle.std.specs.List.{All, AllByRecursion}
-use Rattle.sqlite.specs.Held.{state}
+use Rattle.bh_base.specs.Connections.{state}
 use Rattle.bh_rows.specs.Means.{is_trouble}
 use Rattle.bh_tables.specs.Typed.{BlockRow, tables_in}
 use Rattle.bh_tables.specs.Shown.{is_unreferenced, unreferenced, shown_name}
 use Rattle.bh_view.specs.Becomes.{KeepsBodies}
 use Rattle.bh_view.proofs.BlockChanges.{blocks_removed}
 use Rattle.bh_cache.specs.Kept.{Agrees}
-use Rattle.bh_schema.specs.Layer.{Standing, IsStateClean}
+use Rattle.bh_base.specs.Layer.{Standing, IsStateClean}
 use Rattle.bh_schema.specs.Working.{tables_at}
 use Rattle.bh_schema.proofs.Finds.{handed_on}
 use Rattle.bh_blocks.specs.Uses.{IsShownUnused}
@@ -22,7 +22,7 @@ remove_all-requires g c =
     record {
       inside = still_inside _ _ first.reads.within first.reads.same c.requires.inside;
       unused = λ clean.
-          let old = tables_at (state g.S.Store c.args.connection.now) in
+          let old = tables_at (state g.S.Store g.P.Shelf c.args.connection.now) in
           subst (λ (x : Standing). All (λ row. IsShownUnused row (tables_in x.now).refs) c.deref.result.now) (sym (first.reads.same clean.intact))
           (subst (All (λ row. IsShownUnused row old.refs)) (sym (c.deref.ensures.value ∙ first.rows clean))
           (all_shown shown_name (λ (b : BlockRow). is_unreferenced old.refs b ≡ true) (unreferenced c.args.limit old.refs old.blocks) (unreferenced_are c.args.limit old.refs old.blocks)));
@@ -30,12 +30,12 @@ remove_all-requires g c =
 
 pub returns-in_err-remove_all-clause-trouble : goal.returns-in_err-remove_all-clause-trouble
 returns-in_err-remove_all-clause-trouble g c = handed_on _ _ _ c.from_residual-in_err-remove_all.ensures (λ e same intact unlimited.
-    let old = tables_at (state g.S.Store c.args.connection.now) in
+    let old = tables_at (state g.S.Store g.P.Shelf c.args.connection.now) in
     let first = rw c.from.ensures at c.in_ok-rows.ensures in
     let then = c.in_err-remove_all.ensures in
     let before = then.within.follows.intact intact in
     let up = (first.reads.opens before).1 in
-    let clean : IsStateClean (state g.S.Store c.unreferenced_rows.new.connection) = record { intact = before; is_open = up } in
+    let clean : IsStateClean (state g.S.Store g.P.Shelf c.unreferenced_rows.new.connection) = record { intact = before; is_open = up } in
     let refs = ap (λ (x : Standing). (tables_in x.now).refs) (first.reads.same before) in
     let gone = unreferenced c.args.limit old.refs old.blocks in
     ap is_trouble same ∙ then.trouble gone (c.deref.ensures.value ∙ first.rows clean) intact (first.reads.within.follows.limit ∙ unlimited)
@@ -43,18 +43,18 @@ returns-in_err-remove_all-clause-trouble g c = handed_on _ _ _ c.from_residual-i
 
 pub returns-clause-keeps : goal.returns-clause-keeps
 returns-clause-keeps g c digest clean sound digests =
-    let old = tables_at (state g.S.Store c.args.connection.now) in
+    let old = tables_at (state g.S.Store g.P.Shelf c.args.connection.now) in
     let first = rw c.from.ensures at c.in_ok-rows.ensures in
     let then = c.in_ok-remove_all.ensures in
     let was = then.within.follows.clean clean in
-    let same : tables_at (state g.S.Store c.unreferenced_rows.new.connection) ≡ old = ap (λ (x : Standing). tables_in x.now) (first.reads.same was.intact) in
+    let same : tables_at (state g.S.Store g.P.Shelf c.unreferenced_rows.new.connection) ≡ old = ap (λ (x : Standing). tables_in x.now) (first.reads.same was.intact) in
     let gone = unreferenced c.args.limit old.refs old.blocks in
     subst (KeepsBodies digest old) (sym ((then.removed gone (c.deref.ensures.value ∙ first.rows was) clean).is ∙ ap (left gone) same))
-    (blocks_removed digest old gone (unreferenced_are c.args.limit old.refs old.blocks) sound (resolved_at (state g.S.Store c.args.connection.now)) digests)
+    (blocks_removed digest old gone (unreferenced_are c.args.limit old.refs old.blocks) sound (resolved_at (state g.S.Store g.P.Shelf c.args.connection.now)) digests)
 
 pub returns-clause-kept : goal.returns-clause-kept
 returns-clause-kept g c clean agrees =
-    let old = tables_at (state g.S.Store c.args.connection.now) in
+    let old = tables_at (state g.S.Store g.P.Shelf c.args.connection.now) in
     let first = rw c.from.ensures at c.in_ok-rows.ensures in
     let then = c.in_ok-remove_all.ensures in
     let was = then.within.follows.clean clean in

@@ -2,14 +2,17 @@ use Rattle.sqlite.specs.Held.{state}
 use Rattle.bh_tables.specs.Shown.{Name}
 use Rattle.bh_tables.proofs.BlockTexts.{block_deleted}
 use Rattle.bh_blocks.proofs.UseCalls.{block_goes, block_goes_trouble}
+use Rattle.bh_base.specs.Connections.{backing}
+use Rattle.bh_base.specs.Shown.{shown}
 use Rattle.bh_blocks.proofs.rows.delete_block.Goals as goal
 
 pub returns : goal.returns
 returns g c =
     let h = rw (c.to_sql.ensures, c.number.ensures) at c.execute.ensures in
-    let old = state g.S.Store c.args.connection.now in
+    let old = state g.S.Store c.args.connection.now.database in
+    let a = backing g.P.Shelf c.args.connection.now.packs in
     let new = state g.S.Store c.execute.new.self in
     let live = c.schema-schema.ensures.live in
     let q : Name = (c.args.digest.now, c.args.ord) in
-    let w = block_goes old new c.requires.midst c.execute.result live (block_deleted q) h.runs h.survives in
-    record { writes = record { within = w.within; opens = w.opens; midst = w.midst }; rewrites = w.rewrites; trouble = block_goes_trouble old new c.requires.midst c.execute.result live q (block_deleted q) h.runs h.survives }
+    let w = block_goes a old new c.requires.midst c.execute.result live (block_deleted q) h.runs h.survives in
+    record { writes = record { within = w.within; opens = w.opens; midst = w.midst }; rewrites = w.rewrites; trouble = block_goes_trouble a old new c.requires.midst c.execute.result live q (block_deleted q) h.runs h.survives }

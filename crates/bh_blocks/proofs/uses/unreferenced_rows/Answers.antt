@@ -1,12 +1,17 @@
 use Rattle.sqlite.specs.Held.{state}
 use Rattle.bh_tables.proofs.UnusedText.{unused_shown}
-use Rattle.bh_schema.proofs.Calls.{question, ready}
+use Rattle.bh_base.specs.Connections.{backing}
+use Rattle.bh_base.specs.Shown.{shown}
+use Rattle.bh_base.proofs.Alone.{told}
+use Rattle.bh_base.proofs.Calls.{question, ready}
 use Rattle.bh_blocks.proofs.uses.unreferenced_rows.Goals as goal
 
 pub returns : goal.returns
 returns g c =
     let h = rw c.number.ensures at c.query_all.ensures in
-    let old = state g.S.Store c.args.connection.now in
+    let old = state g.S.Store c.args.connection.now.database in
+    let a = backing g.P.Shelf c.args.connection.now.packs in
     let new = state g.S.Store c.query_all.new.self in
-    let q = question old new (λ v. v.items) _ c.query_all.result c.requires.inside (unused_shown old new (ready old c.requires.inside) c.args.limit (λ v. v.items) c.query_all.result h.ok h.err h.survives) in
+    let q = question (shown a old) (shown a new) (λ v. v.items) _ c.query_all.result c.requires.inside (told a old new (ready (shown a old) c.requires.inside) (λ v. v.items) _ c.query_all.result h.survives (λ bare.
+    unused_shown old new bare c.args.limit (λ v. v.items) c.query_all.result h.ok h.err h.survives)) in
     record { reads = record { within = q.within; opens = q.opens; same = q.same }; rows = q.rows; trouble = q.trouble }

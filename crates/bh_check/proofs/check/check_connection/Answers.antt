@@ -4,7 +4,7 @@ use Rattle.sqlite.specs.Schema.{Schema}
 use Rattle.sqlite_trees.specs.View.{IsClean}
 use Rattle.bh_tables.specs.Hosts.{tables_opened}
 use Rattle.bh_view.specs.Bodies.{IsSoundHost}
-use Rattle.bh_schema.specs.Layer.{IsStateClean}
+use Rattle.bh_base.specs.Layer.{IsStateClean}
 use Rattle.bh_stored.specs.Stored.{seen}
 use Rattle.bh_stored.specs.Stores.{KeepsTrees}
 use Rattle.bh_check.specs.Checked.{edition_with, IsChecked}

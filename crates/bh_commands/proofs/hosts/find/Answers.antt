@@ -4,6 +4,10 @@ use Rattle.bh_storage.specs.Calls.{Seen, IsAtRest}
 use Rattle.bh_view.specs.Bodies.{IsSoundHost}
 use Rattle.bh_cache.specs.Kept.{no_blocks}
 use Rattle.bh_schema.specs.Storage.{seen_in, beside}
+use Rattle.bh_bare.proofs.Bare.{seen_bare}
+use Rattle.bh_base.specs.Shown.{shown}
+use Rattle.bh_base.proofs.Lifting.{shown_clean}
+use Rattle.bh_commands.proofs.Making.{no_packs}
 use Rattle.bh_schema.proofs.Storing.{beside_agreed}
 use Rattle.bh_maintenance.specs.Found.{IsOpenedAs}
 use Rattle.bh_maintenance.proofs.Found.{is_clean, opened_as, typed_when, shows_seen, row_seen, sound_seen}
@@ -29,15 +33,16 @@ returns-in_ok-work_by_digest-in-Ok g c =
     let old = file_state c.args.connection in
     let new = file_state opened.connection in
     let found : IsOpenedAs old new = opened_as opened.limits old new it.schema it.same it.brought it.shows it.follows it.crash in
-    let shown : beside (no_blocks opened.tuning) (seen_in opened.limits new) ≡ seen_in opened.limits new = beside_agreed (no_blocks opened.tuning) (seen_in opened.limits new) refl in
+    let bare = shown no_packs new in
+    let same : beside (no_blocks opened.tuning) (seen_in opened.limits bare) ≡ seen_in opened.limits new = beside_agreed (no_blocks opened.tuning) (seen_in opened.limits bare) refl ∙ seen_bare no_packs new opened.limits in
     inr (record {
       opened = opened;
       tuned = it.given;
       row = row_seen opened.limits old new c.requires found opened.digest it.named;
       found = record {
         opened = found;
-        shows = λ clean. ap (λ (x : Seen). x.now) shown ∙ shows_seen opened.limits old new c.requires found (is_clean clean);
-        rest = λ clean. subst (IsAtRest (IsSoundHost _)) (sym shown) (it.rest _ (is_clean clean) (typed_when opened.limits old new c.requires found (is_clean clean)) (sound_seen opened.limits old new c.requires found opened.digest it.named (is_clean clean)));
+        shows = λ clean. ap (λ (x : Seen). x.now) same ∙ shows_seen opened.limits old new c.requires found (shown_clean no_packs new (is_clean clean)).0;
+        rest = λ clean. subst (IsAtRest (IsSoundHost _)) (sym same) (it.rest _ (shown_clean no_packs new (is_clean clean)).0 (typed_when opened.limits old new c.requires found (shown_clean no_packs new (is_clean clean)).0) (sound_seen opened.limits old new c.requires found opened.digest it.named (shown_clean no_packs new (is_clean clean)).0));
       };
       worked = c.in_ok-work_by_digest-in-Ok.ensures;
     })

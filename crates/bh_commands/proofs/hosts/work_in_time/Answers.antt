@@ -1,4 +1,7 @@
 use Rattle.std.proofs.Common.{inl, inr, ap, sym, ◌∙◌}
+use Rattle.sqlite_store.specs.declared.store.FileStore.{FileStore}
+use Rattle.bh_shelf.specs.declared.no_shelf.NoShelf.{NoShelf}
+use Rattle.bh_base.specs.declared.connection.Connection.{Connection}
 use Rattle.bh_commands.specs.Clocks.{leaps}
 use Rattle.bh_commands.proofs.hosts.work_in_time.Goals as goal
 
@@ -11,7 +14,7 @@ returns-then-leaps g c =
         given = c.in_ok-reading.ensures;
         leap = λ clean. ap (λ n. leaps c.args.clock.leap n c.in_ok-reading.reading) (sym (c.requires.latest clean)) ∙ sym c.leaps.ensures ∙ c.if-leaps.true;
       };
-      left = told.0 ∙ c.into_connection.ensures;
+      left = told.0 ∙ ap (λ (j : Connection (FileStore _ _) NoShelf). j.database) c.into_connection.ensures;
       line = told.1;
     })
 

@@ -1,9 +1,9 @@
 use Rattle.std.proofs.Common.{subst}
-use Rattle.sqlite.specs.Held.{state}
+use Rattle.bh_base.specs.Connections.{state}
 use Rattle.bh_tables.proofs.Creates.{second_made}
 use Rattle.bh_create.specs.Creation.{IsMaking}
 use Rattle.bh_create.proofs.tables.create_third_tables.Goals as goal
 
 pub create_item-requires : goal.create_item-requires
 create_item-requires g c clean =
-    subst (λ schema. IsMaking schema (state g.S.Store c.create_second_tables.new.connection)) second_made (c.in_ok-create_second_tables.ensures.makes.made clean)
+    subst (λ schema. IsMaking schema (state g.S.Store g.P.Shelf c.create_second_tables.new.connection)) second_made (c.in_ok-create_second_tables.ensures.makes.made clean)

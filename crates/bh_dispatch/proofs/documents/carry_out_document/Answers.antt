@@ -14,7 +14,7 @@ unfolding document_operated
 returns-in_err-state-in-PutBucketVersioning g c =
     let p = err_from_is_err_and c.from_residual.result c.from_residual.ensures.1 in
     let document = c.args.document.now in
-    rw (c.in-PutBucketVersioning.is, p.1, p.2) (unread g.S.Store c.args.connection.now c.requires.working c.args.asked.now.tenant.now (λ s. plainly (set_versioning c.in-PutBucketVersioning.bucket document s)) (λ x. x) (versioning_of document) (λ r s e. rw e refl) c.in_err-state-in-PutBucketVersioning.field-0.0 c.in_err-state-in-PutBucketVersioning.ensures)
+    rw (c.in-PutBucketVersioning.is, p.1, p.2) (unread g.S.Store g.P.Shelf c.args.connection.now c.requires.working c.args.asked.now.tenant.now (λ s. plainly (set_versioning c.in-PutBucketVersioning.bucket document s)) (λ x. x) (versioning_of document) (λ r s e. rw e refl) c.in_err-state-in-PutBucketVersioning.field-0.0 c.in_err-state-in-PutBucketVersioning.ensures)
 
 pub returns-in_ok-state-in-PutBucketVersioning : goal.returns-in_ok-state-in-PutBucketVersioning
 unfolding document_operated
@@ -22,15 +22,15 @@ returns-in_ok-state-in-PutBucketVersioning g c =
     let it = c.set_versioning in
     let at = c.in_ok-state-in-PutBucketVersioning in
     rw (c.in-PutBucketVersioning.is, c.told.ensures (λ _. answer.Done) (λ x a e. search rules))
-    (by_step g.S.Store c.args.asked.now.tenant.now c.args.connection.now it.new.connection _ _ _ (states c.in-PutBucketVersioning.bucket c.args.document.now at.state at.ensures)
-    (carried_plainly g.S.Store c.args.asked.now.tenant.now c.args.connection.now it.new.connection (λ _. answer.Done) (put_versioning c.in-PutBucketVersioning.bucket at.state) it.result it.ensures.works.within it.ensures.works.opens it.ensures.works.working it.ensures.carries))
+    (by_step g.S.Store g.P.Shelf c.args.asked.now.tenant.now c.args.connection.now it.new.connection _ _ _ (states c.in-PutBucketVersioning.bucket c.args.document.now at.state at.ensures)
+    (carried_plainly g.S.Store g.P.Shelf c.args.asked.now.tenant.now c.args.connection.now it.new.connection (λ _. answer.Done) (put_versioning c.in-PutBucketVersioning.bucket at.state) it.result it.ensures.works.within it.ensures.works.opens it.ensures.works.working it.ensures.carries))
 
 pub returns-in_err-days-in-PutLifecycle : goal.returns-in_err-days-in-PutLifecycle
 unfolding document_operated
 returns-in_err-days-in-PutLifecycle g c =
     let p = err_from_is_err_and c.from_residual-in_err-days-in-PutLifecycle.result c.from_residual-in_err-days-in-PutLifecycle.ensures.1 in
     let document = c.args.document.now in
-    rw (c.in-PutLifecycle.is, p.1, p.2) (unread g.S.Store c.args.connection.now c.requires.working c.args.asked.now.tenant.now (λ s. plainly (set_lifecycle c.in-PutLifecycle.bucket document s)) (λ x. x) (lifecycle_of document) (λ r s e. rw e refl) c.in_err-days-in-PutLifecycle.field-0.0 c.in_err-days-in-PutLifecycle.ensures)
+    rw (c.in-PutLifecycle.is, p.1, p.2) (unread g.S.Store g.P.Shelf c.args.connection.now c.requires.working c.args.asked.now.tenant.now (λ s. plainly (set_lifecycle c.in-PutLifecycle.bucket document s)) (λ x. x) (lifecycle_of document) (λ r s e. rw e refl) c.in_err-days-in-PutLifecycle.field-0.0 c.in_err-days-in-PutLifecycle.ensures)
 
 pub set_lifecycle-requires-clause-least : goal.set_lifecycle-requires-clause-least
 set_lifecycle-requires-clause-least g c = (lifecycle_range c.args.document.now c.in_ok-days-in-PutLifecycle.days c.in_ok-days-in-PutLifecycle.ensures).0
@@ -44,8 +44,8 @@ returns-in_ok-days-in-PutLifecycle g c =
     let it = c.set_lifecycle in
     let at = c.in_ok-days-in-PutLifecycle in
     rw (c.in-PutLifecycle.is, c.told-in-PutLifecycle.ensures (λ _. answer.Done) (λ x a e. search rules))
-    (by_step g.S.Store c.args.asked.now.tenant.now c.args.connection.now it.new.connection _ _ _ (ruled c.in-PutLifecycle.bucket c.args.document.now at.days at.ensures)
-    (carried_plainly g.S.Store c.args.asked.now.tenant.now c.args.connection.now it.new.connection (λ _. answer.Done) (put_lifecycle c.in-PutLifecycle.bucket at.days) it.result it.ensures.works.within it.ensures.works.opens it.ensures.works.working it.ensures.carries))
+    (by_step g.S.Store g.P.Shelf c.args.asked.now.tenant.now c.args.connection.now it.new.connection _ _ _ (ruled c.in-PutLifecycle.bucket c.args.document.now at.days at.ensures)
+    (carried_plainly g.S.Store g.P.Shelf c.args.asked.now.tenant.now c.args.connection.now it.new.connection (λ _. answer.Done) (put_lifecycle c.in-PutLifecycle.bucket at.days) it.result it.ensures.works.within it.ensures.works.opens it.ensures.works.working it.ensures.carries))
 
 pub returns-in-CompleteMultipartUpload : goal.returns-in-CompleteMultipartUpload
 unfolding document_operated
@@ -56,7 +56,7 @@ unfolding document_operated
 returns-in_err-until-in-PutRetention g c =
     let p = err_from_is_err_and c.from_residual-in_err-until-in-PutRetention.result c.from_residual-in_err-until-in-PutRetention.ensures.1 in
     let document = c.args.document.now in
-    rw (c.in-PutRetention.is, p.1, p.2) (unread g.S.Store c.args.connection.now c.requires.working c.args.asked.now.tenant.now (set_retention c.args.asked.now.at c.in-PutRetention.object.bucket c.in-PutRetention.object.key c.in-PutRetention.version document) (λ x. x) (retention_of document) (λ r s e. rw e refl) c.in_err-until-in-PutRetention.field-0.0 c.in_err-until-in-PutRetention.ensures)
+    rw (c.in-PutRetention.is, p.1, p.2) (unread g.S.Store g.P.Shelf c.args.connection.now c.requires.working c.args.asked.now.tenant.now (set_retention c.args.asked.now.at c.in-PutRetention.object.bucket c.in-PutRetention.object.key c.in-PutRetention.version document) (λ x. x) (retention_of document) (λ r s e. rw e refl) c.in_err-until-in-PutRetention.field-0.0 c.in_err-until-in-PutRetention.ensures)
 
 pub returns-in_ok-until-in-PutRetention : goal.returns-in_ok-until-in-PutRetention
 unfolding document_operated
@@ -65,5 +65,5 @@ returns-in_ok-until-in-PutRetention g c =
     let at = c.in_ok-until-in-PutRetention in
     let object = c.in-PutRetention.object in
     rw (c.in-PutRetention.is, map_is (λ _. answer.Done) _ (λ x a e. search rules) it.result c.map.result c.map.ensures.cases)
-    (by_step g.S.Store c.args.asked.now.tenant.now c.args.connection.now it.new.connection _ _ _ (dates c.args.asked.now.at object.bucket object.key c.in-PutRetention.version c.args.document.now at.until at.ensures)
-    (carried g.S.Store c.args.asked.now.tenant.now c.args.connection.now it.new.connection (λ _. answer.Done) (put_retention c.args.asked.now.at object.bucket object.key c.in-PutRetention.version at.until) it.result it.ensures.works.within it.ensures.works.opens it.ensures.works.working it.ensures.carries))
+    (by_step g.S.Store g.P.Shelf c.args.asked.now.tenant.now c.args.connection.now it.new.connection _ _ _ (dates c.args.asked.now.at object.bucket object.key c.in-PutRetention.version c.args.document.now at.until at.ensures)
+    (carried g.S.Store g.P.Shelf c.args.asked.now.tenant.now c.args.connection.now it.new.connection (λ _. answer.Done) (put_retention c.args.asked.now.at object.bucket object.key c.in-PutRetention.version at.until) it.result it.ensures.works.within it.ensures.works.opens it.ensures.works.working it.ensures.carries))

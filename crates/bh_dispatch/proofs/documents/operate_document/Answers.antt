@@ -1,6 +1,6 @@
 use Rattle.std.proofs.Common.{◌∙◌, Result, Err}
 use Rattle.std.proofs.lemmas.Result.{err_from_is_err_and}
-use Rattle.sqlite.specs.Held.{state}
+use Rattle.bh_base.specs.Connections.{state}
 use Rattle.bh_types.specs.declared.rejection.Rejection.{Rejection}
 use Rattle.bh_machine.specs.Machine.{document_operated}
 use Rattle.bh_storage.specs.Answers.{answer_view}
@@ -22,8 +22,8 @@ returns-in_err-document g c =
     let asked = c.args.asked.now in
     let result : Result (Outcome Answer Rejection) (StepError Rejection) = Err (step_rejected c.in_err-document.field-0.0) in
     rw (p.1, p.2) (record {
-      works = still g.S.Store c.args.connection.now c.requires.working (UnlessSpoilt result) (spoilt_any result);
-      operates = undocumented asked.limits asked.at asked.tenant.now c.args.operation.now _ _ _ (tables_at (state g.S.Store c.args.connection.now)) given gives c.in_err-document.field-0.0 taken;
+      works = still g.S.Store g.P.Shelf c.args.connection.now c.requires.working (UnlessSpoilt result) (spoilt_any result);
+      operates = undocumented asked.limits asked.at asked.tenant.now c.args.operation.now _ _ _ (tables_at (state g.S.Store g.P.Shelf c.args.connection.now)) given gives c.in_err-document.field-0.0 taken;
     })
 
 pub returns-in_err-answer : goal.returns-in_err-answer
@@ -33,8 +33,8 @@ returns-in_err-answer g c =
     let old = c.args.connection.now in
     let new = c.carry_out_document.new.connection in
     rw (p.1, p.2) (record {
-      works = works_err g.S.Store old new Answer Answer c.in_err-answer.field-0.0 c.in_err-answer.ensures.works;
-      operates = operates_err answer_view c.args.asked.now.tenant.now (λ document. document_operated c.args.asked.now.limits c.args.asked.now.at document c.args.operation.now) _ _ _ (tables_at (state g.S.Store old)) (tables_at (state g.S.Store new))
+      works = works_err g.S.Store g.P.Shelf old new Answer Answer c.in_err-answer.field-0.0 c.in_err-answer.ensures.works;
+      operates = operates_err answer_view c.args.asked.now.tenant.now (λ document. document_operated c.args.asked.now.limits c.args.asked.now.at document c.args.operation.now) _ _ _ (tables_at (state g.S.Store g.P.Shelf old)) (tables_at (state g.S.Store g.P.Shelf new))
           given gives taken.1 c.deref.result.now (c.deref.ensures.value ∙ taken.0) c.in_err-answer.field-0.0 c.in_err-answer.ensures.carries;
     })
 

@@ -9,11 +9,11 @@ unfolding lifecycle_operated
 returns-in-GetLifecycle g c =
     let it = c.lifecycle in
     rw (c.in-GetLifecycle.is, c.told.ensures answer.Lifecycle (λ x a e. e))
-    (carried_plainly g.S.Store c.args.tenant.now c.args.connection.now it.new.connection answer.Lifecycle (get_lifecycle c.in-GetLifecycle.bucket) it.result it.ensures.works.within it.ensures.works.opens it.ensures.works.working it.ensures.carries)
+    (carried_plainly g.S.Store g.P.Shelf c.args.tenant.now c.args.connection.now it.new.connection answer.Lifecycle (get_lifecycle c.in-GetLifecycle.bucket) it.result it.ensures.works.within it.ensures.works.opens it.ensures.works.working it.ensures.carries)
 
 pub returns-in-DeleteLifecycle : goal.returns-in-DeleteLifecycle
 unfolding lifecycle_operated
 returns-in-DeleteLifecycle g c =
     let it = c.delete_lifecycle in
     rw (c.in-DeleteLifecycle.is, c.told-in-DeleteLifecycle.ensures answer.Removed (λ x a e. e))
-    (carried_plainly g.S.Store c.args.tenant.now c.args.connection.now it.new.connection answer.Removed (delete_lifecycle c.in-DeleteLifecycle.bucket) it.result it.ensures.works.within it.ensures.works.opens it.ensures.works.working it.ensures.carries)
+    (carried_plainly g.S.Store g.P.Shelf c.args.tenant.now c.args.connection.now it.new.connection answer.Removed (delete_lifecycle c.in-DeleteLifecycle.bucket) it.result it.ensures.works.within it.ensures.works.opens it.ensures.works.working it.ensures.carries)

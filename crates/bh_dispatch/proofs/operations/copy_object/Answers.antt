@@ -9,4 +9,4 @@ returns g c =
     let object = c.args.object.now in
     let source = c.args.source.now in
     rw (c.told.ensures answer.Copied (λ x a e. e))
-    (carried_plainly g.S.Store c.args.asked.now.tenant.now c.args.connection.now it.new.connection answer.Copied (copy_object c.args.asked.now.at object.bucket object.key source.object.bucket source.object.key source.version c.args.date) it.result it.ensures.works.within it.ensures.works.opens it.ensures.works.working it.ensures.carries)
+    (carried_plainly g.S.Store g.P.Shelf c.args.asked.now.tenant.now c.args.connection.now it.new.connection answer.Copied (copy_object c.args.asked.now.at object.bucket object.key source.object.bucket source.object.key source.version c.args.date) it.result it.ensures.works.within it.ensures.works.opens it.ensures.works.working it.ensures.carries)

@@ -1,5 +1,5 @@
 use Rattle.std.proofs.lemmas.Result.{err_from_is_err_and}
-use Rattle.sqlite.specs.Held.{state}
+use Rattle.bh_base.specs.Connections.{state}
 use Rattle.bh_http.proofs.BodyLemmas.{breaks_may}
 use Rattle.bh_storage.specs.declared.answer.Offer.{Offer}
 use Rattle.bh_schema.specs.Working.{tables_at}
@@ -12,7 +12,7 @@ pub returns-in-Err-clause-found : goal.returns-in-Err-clause-found
 returns-in-Err-clause-found g c =
     let (given, gives) = c.drain.ensures.some in
     record {
-      works = still g.S.Store c.args.connection.now c.requires.working _ (λ P p. tt);
+      works = still g.S.Store g.P.Shelf c.args.connection.now c.requires.working _ (λ P p. tt);
       operates = record { given = given; gives = gives; decided = breaks_may _ c.in-Err.ensures.broken; carries = λ _. tt };
     }
 
@@ -22,10 +22,10 @@ returns-in_err-found-in-Ok-clause-found g c =
     let (given, gives) = c.drain.ensures.some in
     let h = c.in_err-found-in-Ok.ensures in
     let error = c.in_err-found-in-Ok.field-0.0 in
-    let new = tables_at (state g.S.Store c.get_object.new.connection) in
+    let new = tables_at (state g.S.Store g.P.Shelf c.get_object.new.connection) in
     rw (p.1, p.2) (record {
       works = record { within = h.works.within; opens = spoilt_err Offer error _ h.works.opens; working = spoilt_err Offer error _ h.works.working };
-      operates = found_err new new c.args.tenant.now _ _ _ _ (tables_at (state g.S.Store c.args.connection.now)) new given gives c.in-Ok.ensures.whole error h.carries;
+      operates = found_err new new c.args.tenant.now _ _ _ _ (tables_at (state g.S.Store g.P.Shelf c.args.connection.now)) new given gives c.in-Ok.ensures.whole error h.carries;
     })
 
 pub returns-in_ok-found-in-Ok-clause-found : goal.returns-in_ok-found-in-Ok-clause-found

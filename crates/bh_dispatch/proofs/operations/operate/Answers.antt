@@ -1,4 +1,4 @@
-use Rattle.sqlite.specs.Held.{state}
+use Rattle.bh_base.specs.Connections.{state}
 use Rattle.bh_machine.specs.Machine.{operated}
 use Rattle.bh_storage.specs.Answers.{answer_view, offer_view}
 use Rattle.bh_schema.specs.Working.{tables_at}
@@ -11,13 +11,13 @@ pub returns-in-GetObject-clause-operated : goal.returns-in-GetObject-clause-oper
 unfolding operated
 returns-in-GetObject-clause-operated g c =
     let it = c.get_object in
-    rw c.in-GetObject.is (operates_by_any g.S.Store c.args.connection.now it.new.connection g.D.Digester.digest_of (offer_view (tables_at (state g.S.Store it.new.connection))) c.args.tenant.now _ (λ _. Unit {0}) _ _ it.result (λ _. tt)
+    rw c.in-GetObject.is (operates_by_any g.S.Store g.P.Shelf c.args.connection.now it.new.connection g.D.Digester.digest_of (offer_view (tables_at (state g.S.Store g.P.Shelf it.new.connection))) c.args.tenant.now _ (λ _. Unit {0}) _ _ it.result (λ _. tt)
     (rw c.bytes_of.ensures at it.ensures.found))
 
 pub returns-in-GetObject-clause-kept : goal.returns-in-GetObject-clause-kept
 returns-in-GetObject-clause-kept g c =
     let it = c.get_object in
-    kept_operated c.args.blocks.now.cache.now (offer_view (tables_at (state g.S.Store it.new.connection))) c.args.tenant.now _ (λ _. Unit {0}) _ _ it.result (state g.S.Store c.args.connection.now) (state g.S.Store it.new.connection) (λ clean. c.requires.blocks.kept (it.ensures.found.works.within.follows.clean clean))
+    kept_operated c.args.blocks.now.cache.now (offer_view (tables_at (state g.S.Store g.P.Shelf it.new.connection))) c.args.tenant.now _ (λ _. Unit {0}) _ _ it.result (state g.S.Store g.P.Shelf c.args.connection.now) (state g.S.Store g.P.Shelf it.new.connection) (λ clean. c.requires.blocks.kept (it.ensures.found.works.within.follows.clean clean))
     (stores_no_object _ _ _ _ _ _ _ _ it.result it.ensures.found.operates)
 
 pub returns-in-Bare : goal.returns-in-Bare
@@ -27,10 +27,10 @@ returns-in-Bare g c =
     let old = c.args.connection.now in
     let new = it.new.connection in
     rw (c.in-Bare.is, c.offered.ensures) (record {
-      operated = offered_on g.S.Store c.args.tenant.now old new _ _ _ it.result g.D.Digester.digest_of _
-          (operates_by_any g.S.Store old new g.D.Digester.digest_of answer_view c.args.tenant.now _ _ _ _ it.result (λ _. tt) it.ensures);
+      operated = offered_on g.S.Store g.P.Shelf c.args.tenant.now old new _ _ _ it.result g.D.Digester.digest_of _
+          (operates_by_any g.S.Store g.P.Shelf old new g.D.Digester.digest_of answer_view c.args.tenant.now _ _ _ _ it.result (λ _. tt) it.ensures);
       measured = offered_plans it.result _;
-      kept = keeps_blocks g.S.Store c.args.tenant.now old new _ _ _ it.result c.args.blocks.now.cache.now c.requires.blocks.kept it.ensures;
+      kept = keeps_blocks g.S.Store g.P.Shelf c.args.tenant.now old new _ _ _ it.result c.args.blocks.now.cache.now c.requires.blocks.kept it.ensures;
     })
 
 pub returns-in-ByDocument : goal.returns-in-ByDocument
@@ -40,10 +40,10 @@ returns-in-ByDocument g c =
     let old = c.args.connection.now in
     let new = it.new.connection in
     rw (c.in-ByDocument.is, c.offered-in-ByDocument.ensures) (record {
-      operated = offered_on g.S.Store c.args.tenant.now old new _ _ _ it.result g.D.Digester.digest_of _
-          (operates_by_any g.S.Store old new g.D.Digester.digest_of answer_view c.args.tenant.now _ _ _ _ it.result (λ _. tt) it.ensures);
+      operated = offered_on g.S.Store g.P.Shelf c.args.tenant.now old new _ _ _ it.result g.D.Digester.digest_of _
+          (operates_by_any g.S.Store g.P.Shelf old new g.D.Digester.digest_of answer_view c.args.tenant.now _ _ _ _ it.result (λ _. tt) it.ensures);
       measured = offered_plans it.result _;
-      kept = keeps_blocks g.S.Store c.args.tenant.now old new _ _ _ it.result c.args.blocks.now.cache.now c.requires.blocks.kept it.ensures;
+      kept = keeps_blocks g.S.Store g.P.Shelf c.args.tenant.now old new _ _ _ it.result c.args.blocks.now.cache.now c.requires.blocks.kept it.ensures;
     })
 
 pub returns-in-Store : goal.returns-in-Store
@@ -51,7 +51,7 @@ unfolding operated
 returns-in-Store g c =
     let it = c.operate_store in
     rw (c.in-Store.is, c.offered-in-Store.ensures) (record {
-      operated = offered_on g.S.Store c.args.tenant.now c.args.connection.now it.new.connection _ _ _ it.result g.D.Digester.digest_of _ it.ensures.operated;
+      operated = offered_on g.S.Store g.P.Shelf c.args.tenant.now c.args.connection.now it.new.connection _ _ _ it.result g.D.Digester.digest_of _ it.ensures.operated;
       measured = offered_plans it.result _;
       kept = offered_spoilt it.result _ it.ensures.kept;
     })

@@ -1,6 +1,6 @@
 use Rattle.std.proofs.Common.{refl}
 use Rattle.std.proofs.lemmas.Result.{err_from_is_err_and}
-use Rattle.sqlite.specs.Held.{state}
+use Rattle.bh_base.specs.Connections.{state}
 use Rattle.bh_http.proofs.BodyLemmas.{breaks_may}
 use Rattle.bh_machine.specs.Machine.{bare_operated}
 use Rattle.bh_storage.specs.Answers.{answer_view}
@@ -14,7 +14,7 @@ pub returns-in-Err : goal.returns-in-Err
 returns-in-Err g c =
     let (given, gives) = c.drain.ensures.some in
     record {
-      works = still g.S.Store c.args.connection.now c.requires.working _ (λ P p. tt);
+      works = still g.S.Store g.P.Shelf c.args.connection.now c.requires.working _ (λ P p. tt);
       operates = record { given = given; gives = gives; decided = breaks_may _ c.in-Err.ensures.broken; carries = λ _. tt };
     }
 
@@ -26,8 +26,8 @@ returns-in_err-answer-in-Ok g c =
     let old = c.args.connection.now in
     let new = c.carry_out.new.connection in
     rw (p.1, p.2) (record {
-      works = works_err g.S.Store old new Answer Answer c.in_err-answer-in-Ok.field-0.0 h.works;
-      operates = operates_err answer_view c.args.asked.now.tenant.now (λ _. bare_operated c.args.asked.now.at c.args.operation.now) _ _ _ (tables_at (state g.S.Store old)) (tables_at (state g.S.Store new))
+      works = works_err g.S.Store g.P.Shelf old new Answer Answer c.in_err-answer-in-Ok.field-0.0 h.works;
+      operates = operates_err answer_view c.args.asked.now.tenant.now (λ _. bare_operated c.args.asked.now.at c.args.operation.now) _ _ _ (tables_at (state g.S.Store g.P.Shelf old)) (tables_at (state g.S.Store g.P.Shelf new))
           given gives c.in-Ok.ensures.whole given refl c.in_err-answer-in-Ok.field-0.0 h.carries;
     })
 

@@ -1,5 +1,5 @@
 use Rattle.std.proofs.Common.{rules}
-use Rattle.sqlite.specs.Held.{state}
+use Rattle.bh_base.specs.Connections.{state}
 use Rattle.bh_machine.specs.Machine.{store_operated}
 use Rattle.bh_model.specs.Operations.{put_object}
 use Rattle.bh_model.specs.Uploads.{upload_part}
@@ -15,7 +15,7 @@ pub put_object-stored-requires : goal.put_object-stored-requires
 put_object-stored-requires g c = record {
   may = record {
     working = search rules;
-    copies = λ clean. copies c.args.blocks.now.cache.now (tables_at (state g.S.Store c.args.connection.now)).blocks (c.requires.working clean).sound.stored.once (c.requires.blocks.kept clean);
+    copies = λ clean. copies c.args.blocks.now.cache.now (tables_at (state g.S.Store g.P.Shelf c.args.connection.now)).blocks (c.requires.working clean).sound.stored.once (c.requires.blocks.kept clean);
     digests = search rules;
     positive = search rules;
     early = search rules;
@@ -27,7 +27,7 @@ pub put_part-stored-requires : goal.put_part-stored-requires
 put_part-stored-requires g c = record {
   may = record {
     working = search rules;
-    copies = λ clean. copies c.args.blocks.now.cache.now (tables_at (state g.S.Store c.args.connection.now)).blocks (c.requires.working clean).sound.stored.once (c.requires.blocks.kept clean);
+    copies = λ clean. copies c.args.blocks.now.cache.now (tables_at (state g.S.Store g.P.Shelf c.args.connection.now)).blocks (c.requires.working clean).sound.stored.once (c.requires.blocks.kept clean);
     digests = search rules;
     positive = search rules;
     early = search rules;
@@ -40,11 +40,11 @@ unfolding store_operated
 returns-in-PutObject g c =
     let it = c.put_object-stored in
     let at = c.in-PutObject in
-    let done = received g.S.Store c.args.asked.now.tenant.now c.args.connection.now it.new.connection answer.Stored g.D.Digester.digest_of (λ bytes. put_object c.args.asked.now.at at.object.bucket at.object.key bytes at.checksum at.date) _ _ _ it.result it.ensures.works.within it.ensures.works.opens it.ensures.works.working
+    let done = received g.S.Store g.P.Shelf c.args.asked.now.tenant.now c.args.connection.now it.new.connection answer.Stored g.D.Digester.digest_of (λ bytes. put_object c.args.asked.now.at at.object.bucket at.object.key bytes at.checksum at.date) _ _ _ it.result it.ensures.works.within it.ensures.works.opens it.ensures.works.working
     (rw c.bytes_of-given.ensures at it.ensures.operates) in
     rw (at.is, c.received.ensures answer.Stored (λ x a e. e)) (record {
       operated = done;
-      kept = kept_operated c.args.blocks.now.cache.now answer_view _ _ _ _ _ _ (state g.S.Store c.args.connection.now) (state g.S.Store it.new.connection) (λ clean. c.requires.blocks.kept (it.ensures.works.within.follows.clean clean)) done.operates;
+      kept = kept_operated c.args.blocks.now.cache.now answer_view _ _ _ _ _ _ (state g.S.Store g.P.Shelf c.args.connection.now) (state g.S.Store g.P.Shelf it.new.connection) (λ clean. c.requires.blocks.kept (it.ensures.works.within.follows.clean clean)) done.operates;
     })
 
 pub returns-in-UploadPart : goal.returns-in-UploadPart
@@ -52,9 +52,9 @@ unfolding store_operated
 returns-in-UploadPart g c =
     let it = c.put_part-stored in
     let at = c.in-UploadPart in
-    let done = received g.S.Store c.args.asked.now.tenant.now c.args.connection.now it.new.connection answer.PartStored g.D.Digester.digest_of (λ bytes. upload_part c.args.asked.now.at at.object.bucket at.object.key at.upload at.number bytes at.checksum) _ _ _ it.result it.ensures.works.within it.ensures.works.opens it.ensures.works.working
+    let done = received g.S.Store g.P.Shelf c.args.asked.now.tenant.now c.args.connection.now it.new.connection answer.PartStored g.D.Digester.digest_of (λ bytes. upload_part c.args.asked.now.at at.object.bucket at.object.key at.upload at.number bytes at.checksum) _ _ _ it.result it.ensures.works.within it.ensures.works.opens it.ensures.works.working
     (rw c.bytes_of-given-in-UploadPart.ensures at it.ensures.operates) in
     rw (at.is, c.received-in-UploadPart.ensures answer.PartStored (λ x a e. e)) (record {
       operated = done;
-      kept = kept_operated c.args.blocks.now.cache.now answer_view _ _ _ _ _ _ (state g.S.Store c.args.connection.now) (state g.S.Store it.new.connection) (λ clean. c.requires.blocks.kept (it.ensures.works.within.follows.clean clean)) done.operates;
+      kept = kept_operated c.args.blocks.now.cache.now answer_view _ _ _ _ _ _ (state g.S.Store g.P.Shelf c.args.connection.now) (state g.S.Store g.P.Shelf it.new.connection) (λ clean. c.requires.blocks.kept (it.ensures.works.within.follows.clean clean)) done.operates;
     })

@@ -14,6 +14,6 @@ returns g c =
     let object = c.args.object.now in
     let named = c.in_ok-named.named.items in
     rw (c.told.ensures answer.Completed (λ x a e. e))
-    (by_step g.S.Store c.args.asked.now.tenant.now c.args.connection.now it.new.connection _ _ _ (finishes asked.limits asked.at object.bucket object.key c.args.upload c.args.document.now named c.in_ok-named.ensures)
-    (carried_plainly g.S.Store c.args.asked.now.tenant.now c.args.connection.now it.new.connection answer.Completed (complete_upload asked.at asked.limits.min_part object.bucket object.key c.args.upload (map naming_of named)) it.result it.ensures.works.within it.ensures.works.opens it.ensures.works.working
+    (by_step g.S.Store g.P.Shelf c.args.asked.now.tenant.now c.args.connection.now it.new.connection _ _ _ (finishes asked.limits asked.at object.bucket object.key c.args.upload c.args.document.now named c.in_ok-named.ensures)
+    (carried_plainly g.S.Store g.P.Shelf c.args.asked.now.tenant.now c.args.connection.now it.new.connection answer.Completed (complete_upload asked.at asked.limits.min_part object.bucket object.key c.args.upload (map naming_of named)) it.result it.ensures.works.within it.ensures.works.opens it.ensures.works.working
     (rw (sym c.limits.view_is, sym c.deref.ensures.value) it.ensures.carries)))

@@ -9,4 +9,4 @@ returns g c =
     let object = c.args.object.now in
     let page = c.args.page in
     rw (c.told.ensures answer.Parts (λ x a e. e))
-    (carried_plainly g.S.Store c.args.tenant.now c.args.connection.now it.new.connection answer.Parts (list_parts object.bucket object.key c.args.upload page.size page.after) it.result it.ensures.within it.ensures.opens it.ensures.working it.ensures.carries)
+    (carried_plainly g.S.Store g.P.Shelf c.args.tenant.now c.args.connection.now it.new.connection answer.Parts (list_parts object.bucket object.key c.args.upload page.size page.after) it.result it.ensures.within it.ensures.opens it.ensures.working it.ensures.carries)

@@ -10,7 +10,7 @@ returns-in-CreateMultipartUpload g c =
     let it = c.begin_upload in
     let object = c.in-CreateMultipartUpload.object in
     rw (c.in-CreateMultipartUpload.is, c.told.ensures answer.Begun (λ x a e. e))
-    (carried_plainly g.S.Store c.args.asked.now.tenant.now c.args.connection.now it.new.connection answer.Begun (create_upload c.args.asked.now.at object.bucket object.key) it.result it.ensures.works.within it.ensures.works.opens it.ensures.works.working it.ensures.carries)
+    (carried_plainly g.S.Store g.P.Shelf c.args.asked.now.tenant.now c.args.connection.now it.new.connection answer.Begun (create_upload c.args.asked.now.at object.bucket object.key) it.result it.ensures.works.within it.ensures.works.opens it.ensures.works.working it.ensures.carries)
 
 pub returns-in-ListParts : goal.returns-in-ListParts
 unfolding upload_operated
@@ -22,4 +22,4 @@ returns-in-AbortMultipartUpload g c =
     let it = c.abort_upload in
     let object = c.in-AbortMultipartUpload.object in
     rw (c.in-AbortMultipartUpload.is, c.told-in-AbortMultipartUpload.ensures answer.Removed (λ x a e. e))
-    (carried_plainly g.S.Store c.args.asked.now.tenant.now c.args.connection.now it.new.connection answer.Removed (abort_upload object.bucket object.key c.in-AbortMultipartUpload.upload) it.result it.ensures.works.within it.ensures.works.opens it.ensures.works.working it.ensures.carries)
+    (carried_plainly g.S.Store g.P.Shelf c.args.asked.now.tenant.now c.args.connection.now it.new.connection answer.Removed (abort_upload object.bucket object.key c.in-AbortMultipartUpload.upload) it.result it.ensures.works.within it.ensures.works.opens it.ensures.works.working it.ensures.carries)

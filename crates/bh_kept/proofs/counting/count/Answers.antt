@@ -1,5 +1,5 @@
 use Rattle.std.proofs.Common.{◌∙◌}
-use Rattle.bh_schema.specs.Connections.{stands}
+use Rattle.bh_base.specs.Connections.{stands}
 use Rattle.bh_kept.proofs.Held.{if_some}
 use Rattle.bh_kept.proofs.Looking.{back_same}
 use Rattle.bh_kept.proofs.counting.count.Goals as goal
@@ -14,7 +14,7 @@ pub returns-clause-back : goal.returns-clause-back
 returns-clause-back g c clean =
     let saw = c.look-counted.ensures.within in
     let back = c.take_back.ensures in
-    back.back clean ∙ back_same (stands g.S.Store c.args.connection.now) (stands g.S.Store c.look-counted.new.connection) (saw.kept (back.follows.clean clean)) saw.follows.limit
+    back.back clean ∙ back_same (stands g.S.Store g.P.Shelf c.args.connection.now) (stands g.S.Store g.P.Shelf c.look-counted.new.connection) (saw.kept (back.follows.clean clean)) saw.follows.limit
 
 pub returns-clause-survives : goal.returns-clause-survives
 returns-clause-survives g c intact db may = c.look-counted.ensures.survives (c.take_back.ensures.follows.intact intact) db (c.take_back.ensures.survives intact db may)

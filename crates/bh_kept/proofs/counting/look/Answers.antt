@@ -1,21 +1,21 @@
 use Rattle.std.proofs.Common.{ap, ◌∙◌}
-use Rattle.sqlite.specs.Held.{state}
+use Rattle.bh_base.specs.Connections.{state}
 use Rattle.bh_tables.specs.Typed.{tables_in}
-use Rattle.bh_schema.specs.Connections.{stands}
+use Rattle.bh_base.specs.Connections.{stands}
 use Rattle.bh_schema.specs.Garbage.{garbage_in}
-use Rattle.bh_schema.specs.Layer.{Standing}
+use Rattle.bh_base.specs.Layer.{Standing}
 use Rattle.bh_schema.proofs.Storing.{within_then}
 use Rattle.bh_kept.proofs.Looking.{begun_inside, if_ok}
 use Rattle.bh_kept.proofs.counting.look.Goals as goal
 
 pub garbage_bytes-requires : goal.garbage_bytes-requires
 garbage_bytes-requires g c = record {
-  inside = λ clean. begun_inside (stands g.S.Store c.args.connection.now) (stands g.S.Store c.begin.new.connection) (c.requires (c.begin.ensures.within.follows.clean clean)) (c.in-Ok.ensures.begins clean.intact);
+  inside = λ clean. begun_inside (stands g.S.Store g.P.Shelf c.args.connection.now) (stands g.S.Store g.P.Shelf c.begin.new.self) (c.requires (c.begin.ensures.within.follows.clean clean)) (c.in-Ok.ensures.begins clean.intact);
 }
 
 pub returns-in-Ok-clause-within : goal.returns-in-Ok-clause-within
 returns-in-Ok-clause-within g c =
-    within_then (state g.S.Store c.args.connection.now) (state g.S.Store c.begin.new.connection) (state g.S.Store c.garbage_bytes.new.connection) (λ intact up. (c.in-Ok.ensures.opens intact).1) c.begin.ensures.within
+    within_then (state g.S.Store g.P.Shelf c.args.connection.now) (state g.S.Store g.P.Shelf c.begin.new.self) (state g.S.Store g.P.Shelf c.garbage_bytes.new.connection) (λ intact up. (c.in-Ok.ensures.opens intact).1) c.begin.ensures.within
     c.garbage_bytes.ensures.reads.within
 
 pub returns-in-Ok-clause-survives : goal.returns-in-Ok-clause-survives

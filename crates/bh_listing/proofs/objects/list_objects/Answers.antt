@@ -1,5 +1,5 @@
 use Rattle.std.proofs.Common.{◌∙◌}
-use Rattle.sqlite.specs.Held.{state}
+use Rattle.bh_base.specs.Connections.{state}
 use Rattle.bh_schema.specs.Working.{tables_at}
 use Rattle.bh_objects.proofs.Working.{same_tables, asked_working, works_on, works_then}
 use Rattle.bh_docs.specs.Pages.{page_view}
@@ -11,9 +11,9 @@ use Rattle.bh_listing.proofs.objects.list_objects.Goals as goal
 
 pub returns-clause-carries : goal.returns-clause-carries
 returns-clause-carries g c clean =
-    let old = state g.S.Store c.args.connection.now in
-    let middle = state g.S.Store c.bucket_state.new.connection in
-    let new = state g.S.Store c.gather_objects.new.connection in
+    let old = state g.S.Store g.P.Shelf c.args.connection.now in
+    let middle = state g.S.Store g.P.Shelf c.bucket_state.new.connection in
+    let new = state g.S.Store g.P.Shelf c.gather_objects.new.connection in
     let before = c.in_ok-entries.ensures.reads.within.follows.clean clean in
     let one = c.in_ok-bucket_state.ensures.decides before in
     list_step (tables_at old) (tables_at new) c.args.tenant.now c.args.bucket.now (asked_view c.args.asked.now) (token_of c.args.asked.now) (page_view c.in_ok-tell.field-0)
@@ -27,8 +27,8 @@ gather_objects-requires g c = record { working = λ clean. (c.in_ok-bucket_state
 
 pub returns-clause-working : goal.returns-clause-working
 returns-clause-working g c clean =
-    let old = state g.S.Store c.args.connection.now in
-    let middle = state g.S.Store c.bucket_state.new.connection in
-    let new = state g.S.Store c.gather_objects.new.connection in
+    let old = state g.S.Store g.P.Shelf c.args.connection.now in
+    let middle = state g.S.Store g.P.Shelf c.bucket_state.new.connection in
+    let new = state g.S.Store g.P.Shelf c.gather_objects.new.connection in
     works_then old middle new (c.in_ok-bucket_state.ensures.works.working (c.in_ok-entries.ensures.reads.within.follows.clean clean))
     (asked_working middle new (λ up. works_on old middle (c.in_ok-bucket_state.ensures.works.working up)) c.in_ok-entries.ensures.reads.within c.in_ok-entries.ensures.reads.same clean)

@@ -1,5 +1,5 @@
 use Rattle.std.proofs.Common.{rules, ◌≤◌, ◌<◌, ℕ, ap, ◌∙◌, subst, arith, map}
-use Rattle.sqlite.specs.Held.{state}
+use Rattle.bh_base.specs.Connections.{state}
 use Rattle.bh_tables.specs.Typed.{Tables}
 use Rattle.bh_schema.specs.Working.{tables_at}
 use Rattle.bh_objects.proofs.Working.{same_tables}
@@ -13,7 +13,7 @@ use Rattle.bh_listing.proofs.versions.gather_versions.Goals as goal
 
 pub reading-init : goal.reading-init
 reading-init g c =
-    let old = state g.S.Store c.args.connection.now in
+    let old = state g.S.Store g.P.Shelf c.args.connection.now in
     record {
       far = none_so_far old c.requires.working;
       count = c.begin-reading.ensures.count;
@@ -22,7 +22,7 @@ reading-init g c =
     }
 
 pub lines_at-requires-clause-inside : goal.lines_at-requires-clause-inside
-lines_at-requires-clause-inside g c = still_inside (state g.S.Store c.args.connection.now) (state g.S.Store c.reading.connection) c.requires.working c.reading.invariant.far
+lines_at-requires-clause-inside g c = still_inside (state g.S.Store g.P.Shelf c.args.connection.now) (state g.S.Store g.P.Shelf c.reading.connection) c.requires.working c.reading.invariant.far
 
 pub lines_at-requires-clause-small : goal.lines_at-requires-clause-small
 lines_at-requires-clause-small g c = low c.reading.reading.count c.reading.invariant.count.few
@@ -31,19 +31,19 @@ lines_at-requires-clause-small g c = low c.reading.reading.count c.reading.invar
     low n h = omega (arith, h)
 
 pub returns-in_err-lines-clause-reads : goal.returns-in_err-lines-clause-reads
-returns-in_err-lines-clause-reads g c = record { within = within_so_far (state g.S.Store c.args.connection.now) (state g.S.Store c.reading.connection) (state g.S.Store c.lines_at.new.connection) c.reading.invariant.far c.in_err-lines.ensures.reads.within; opens = search rules; same = search rules }
+returns-in_err-lines-clause-reads g c = record { within = within_so_far (state g.S.Store g.P.Shelf c.args.connection.now) (state g.S.Store g.P.Shelf c.reading.connection) (state g.S.Store g.P.Shelf c.lines_at.new.connection) c.reading.invariant.far c.in_err-lines.ensures.reads.within; opens = search rules; same = search rules }
 
 pub returns-in_err-take-clause-reads : goal.returns-in_err-take-clause-reads
-returns-in_err-take-clause-reads g c = record { within = within_so_far (state g.S.Store c.args.connection.now) (state g.S.Store c.reading.connection) (state g.S.Store c.lines_at.new.connection) c.reading.invariant.far c.in_ok-lines.ensures.reads.within; opens = search rules; same = search rules }
+returns-in_err-take-clause-reads g c = record { within = within_so_far (state g.S.Store g.P.Shelf c.args.connection.now) (state g.S.Store g.P.Shelf c.reading.connection) (state g.S.Store g.P.Shelf c.lines_at.new.connection) c.reading.invariant.far c.in_ok-lines.ensures.reads.within; opens = search rules; same = search rules }
 
 pub returns-then-branch-clause-reads : goal.returns-then-branch-clause-reads
 returns-then-branch-clause-reads g c =
-    let far = more_so_far (state g.S.Store c.args.connection.now) (state g.S.Store c.reading.connection) (state g.S.Store c.lines_at.new.connection) c.reading.invariant.far c.in_ok-lines.ensures.reads.within c.in_ok-lines.ensures.reads.opens c.in_ok-lines.ensures.reads.same in
+    let far = more_so_far (state g.S.Store g.P.Shelf c.args.connection.now) (state g.S.Store g.P.Shelf c.reading.connection) (state g.S.Store g.P.Shelf c.lines_at.new.connection) c.reading.invariant.far c.in_ok-lines.ensures.reads.within c.in_ok-lines.ensures.reads.opens c.in_ok-lines.ensures.reads.same in
     record { within = far.within; opens = far.opens; same = far.same }
 
 pub returns-then-branch-clause-gathered : goal.returns-then-branch-clause-gathered
 returns-then-branch-clause-gathered g c = λ clean.
-    let old = state g.S.Store c.args.connection.now in
+    let old = state g.S.Store g.P.Shelf c.args.connection.now in
     let before = c.in_ok-lines.ensures.reads.within.follows.clean clean in
     let sound = (c.requires.working (c.reading.invariant.far.within.follows.clean before)).sound in
     let small = small_keys (tables_at old) sound in
@@ -51,18 +51,18 @@ returns-then-branch-clause-gathered g c = λ clean.
     let rows = under_rows c.args.asked.now c.args.tenant.now c.args.bucket.now (tables_at old).versions in
     let listing = listed_from c.args.asked.now (seen_start c.args.start) (own_rows c.args.tenant.now c.args.bucket.now (tables_at old).versions) in
     let had = c.reading.invariant.read before in
-    let are = lines_are c.args.asked.now c.args.tenant.now c.args.bucket.now (tables_at (state g.S.Store c.reading.connection)).versions (tables_at old).versions c.reading.reading.place.key.items c.reading.reading.place.after
+    let are = lines_are c.args.asked.now c.args.tenant.now c.args.bucket.now (tables_at (state g.S.Store g.P.Shelf c.reading.connection)).versions (tables_at old).versions c.reading.reading.place.key.items c.reading.reading.place.after
     c.in_ok-upto.upto.items c.as_slice.result.now c.in_ok-lines.lines.items c.as_slice-in-reading.result.now c.reading.reading.count c.as_slice.ensures.value c.in_ok-upto.ensures c.as_slice-in-reading.ensures.value
-    (ap (λ (t : Tables). t.versions) (same_tables old (state g.S.Store c.reading.connection) (c.reading.invariant.far.same before.intact))) (c.in_ok-lines.ensures.lines clean _ (placed c.args.tenant.now c.args.bucket.now c.reading.reading.place.key.items c.reading.reading.place.after c.as_slice.result.now c.reading.reading.count (tables_at (state g.S.Store c.reading.connection)))) in
+    (ap (λ (t : Tables). t.versions) (same_tables old (state g.S.Store g.P.Shelf c.reading.connection) (c.reading.invariant.far.same before.intact))) (c.in_ok-lines.ensures.lines clean _ (placed c.args.tenant.now c.args.bucket.now c.reading.reading.place.key.items c.reading.reading.place.after c.as_slice.result.now c.reading.reading.count (tables_at (state g.S.Store g.P.Shelf c.reading.connection)))) in
     let next = are_next c.args.asked.now c.args.tenant.now c.args.bucket.now (tables_at old).versions small listing c.reading.reading had c.as_slice-in-reading.result.now are in
     let took = c.in_ok-take.ensures.took rows listing (are_rows c.args.asked.now c.args.tenant.now c.args.bucket.now (tables_at old).versions small strict) had next in
     ap (λ v. map seen_entry v.items) c.into_entries.ensures ∙ subst (λ e. Stands e c.args.asked.now rows listing c.take.new.self) c.if-branch.true took
 
 pub reading-preserved : goal.reading-preserved
 reading-preserved g c =
-    let old = state g.S.Store c.args.connection.now in
+    let old = state g.S.Store g.P.Shelf c.args.connection.now in
     record {
-      far = more_so_far old (state g.S.Store c.reading.connection) (state g.S.Store c.lines_at.new.connection) c.reading.invariant.far c.in_ok-lines.ensures.reads.within c.in_ok-lines.ensures.reads.opens c.in_ok-lines.ensures.reads.same;
+      far = more_so_far old (state g.S.Store g.P.Shelf c.reading.connection) (state g.S.Store g.P.Shelf c.lines_at.new.connection) c.reading.invariant.far c.in_ok-lines.ensures.reads.within c.in_ok-lines.ensures.reads.opens c.in_ok-lines.ensures.reads.same;
       count = c.in_ok-take.ensures.count c.reading.invariant.count;
       read = λ clean.
           let before = c.in_ok-lines.ensures.reads.within.follows.clean clean in
@@ -72,9 +72,9 @@ reading-preserved g c =
           let rows = under_rows c.args.asked.now c.args.tenant.now c.args.bucket.now (tables_at old).versions in
           let listing = listed_from c.args.asked.now (seen_start c.args.start) (own_rows c.args.tenant.now c.args.bucket.now (tables_at old).versions) in
           let had = c.reading.invariant.read before in
-          let are = lines_are c.args.asked.now c.args.tenant.now c.args.bucket.now (tables_at (state g.S.Store c.reading.connection)).versions (tables_at old).versions c.reading.reading.place.key.items c.reading.reading.place.after
+          let are = lines_are c.args.asked.now c.args.tenant.now c.args.bucket.now (tables_at (state g.S.Store g.P.Shelf c.reading.connection)).versions (tables_at old).versions c.reading.reading.place.key.items c.reading.reading.place.after
           c.in_ok-upto.upto.items c.as_slice.result.now c.in_ok-lines.lines.items c.as_slice-in-reading.result.now c.reading.reading.count c.as_slice.ensures.value c.in_ok-upto.ensures c.as_slice-in-reading.ensures.value
-          (ap (λ (t : Tables). t.versions) (same_tables old (state g.S.Store c.reading.connection) (c.reading.invariant.far.same before.intact))) (c.in_ok-lines.ensures.lines clean _ (placed c.args.tenant.now c.args.bucket.now c.reading.reading.place.key.items c.reading.reading.place.after c.as_slice.result.now c.reading.reading.count (tables_at (state g.S.Store c.reading.connection)))) in
+          (ap (λ (t : Tables). t.versions) (same_tables old (state g.S.Store g.P.Shelf c.reading.connection) (c.reading.invariant.far.same before.intact))) (c.in_ok-lines.ensures.lines clean _ (placed c.args.tenant.now c.args.bucket.now c.reading.reading.place.key.items c.reading.reading.place.after c.as_slice.result.now c.reading.reading.count (tables_at (state g.S.Store g.P.Shelf c.reading.connection)))) in
           let next = are_next c.args.asked.now c.args.tenant.now c.args.bucket.now (tables_at old).versions small listing c.reading.reading had c.as_slice-in-reading.result.now are in
           let took = c.in_ok-take.ensures.took rows listing (are_rows c.args.asked.now c.args.tenant.now c.args.bucket.now (tables_at old).versions small strict) had next in
           subst (λ e. Stands e c.args.asked.now rows listing c.take.new.self) c.if-branch.false took;

@@ -2,7 +2,7 @@ use Rattle.std.proofs.Common.{◌≡◌, IfOk, subst}
 use Rattle.std.proofs.lemmas.Result.{IfOk-weaker}
 use Rattle.sqlite.specs.Held.{state}
 use Rattle.bh_blocks.specs.Digests.{digest_by}
-use Rattle.bh_schema.specs.Layer.{standing}
+use Rattle.bh_base.specs.Layer.{standing}
 use Rattle.bh_open.specs.Opening.{Finds}
 use Rattle.bh_open.specs.Versions.{schema_of}
 use Rattle.bh_open.specs.declared.found.FoundHost.{FoundHost}

@@ -1,5 +1,5 @@
 use Rattle.sqlite.specs.Held.{state}
-use Rattle.bh_schema.specs.Layer.{standing}
+use Rattle.bh_base.specs.Layer.{standing}
 use Rattle.bh_migration.proofs.Made.{fifth_made}
 use Rattle.bh_migration.proofs.making.complete_fourth.Goals as goal
 

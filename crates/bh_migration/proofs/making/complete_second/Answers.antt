@@ -1,6 +1,6 @@
 use Rattle.std.proofs.lemmas.Result.{on_ok_weaker}
 use Rattle.sqlite.specs.Held.{state}
-use Rattle.bh_schema.specs.Layer.{standing}
+use Rattle.bh_base.specs.Layer.{standing}
 use Rattle.bh_migration.proofs.Made.{third_made, then_rows}
 use Rattle.bh_migration.proofs.making.complete_second.Goals as goal
 

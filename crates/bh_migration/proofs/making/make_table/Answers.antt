@@ -1,5 +1,5 @@
 use Rattle.sqlite.specs.Held.{state}
-use Rattle.bh_schema.proofs.Calls.{changes_within, changes_opens}
+use Rattle.bh_base.proofs.Calls.{changes_within, changes_opens}
 use Rattle.bh_migration.proofs.Made.{make_changes, make_trouble, makes}
 use Rattle.bh_migration.proofs.making.make_table.Goals as goal
 

@@ -1,7 +1,7 @@
 use Rattle.std.proofs.Common.{◌≡◌, ◌∙◌, subst}
 use Rattle.sqlite.specs.Held.{state}
 use Rattle.bh_tables.specs.Typed.{IsHostBy, tables_in}
-use Rattle.bh_schema.specs.Layer.{Standing, standing}
+use Rattle.bh_base.specs.Layer.{Standing, standing}
 use Rattle.bh_migration.specs.Tallying.{how_many}
 use Rattle.bh_migration.specs.declared.tallying.Count.TheVariants as count
 use Rattle.bh_migration.proofs.Tallied.{carried}

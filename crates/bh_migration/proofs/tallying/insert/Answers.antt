@@ -3,7 +3,7 @@ use Rattle.std.proofs.lemmas.Result.{on_ok_weaker}
 use Rattle.sqlite.specs.Held.{state}
 use Rattle.sqlite.specs.Value.{owned}
 use Rattle.sqlite.specs.Values.{bound_value}
-use Rattle.bh_schema.proofs.Calls.{changes_within, changes_opens}
+use Rattle.bh_base.proofs.Calls.{changes_within, changes_opens}
 use Rattle.bh_migration.proofs.Tallied.{insert_changes, insert_keeps, insert_adds}
 use Rattle.bh_migration.proofs.tallying.insert.Goals as goal
 

@@ -2,7 +2,7 @@ use Rattle.std.proofs.Common.{inl, ◌≤◌, ◌<◌, refl, length, map, get_or
 use Rattle.std.proofs.lemmas.List.{length-map, map_more, take_all}
 use Rattle.sqlite.specs.Held.{state}
 use Rattle.bh_tables.specs.Typed.{TenantRow, TallyRow, tally_of}
-use Rattle.bh_schema.specs.Layer.{standing}
+use Rattle.bh_base.specs.Layer.{standing}
 use Rattle.bh_schema.proofs.Storing.{within_then}
 use Rattle.bh_migration.specs.Tallying.{shown_name, HoldsTallies}
 use Rattle.bh_migration.proofs.Tallied.{no_tenant, at_mapped}

@@ -2,7 +2,7 @@ use Rattle.std.proofs.Common.{◌≡◌, [], map, take}
 use Rattle.sqlite.specs.Held.{state}
 use Rattle.bh_tables.specs.Schema.{host_schema}
 use Rattle.bh_tables.specs.Typed.{Tables, tally_of}
-use Rattle.bh_schema.specs.Layer.{standing, IsIntact, IsOpen, IsStateClean, StateWithin}
+use Rattle.bh_base.specs.Layer.{standing, IsIntact, IsOpen, IsStateClean, StateWithin}
 use Rattle.bh_migration.specs.Migration.{HasSchema}
 use Rattle.bh_migration.specs.Tallying.{shown_name, HoldsTallies}
 use Rattle.bh_migration.proofs.tallying.tally_each.Given as goal

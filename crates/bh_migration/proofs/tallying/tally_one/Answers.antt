@@ -3,7 +3,7 @@ use Rattle.std.proofs.lemmas.Result.{on_ok_weaker}
 use Rattle.sqlite.specs.Held.{state}
 use Rattle.sqlite.specs.Order.{column}
 use Rattle.bh_tables.specs.Typed.{totals_of, unweighed, tally}
-use Rattle.bh_schema.specs.Layer.{standing}
+use Rattle.bh_base.specs.Layer.{standing}
 use Rattle.bh_schema.specs.declared.rows.tallies.Tally.{Tally}
 use Rattle.bh_migration.specs.Tallying.{counted, HoldsTallies}
 use Rattle.bh_migration.proofs.Tallied.{carried}

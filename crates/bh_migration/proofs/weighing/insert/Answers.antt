@@ -1,5 +1,5 @@
 use Rattle.sqlite.specs.Held.{state}
-use Rattle.bh_schema.proofs.Calls.{changes_within, changes_opens}
+use Rattle.bh_base.proofs.Calls.{changes_within, changes_opens}
 use Rattle.bh_migration.proofs.Tallied.{weight_changes, weight_keeps, weight_adds}
 use Rattle.bh_migration.proofs.weighing.insert.Goals as goal
 

@@ -3,8 +3,8 @@ use Rattle.std.proofs.lemmas.Result.{on_ok_weaker}
 use Rattle.sqlite.specs.Held.{state}
 use Rattle.bh_tables.specs.Bodies.{unneeded}
 use Rattle.bh_tables.specs.Typed.{Tables, totals_of, unweighed, weight}
-use Rattle.bh_schema.specs.Layer.{standing}
-use Rattle.bh_schema.proofs.Calls.{whole_again}
+use Rattle.bh_base.specs.Layer.{standing}
+use Rattle.bh_base.proofs.Calls.{whole_again}
 use Rattle.bh_migration.specs.Tallying.{HoldsUnweighed}
 use Rattle.bh_migration.proofs.Tallied.{carried}
 use Rattle.bh_migration.proofs.weighing.weigh_all.Goals as goal

@@ -1,7 +1,7 @@
 use Rattle.std.proofs.Common.{◌≡◌, sym, ap, subst}
-use Rattle.sqlite.specs.Held.{state}
+use Rattle.bh_base.specs.Connections.{state}
 use Rattle.bh_tables.specs.Typed.{IsHost, tables_in}
-use Rattle.bh_schema.specs.Layer.{Standing, standing}
+use Rattle.bh_base.specs.Layer.{Standing, standing}
 use Rattle.bh_moved.proofs.Settling.{begun_inside, begun_tables}
 use Rattle.bh_moved.proofs.Telling.{tells_before, tells_after}
 use Rattle.bh_moved.proofs.moves.bring_and_commit.Goals as goal
@@ -15,7 +15,7 @@ bring_tenant-requires-clause-inside g c = begun_inside _ _ c.in_ok-begin-2.ensur
 pub returns-else-is_none-clause-tells : goal.returns-else-is_none-clause-tells
 returns-else-is_none-clause-tells g c =
     let it = c.in_ok-refused.ensures in
-    tells_before g.S.Store g.T.Store g.D.Digester.digest_of c.args.tenant.now c.in_ok-refused.refused c.args.from.now c.begin.new.connection c.bring_tenant.new.from c.args.to.now c.begin-2.new.connection c.bring_tenant.new.to
+    tells_before g.S.Store g.P.Shelf g.T.Store g.Q.Shelf g.D.Digester.digest_of c.args.tenant.now c.in_ok-refused.refused c.args.from.now c.begin.new.self c.bring_tenant.new.from c.args.to.now c.begin-2.new.self c.bring_tenant.new.to
     (λ reading. begun_tables _ _ c.in_ok-begin.ensures.begins (it.reads.follows.clean reading))
     (λ clean. begun_tables _ _ c.in_ok-begin-2.ensures.begins (it.within.follows.clean clean))
     (record { moved = it.moved; answered = it.answered; missing = it.missing; exists = it.exists })
@@ -23,10 +23,10 @@ returns-else-is_none-clause-tells g c =
 pub returns-in_ok-commit-clause-tells : goal.returns-in_ok-commit-clause-tells
 returns-in_ok-commit-clause-tells g c =
     let it = c.in_ok-refused.ensures in
-    tells_after g.S.Store g.T.Store g.D.Digester.digest_of c.args.tenant.now c.in_ok-refused.refused c.args.from.now c.bring_tenant.new.from c.args.to.now c.bring_tenant.new.to c.commit.new.connection
+    tells_after g.S.Store g.P.Shelf g.T.Store g.Q.Shelf g.D.Digester.digest_of c.args.tenant.now c.in_ok-refused.refused c.args.from.now c.bring_tenant.new.from c.args.to.now c.bring_tenant.new.to c.commit.new.self
     (λ clean. c.in_ok-commit.ensures.follows.clean clean)
     (λ clean. ap (λ (x : Standing). tables_in x.now) (c.in_ok-commit.ensures.commits clean.intact))
-    (tells_before g.S.Store g.T.Store g.D.Digester.digest_of c.args.tenant.now c.in_ok-refused.refused c.args.from.now c.begin.new.connection c.bring_tenant.new.from c.args.to.now c.begin-2.new.connection c.bring_tenant.new.to
+    (tells_before g.S.Store g.P.Shelf g.T.Store g.Q.Shelf g.D.Digester.digest_of c.args.tenant.now c.in_ok-refused.refused c.args.from.now c.begin.new.self c.bring_tenant.new.from c.args.to.now c.begin-2.new.self c.bring_tenant.new.to
     (λ reading. begun_tables _ _ c.in_ok-begin.ensures.begins (it.reads.follows.clean reading))
     (λ clean. begun_tables _ _ c.in_ok-begin-2.ensures.begins (it.within.follows.clean clean))
     (record { moved = it.moved; answered = it.answered; missing = it.missing; exists = it.exists }))
@@ -34,5 +34,5 @@ returns-in_ok-commit-clause-tells g c =
 pub returns-in_ok-commit-clause-host : goal.returns-in_ok-commit-clause-host
 returns-in_ok-commit-clause-host g c is clean =
     let inside = c.in_ok-refused.ensures.inside (c.in_ok-commit.ensures.follows.clean clean) in
-    let same : (standing (state g.T.Store c.commit.new.connection)).now ≡ (standing (state g.T.Store c.bring_tenant.new.to)).now = ap (λ (x : Standing). x.now) (c.in_ok-commit.ensures.commits clean.intact) in
+    let same : (standing (state g.T.Store g.Q.Shelf c.commit.new.self)).now ≡ (standing (state g.T.Store g.Q.Shelf c.bring_tenant.new.to)).now = ap (λ (x : Standing). x.now) (c.in_ok-commit.ensures.commits clean.intact) in
     subst IsHost (sym same) inside.host

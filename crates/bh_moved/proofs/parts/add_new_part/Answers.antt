@@ -1,8 +1,8 @@
 use Rattle.std.proofs.Common.{◌≡◌, None, find, sym, ap, ◌∙◌}
 use Rattle.std.proofs.lemmas.Result.{on_ok_weaker}
-use Rattle.sqlite.specs.Held.{state}
+use Rattle.bh_base.specs.Connections.{state}
 use Rattle.bh_tables.specs.Typed.{Tables, tables_in}
-use Rattle.bh_schema.specs.Layer.{Standing}
+use Rattle.bh_base.specs.Layer.{Standing}
 use Rattle.bh_schema.specs.Working.{tables_at}
 use Rattle.bh_tables.specs.Shown.{is_part}
 use Rattle.bh_view.proofs.FilterLemmas.{none_mapped}
@@ -20,7 +20,7 @@ returns-in-None-clause-added g c = on_ok_weaker c.place_part.result (λ holds ne
     let it = holds clean in
     let was = c.place_part.ensures.writes.within.follows.clean clean in
     let p = stored_part c.args.part.now in
-    let old : Tables = tables_at (state g.T.Store c.args.to.now) in
-    let same : tables_at (state g.T.Store c.find_body.new.connection) ≡ old = ap (λ (x : Standing). tables_in x.now) (c.in_ok-find_body.ensures.reads.same was.intact) in
+    let old : Tables = tables_at (state g.T.Store g.Q.Shelf c.args.to.now) in
+    let same : tables_at (state g.T.Store g.Q.Shelf c.find_body.new.connection) ≡ old = ap (λ (x : Standing). tables_in x.now) (c.in_ok-find_body.ensures.reads.same was.intact) in
     let none : find (is_part p.tenant p.upload p.part) old.parts ≡ None = none_mapped _ _ (sym (c.in_ok-find_body.ensures.found was) ∙ c.in-None.is) in
     record { within = it.within; is = it.is ∙ ap (part_placed p c.args.next) same ∙ part_new p c.args.next old none next }) c.place_part.ensures.holds

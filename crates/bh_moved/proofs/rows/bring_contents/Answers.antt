@@ -1,8 +1,8 @@
 use Rattle.std.proofs.Common.{◌≡◌, sym, ◌∙◌, subst}
-use Rattle.sqlite.specs.Held.{state}
+use Rattle.bh_base.specs.Connections.{state}
 use Rattle.bh_tables.specs.Typed.{Tables}
 use Rattle.bh_view.specs.Bodies.{HasBodies}
-use Rattle.bh_schema.specs.Connections.{tables}
+use Rattle.bh_base.specs.Connections.{tables}
 use Rattle.bh_blocks.proofs.Keeping.{resolved_at}
 use Rattle.bh_moved.proofs.Calling.{read_inside, read_tables}
 use Rattle.bh_moved.proofs.Chains.{contents_chain, tenants_kept}
@@ -33,18 +33,18 @@ returns-clause-brought g c reading bodies next clean =
     let moving = c.args.moving.now in
     let t = moving.tenant.now in
     let digest = g.D.Digester.digest_of in
-    let from : Tables = tables g.S.Store c.args.from.now in
-    let second : Tables = tables g.S.Store c.bring_table.new.from in
-    let third : Tables = tables g.S.Store c.bring_table-2.new.from in
-    let fourth : Tables = tables g.S.Store c.bring_table-3.new.from in
-    let old : Tables = tables g.T.Store c.args.to.now in
-    let v : Tables = tables g.T.Store c.bring_table.new.to in
-    let u : Tables = tables g.T.Store c.bring_table-2.new.to in
-    let p : Tables = tables g.T.Store c.bring_table-3.new.to in
+    let from : Tables = tables g.S.Store g.P.Shelf c.args.from.now in
+    let second : Tables = tables g.S.Store g.P.Shelf c.bring_table.new.from in
+    let third : Tables = tables g.S.Store g.P.Shelf c.bring_table-2.new.from in
+    let fourth : Tables = tables g.S.Store g.P.Shelf c.bring_table-3.new.from in
+    let old : Tables = tables g.T.Store g.Q.Shelf c.args.to.now in
+    let v : Tables = tables g.T.Store g.Q.Shelf c.bring_table.new.to in
+    let u : Tables = tables g.T.Store g.Q.Shelf c.bring_table-2.new.to in
+    let p : Tables = tables g.T.Store g.Q.Shelf c.bring_table-3.new.to in
     let two : second ≡ from = read_tables versions.reads reading_v in
     let three : third ≡ from = read_tables uploads.reads reading_u ∙ two in
     let four : fourth ≡ from = read_tables parts.reads reading_p ∙ three in
-    let resolved = resolved_at (state g.S.Store c.args.from.now) in
+    let resolved = resolved_at (state g.S.Store g.P.Shelf c.args.from.now) in
     let versions_is = (versions.brought reading_v (bodies, next) clean_v).is in
     let uploads_is = (uploads.brought reading_u tt clean_u).is in
     let kept : old.tenants ≡ u.tenants = tenants_kept t from digest moving.block_size second old v u resolved versions_is uploads_is in
@@ -52,5 +52,5 @@ returns-clause-brought g c reading bodies next clean =
     let last = retains.brought reading tt clean in
     record {
       within = last.within;
-      is = contents_chain t from digest moving.block_size second old v u resolved versions_is uploads_is third fourth p _ (resolved_at (state g.S.Store c.bring_table-2.new.from)) two three four parts_is last.is;
+      is = contents_chain t from digest moving.block_size second old v u resolved versions_is uploads_is third fourth p _ (resolved_at (state g.S.Store g.P.Shelf c.bring_table-2.new.from)) two three four parts_is last.is;
     }

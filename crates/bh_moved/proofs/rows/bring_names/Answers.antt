@@ -1,6 +1,6 @@
 use Rattle.std.proofs.Common.{◌≡◌, ◌∙◌, [], ◌∷◌}
 use Rattle.bh_tables.specs.Typed.{Tables}
-use Rattle.bh_schema.specs.Connections.{tables}
+use Rattle.bh_base.specs.Connections.{tables}
 use Rattle.bh_moved.specs.Rows.{tenant_row}
 use Rattle.bh_moved.proofs.Calling.{read_inside, read_tables}
 use Rattle.bh_moved.proofs.Chains.{names_chain}
@@ -24,14 +24,14 @@ returns-clause-brought g c reading absent clean =
     let reading_k = buckets.reads.within.follows.clean reading_b in
     let moving = c.args.moving.now in
     let t = moving.tenant.now in
-    let from : Tables = tables g.S.Store c.args.from.now in
-    let second : Tables = tables g.S.Store c.bring_table.new.from in
-    let third : Tables = tables g.S.Store c.bring_table-2.new.from in
+    let from : Tables = tables g.S.Store g.P.Shelf c.args.from.now in
+    let second : Tables = tables g.S.Store g.P.Shelf c.bring_table.new.from in
+    let third : Tables = tables g.S.Store g.P.Shelf c.bring_table-2.new.from in
     let two : second ≡ from = read_tables keys.reads reading_k in
     let three : third ≡ from = read_tables buckets.reads reading_b ∙ two in
     let last = locks.brought reading tt clean in
     record {
       within = last.within;
-      is = names_chain t from (tenant_row t moving.numbers ∷ []) second third (tables g.T.Store c.args.to.now) (tables g.T.Store c.bring_account.new.to) (tables g.T.Store c.bring_table.new.to) (tables g.T.Store c.bring_table-2.new.to) _ two three
+      is = names_chain t from (tenant_row t moving.numbers ∷ []) second third (tables g.T.Store g.Q.Shelf c.args.to.now) (tables g.T.Store g.Q.Shelf c.bring_account.new.to) (tables g.T.Store g.Q.Shelf c.bring_table.new.to) (tables g.T.Store g.Q.Shelf c.bring_table-2.new.to) _ two three
           (c.in_ok-bring_account.ensures.holds absent clean_a).is (keys.brought reading_k tt clean_k).is (buckets.brought reading_b tt clean_b).is last.is;
     }

@@ -2,7 +2,7 @@ use Rattle.std.proofs.Common.{◌≡◌, sym, subst, [], ◌∷◌}
 use Rattle.bh_tables.specs.Typed.{Tables}
 use Rattle.bh_view.specs.Bodies.{HasBodies}
 use Rattle.bh_view.specs.View.{rows_of}
-use Rattle.bh_schema.specs.Connections.{tables}
+use Rattle.bh_base.specs.Connections.{tables}
 use Rattle.bh_tenant_rows.specs.Brought.{IsNext}
 use Rattle.bh_moved.specs.Rows.{tenant_row}
 use Rattle.bh_moved.proofs.Calling.{read_inside, read_tables}
@@ -20,10 +20,10 @@ returns-clause-brought g c reading bodies absent its clean =
     let reading_n = contents.reads.within.follows.clean reading in
     let moving = c.args.moving.now in
     let t = moving.tenant.now in
-    let from : Tables = tables g.S.Store c.args.from.now in
-    let old : Tables = tables g.T.Store c.args.to.now in
-    let mid : Tables = tables g.T.Store c.bring_names.new.to in
-    let two : tables g.S.Store c.bring_names.new.from ≡ from = read_tables names.reads reading_n in
+    let from : Tables = tables g.S.Store g.P.Shelf c.args.from.now in
+    let old : Tables = tables g.T.Store g.Q.Shelf c.args.to.now in
+    let mid : Tables = tables g.T.Store g.Q.Shelf c.bring_names.new.to in
+    let two : tables g.S.Store g.P.Shelf c.bring_names.new.from ≡ from = read_tables names.reads reading_n in
     let m = (names.brought reading_n absent clean_n).is in
     let next : IsNext t moving.numbers.next_entry mid = subst (IsNext t moving.numbers.next_entry) (sym m) (next_given t moving.numbers (rows_of t from) old absent) in
     let last = contents.brought reading (subst HasBodies (sym two) bodies) next clean in

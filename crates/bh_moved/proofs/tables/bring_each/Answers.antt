@@ -1,8 +1,8 @@
 use Rattle.std.proofs.Common.{arith, ◌≡◌, ◌+◌, drop, sym, ap, ◌∙◌, subst}
 use Rattle.bh_tables.specs.Typed.{Tables, tables_in}
 use Rattle.bh_view.specs.Bodies.{HasBodies}
-use Rattle.bh_schema.specs.Layer.{Standing, IsInside}
-use Rattle.bh_schema.specs.Connections.{tables}
+use Rattle.bh_base.specs.Layer.{Standing, IsInside}
+use Rattle.bh_base.specs.Connections.{tables}
 use Rattle.bh_schema.proofs.Storing.{within_then}
 use Rattle.bh_blocks.proofs.Loops.{at_row, drop_end}
 use Rattle.bh_moved.specs.Owned.{shown_row, row_added}
@@ -20,11 +20,11 @@ loop-row-preserved g c =
     let step = c.in_ok-bring_row.ensures in
     let moving = c.args.moving.now in
     let t = moving.tenant.now in
-    let first : Tables = tables g.S.Store c.args.from.now in
-    let seen : Tables = tables g.S.Store c.loop-row.from in
-    let start : Tables = tables g.T.Store c.args.to.now in
-    let was : Tables = tables g.T.Store c.loop-row.to in
-    let now : Tables = tables g.T.Store c.bring_row.new.to in
+    let first : Tables = tables g.S.Store g.P.Shelf c.args.from.now in
+    let seen : Tables = tables g.S.Store g.P.Shelf c.loop-row.from in
+    let start : Tables = tables g.T.Store g.Q.Shelf c.args.to.now in
+    let was : Tables = tables g.T.Store g.Q.Shelf c.loop-row.to in
+    let now : Tables = tables g.T.Store g.Q.Shelf c.bring_row.new.to in
     let add = λ (x : Tables). row_added g.D.Digester.digest_of moving.block_size t x c.args.table in
     record {
       reads = within_then _ _ _ inv.read inv.reads step.reads.within;
@@ -49,8 +49,8 @@ pub returns-clause-added : goal.returns-clause-added
 returns-clause-added g c rs is reading bodied clean =
     let inv = c.loop-row.invariant in
     let moving = c.args.moving.now in
-    let add = row_added g.D.Digester.digest_of moving.block_size moving.tenant.now (tables g.S.Store c.args.from.now) c.args.table in
+    let add = row_added g.D.Digester.digest_of moving.block_size moving.tenant.now (tables g.S.Store g.P.Shelf c.args.from.now) c.args.table in
     record {
       within = inv.inside clean;
-      is = ap (λ l. all_added add l (tables g.T.Store c.loop-row.to)) (sym (drop_end (shown_row c.args.table) rs c.args.rows.now c.loop-row.row-index (λ low. let end = c.loop-row-test.false in omega (arith, low, end)) is)) ∙ (inv.added reading clean rs is bodied).1;
+      is = ap (λ l. all_added add l (tables g.T.Store g.Q.Shelf c.loop-row.to)) (sym (drop_end (shown_row c.args.table) rs c.args.rows.now c.loop-row.row-index (λ low. let end = c.loop-row-test.false in omega (arith, low, end)) is)) ∙ (inv.added reading clean rs is bodied).1;
     }

@@ -1,5 +1,5 @@
 use Rattle.std.proofs.Common.{◌≡◌, max, sym, ap, ap₂, ◌∙◌, subst, is_some, None}
-use Rattle.sqlite.specs.Held.{state}
+use Rattle.bh_base.specs.Connections.{state}
 use Rattle.bh_tables.specs.Typed.{Tables}
 use Rattle.bh_schema.specs.Working.{tables_at}
 use Rattle.bh_tables.specs.Shown.{is_tenant}
@@ -28,12 +28,12 @@ returns-clause-brought g c reading clean found absent other given host =
     let t = moving.tenant.now in
     let digest = g.D.Digester.digest_of in
     let size = moving.block_size in
-    let from : Tables = tables_at (state g.S.Store c.args.from.now) in
-    let old : Tables = tables_at (state g.T.Store c.args.to.now) in
-    let two : tables_at (state g.S.Store c.bring_rows.new.from) ≡ from = read_tables rows.reads reading_r in
+    let from : Tables = tables_at (state g.S.Store g.P.Shelf c.args.from.now) in
+    let old : Tables = tables_at (state g.T.Store g.Q.Shelf c.args.to.now) in
+    let two : tables_at (state g.S.Store g.P.Shelf c.bring_rows.new.from) ≡ from = read_tables rows.reads reading_r in
     let vacant : view old t ≡ None = none_of _ (view_found old t ∙ ap is_some absent) in
     let own = single _ (given.sound.tenants t).tenants.one (tenant_row t moving.numbers) (first_find (is_tenant t) from.tenants ∙ found) in
     let all = (rows.brought reading_r given.bodies (none_there t old.tenants absent) own clean_r).is in
-    let latest = all_latest digest other size moving.positive t from old given host (resolved_at (state g.T.Store c.args.to.now)) vacant in
-    let is = (stamp.stamped reading clean).is ∙ ap₂ (λ m n. with_latest (max m n) (tables_at (state g.T.Store c.bring_rows.new.to))) (ap latest_of all ∙ latest) (ap latest_of two) ∙ ap (with_latest (max (latest_of old) (latest_of from))) all in
-    subst (IsBrought digest t from old) (sym is) (tenant_brought digest other size moving.positive t from old given host (resolved_at (state g.T.Store c.args.to.now)) vacant)
+    let latest = all_latest digest other size moving.positive t from old given host (resolved_at (state g.T.Store g.Q.Shelf c.args.to.now)) vacant in
+    let is = (stamp.stamped reading clean).is ∙ ap₂ (λ m n. with_latest (max m n) (tables_at (state g.T.Store g.Q.Shelf c.bring_rows.new.to))) (ap latest_of all ∙ latest) (ap latest_of two) ∙ ap (with_latest (max (latest_of old) (latest_of from))) all in
+    subst (IsBrought digest t from old) (sym is) (tenant_brought digest other size moving.positive t from old given host (resolved_at (state g.T.Store g.Q.Shelf c.args.to.now)) vacant)

@@ -1,8 +1,8 @@
 use Rattle.std.proofs.Common.{rules, ◌≡◌, true, false, None, Some, find, is_some, refl, sym, ap, ◌∙◌, subst}
 use Rattle.sqlite_keyed.proofs.SliceLemmas.{is_some-map}
-use Rattle.sqlite.specs.Held.{state}
+use Rattle.bh_base.specs.Connections.{state}
 use Rattle.bh_tables.specs.Typed.{Tables, tables_in}
-use Rattle.bh_schema.specs.Layer.{Standing}
+use Rattle.bh_base.specs.Layer.{Standing}
 use Rattle.bh_schema.specs.Working.{tables_at}
 use Rattle.bh_tables.specs.Shown.{is_tenant}
 use Rattle.bh_view.specs.Bodies.{IsSoundHost}
@@ -20,7 +20,7 @@ use Rattle.bh_moved.proofs.tenant.bring_tenant.Goals as goal
 pub returns-in_default-clause-missing : goal.returns-in_default-clause-missing
 returns-in_default-clause-missing g c is reading =
     let none : c.in_ok-numbers.field-0 ≡ None = search rules in
-    view_found (tables_at (state g.S.Store c.args.from.now)) c.args.tenant.now ∙ ap is_some (none_mapped tenant_numbers _ (sym (c.in_ok-numbers.ensures.found reading) ∙ none))
+    view_found (tables_at (state g.S.Store g.P.Shelf c.args.from.now)) c.args.tenant.now ∙ ap is_some (none_mapped tenant_numbers _ (sym (c.in_ok-numbers.ensures.found reading) ∙ none))
 
 pub returns-then-is_some-clause-inside : goal.returns-then-is_some-clause-inside
 returns-then-is_some-clause-inside g c = still_inside _ _ c.in_ok-find_tenant.ensures.reads.within c.in_ok-find_tenant.ensures.reads.same c.requires.inside
@@ -28,7 +28,7 @@ returns-then-is_some-clause-inside g c = still_inside _ _ c.in_ok-find_tenant.en
 pub returns-then-is_some-clause-exists : goal.returns-then-is_some-clause-exists
 returns-then-is_some-clause-exists g c is clean =
     let some : is_some c.in_ok-find_tenant.field-0 ≡ true = search rules in
-    view_found (tables_at (state g.T.Store c.args.to.now)) c.args.tenant.now ∙ sym (is_some-map tenant_numbers _) ∙ ap is_some (sym (c.in_ok-find_tenant.ensures.found clean)) ∙ some
+    view_found (tables_at (state g.T.Store g.Q.Shelf c.args.to.now)) c.args.tenant.now ∙ sym (is_some-map tenant_numbers _) ∙ ap is_some (sym (c.in_ok-find_tenant.ensures.found clean)) ∙ some
 
 pub bring_all-requires-clause-reading : goal.bring_all-requires-clause-reading
 bring_all-requires-clause-reading g c = still_inside _ _ c.in_ok-numbers.ensures.reads.within c.in_ok-numbers.ensures.reads.same c.requires.reading
@@ -43,11 +43,11 @@ returns-clause-moved g c same reading clean other given host =
     let clean_f = all.writes.within.follows.clean clean in
     let t = c.args.tenant.now in
     let digest = g.D.Digester.digest_of in
-    let from : Tables = tables_at (state g.S.Store c.args.from.now) in
-    let old : Tables = tables_at (state g.T.Store c.args.to.now) in
-    let new : Tables = tables_at (state g.T.Store c.bring_all.new.to) in
-    let from_n : Tables = tables_at (state g.S.Store c.find_tenant.new.connection) in
-    let old_f : Tables = tables_at (state g.T.Store c.find_tenant-2.new.connection) in
+    let from : Tables = tables_at (state g.S.Store g.P.Shelf c.args.from.now) in
+    let old : Tables = tables_at (state g.T.Store g.Q.Shelf c.args.to.now) in
+    let new : Tables = tables_at (state g.T.Store g.Q.Shelf c.bring_all.new.to) in
+    let from_n : Tables = tables_at (state g.S.Store g.P.Shelf c.find_tenant.new.connection) in
+    let old_f : Tables = tables_at (state g.T.Store g.Q.Shelf c.find_tenant-2.new.connection) in
     let two : from_n ≡ from = ap (λ (x : Standing). tables_in x.now) (c.in_ok-numbers.ensures.reads.same reading_n.intact) in
     let three : old_f ≡ old = ap (λ (x : Standing). tables_in x.now) (c.in_ok-find_tenant.ensures.reads.same clean_f.intact) in
     let absent : is_some c.in_ok-find_tenant.field-0 ≡ false = search rules in
@@ -62,21 +62,21 @@ returns-clause-moved g c same reading clean other given host =
 pub returns-in_default-clause-answered : goal.returns-in_default-clause-answered
 returns-in_default-clause-answered g c reading clean =
     let t = c.args.tenant.now in
-    refused_missing (view (tables_at (state g.S.Store c.args.from.now)) t) (view (tables_at (state g.T.Store c.args.to.now)) t) (returns-in_default-clause-missing g c refl reading)
+    refused_missing (view (tables_at (state g.S.Store g.P.Shelf c.args.from.now)) t) (view (tables_at (state g.T.Store g.Q.Shelf c.args.to.now)) t) (returns-in_default-clause-missing g c refl reading)
 
 pub returns-then-is_some-clause-answered : goal.returns-then-is_some-clause-answered
 returns-then-is_some-clause-answered g c reading clean =
     let t = c.args.tenant.now in
-    let from : Tables = tables_at (state g.S.Store c.args.from.now) in
+    let from : Tables = tables_at (state g.S.Store g.P.Shelf c.args.from.now) in
     let found : find (is_tenant t) from.tenants ≡ Some (tenant_row t c.in-Some.numbers) = numbers_found t c.in-Some.numbers from.tenants (sym c.in-Some.is ∙ c.in_ok-numbers.ensures.found reading) in
-    refused_there (view from t) (view (tables_at (state g.T.Store c.args.to.now)) t) (view_found from t ∙ ap is_some found) (returns-then-is_some-clause-exists g c refl clean)
+    refused_there (view from t) (view (tables_at (state g.T.Store g.Q.Shelf c.args.to.now)) t) (view_found from t ∙ ap is_some found) (returns-then-is_some-clause-exists g c refl clean)
 
 pub returns-clause-answered : goal.returns-clause-answered
 returns-clause-answered g c reading clean =
     let all = c.in_ok-bring_all.ensures in
     let t = c.args.tenant.now in
-    let from : Tables = tables_at (state g.S.Store c.args.from.now) in
-    let old : Tables = tables_at (state g.T.Store c.args.to.now) in
+    let from : Tables = tables_at (state g.S.Store g.P.Shelf c.args.from.now) in
+    let old : Tables = tables_at (state g.T.Store g.Q.Shelf c.args.to.now) in
     let found : find (is_tenant t) from.tenants ≡ Some (tenant_row t c.in-Some.numbers) = numbers_found t c.in-Some.numbers from.tenants (sym c.in-Some.is ∙ c.in_ok-numbers.ensures.found (all.reads.within.follows.clean reading)) in
     let absent : is_some c.in_ok-find_tenant.field-0 ≡ false = search rules in
     let vacant : find (is_tenant t) old.tenants ≡ None = none_mapped tenant_numbers _ (sym (c.in_ok-find_tenant.ensures.found (all.writes.within.follows.clean clean)) ∙ none_of _ absent) in

@@ -1,5 +1,5 @@
 use Rattle.std.proofs.Common.{rules, arith, sym, ◌∙◌}
-use Rattle.sqlite.specs.Held.{state}
+use Rattle.bh_base.specs.Connections.{state}
 use Rattle.bh_http.proofs.BodyLemmas.{gives_none, if_err, going_may}
 use Rattle.bh_view.specs.Bodies.{pieces, body_stored}
 use Rattle.bh_schema.specs.Working.{tables_at}
@@ -14,7 +14,7 @@ returns g c =
     let (given, gives, held, goes) = taken.came in
     let ended = c.end_body.ensures in
     let is = c.in_ok-or_trouble.ensures.ok in
-    let start = tables_at (state g.S.Store c.args.connection.now) in
+    let start = tables_at (state g.S.Store g.P.Shelf c.args.connection.now) in
     record {
       stores = record {
         within = within_then _ _ _ taken.opens taken.within ended.within;

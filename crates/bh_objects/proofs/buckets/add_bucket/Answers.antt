@@ -1,5 +1,5 @@
 use Rattle.std.proofs.Common.{rules, ap, ◌∙◌}
-use Rattle.sqlite.specs.Held.{state}
+use Rattle.bh_base.specs.Connections.{state}
 use Rattle.bh_schema.specs.Working.{tables_at}
 use Rattle.bh_schema.proofs.Storing.{on_ok}
 use Rattle.bh_objects.specs.Buckets.{with_lock, with_row}
@@ -16,6 +16,6 @@ returns-clause-changes g c = record {
       let it = holds clean in
       record {
         within = it.within;
-        is = it.is ∙ ap (with_lock c.args.tenant.now c.args.bucket.now c.args.locked) (one ∙ ap (λ mode. with_row c.args.tenant.now c.args.bucket.now c.args.at mode (tables_at (state g.S.Store c.args.connection.now))) c.first_state-state.ensures);
+        is = it.is ∙ ap (with_lock c.args.tenant.now c.args.bucket.now c.args.locked) (one ∙ ap (λ mode. with_row c.args.tenant.now c.args.bucket.now c.args.at mode (tables_at (state g.S.Store g.P.Shelf c.args.connection.now))) c.first_state-state.ensures);
       }) c.add_lock.ensures.changes.holds;
 }

@@ -1,5 +1,5 @@
 use Rattle.std.proofs.Common.{rules}
-use Rattle.sqlite.specs.Held.{state}
+use Rattle.bh_base.specs.Connections.{state}
 use Rattle.bh_schema.proofs.Storing.{on_ok}
 use Rattle.bh_objects.proofs.Working.{asked_working}
 use Rattle.bh_objects.proofs.buckets.require_empty.Goals as goal
@@ -8,12 +8,12 @@ pub returns-then-not-branch-clause-works : goal.returns-then-not-branch-clause-w
 returns-then-not-branch-clause-works g c = record {
   within = search rules;
   opens = search rules;
-  working = asked_working (state g.S.Store c.args.connection.now) (state g.S.Store c.has_nothing.new.connection) c.requires.working c.has_nothing.ensures.reads.within (on_ok _ c.in_ok-or_trouble.ensures.ok c.has_nothing.ensures.reads.same);
+  working = asked_working (state g.S.Store g.P.Shelf c.args.connection.now) (state g.S.Store g.P.Shelf c.has_nothing.new.connection) c.requires.working c.has_nothing.ensures.reads.within (on_ok _ c.in_ok-or_trouble.ensures.ok c.has_nothing.ensures.reads.same);
 }
 
 pub returns-clause-works : goal.returns-clause-works
 returns-clause-works g c = record {
   within = search rules;
   opens = search rules;
-  working = asked_working (state g.S.Store c.args.connection.now) (state g.S.Store c.has_nothing.new.connection) c.requires.working c.has_nothing.ensures.reads.within (on_ok _ c.in_ok-or_trouble.ensures.ok c.has_nothing.ensures.reads.same);
+  working = asked_working (state g.S.Store g.P.Shelf c.args.connection.now) (state g.S.Store g.P.Shelf c.has_nothing.new.connection) c.requires.working c.has_nothing.ensures.reads.within (on_ok _ c.in_ok-or_trouble.ensures.ok c.has_nothing.ensures.reads.same);
 }

@@ -1,5 +1,5 @@
 use Rattle.std.proofs.Common.{rules, arith, [], subst}
-use Rattle.sqlite.specs.Held.{state}
+use Rattle.bh_base.specs.Connections.{state}
 use Rattle.bh_http.specs.Bodies.{Gives}
 use Rattle.bh_http.proofs.BodyLemmas.{if_err, going_may}
 use Rattle.bh_schema.specs.Working.{tables_at}
@@ -14,7 +14,7 @@ returns g c =
     let pushed = c.push_known.ensures in
     let begun = c.requires.begun in
     let is = c.in_ok-or_trouble.ensures.ok in
-    let start = tables_at (state g.S.Store c.args.connection.now) in
+    let start = tables_at (state g.S.Store g.P.Shelf c.args.connection.now) in
     record {
       takes = record {
         within = pushed.within;

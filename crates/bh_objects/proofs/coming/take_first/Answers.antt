@@ -1,5 +1,5 @@
 use Rattle.std.proofs.Common.{rules, arith, [], refl}
-use Rattle.sqlite.specs.Held.{state}
+use Rattle.bh_base.specs.Connections.{state}
 use Rattle.bh_http.proofs.BodyLemmas.{gives_none}
 use Rattle.bh_schema.specs.Working.{tables_at}
 use Rattle.bh_blocks.proofs.Drafting.{begins}
@@ -8,7 +8,7 @@ use Rattle.bh_objects.proofs.coming.take_first.Goals as goal
 pub returns-else-is_short : goal.returns-else-is_short
 returns-else-is_short g c =
     let begun = c.requires.begun in
-    let start = tables_at (state g.S.Store c.args.connection.now) in
+    let start = tables_at (state g.S.Store g.P.Shelf c.args.connection.now) in
     record {
       takes = record {
         within = search rules;

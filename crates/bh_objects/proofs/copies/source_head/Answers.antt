@@ -1,6 +1,6 @@
 use Rattle.std.proofs.Common.{rules, option_map, Err, sym, ap, ◌∙◌}
 use Rattle.std.proofs.lemmas.Result.{err_from_is_err_and}
-use Rattle.sqlite.specs.Held.{state}
+use Rattle.bh_base.specs.Connections.{state}
 use Rattle.bh_tables.specs.Typed.{Tables}
 use Rattle.bh_view.specs.Wanted.{wanted_row}
 use Rattle.bh_schema.specs.Rows.{seen_head}
@@ -16,14 +16,14 @@ pub returns-in_err-bucket_state-clause-decides : goal.returns-in_err-bucket_stat
 returns-in_err-bucket_state-clause-decides g c clean =
     let p = err_from_is_err_and c.from_residual.result c.from_residual.ensures.1 in
     let copy = c.args.copy.now in
-    let old = tables_at (state g.S.Store c.args.connection.now) in
+    let old = tables_at (state g.S.Store g.P.Shelf c.args.connection.now) in
     rw (p.1, p.2) (source_bucket_failed (λ mode. mode) (λ head. version_read copy.tenant.now old (head_seen head)) copy.tenant.now copy.source_bucket.now copy.source_key.now copy.version
-    old (tables_at (state g.S.Store c.bucket_state.new.connection)) c.in_err-bucket_state.field-0.0 (c.in_err-bucket_state.ensures.decides clean))
+    old (tables_at (state g.S.Store g.P.Shelf c.bucket_state.new.connection)) c.in_err-bucket_state.field-0.0 (c.in_err-bucket_state.ensures.decides clean))
 
 pub returns-in-Ok-clause-decides : goal.returns-in-Ok-clause-decides
 returns-in-Ok-clause-decides g c clean =
     let copy = c.args.copy.now in
-    let first = state g.S.Store c.args.connection.now in
+    let first = state g.S.Store g.P.Shelf c.args.connection.now in
     let clean_first = c.in-Ok.ensures.works.within.follows.clean clean in
     let one = c.in_ok-bucket_state.ensures.decides clean_first in
     let two = c.in-Ok.ensures.decides clean in
@@ -34,7 +34,7 @@ returns-in-Ok-clause-decides g c clean =
 pub returns-in-Ok-clause-sized : goal.returns-in-Ok-clause-sized
 returns-in-Ok-clause-sized g c clean =
     let copy = c.args.copy.now in
-    let first = state g.S.Store c.args.connection.now in
+    let first = state g.S.Store g.P.Shelf c.args.connection.now in
     let clean_first = c.in-Ok.ensures.works.within.follows.clean clean in
     let one = c.in_ok-bucket_state.ensures.decides clean_first in
     let host = host_at first (c.requires (c.in_ok-bucket_state.ensures.works.within.follows.clean clean_first)) in
@@ -49,7 +49,7 @@ returns-in-Ok-clause-works g c = record {
   within = search rules;
   opens = search rules;
   working = λ clean.
-      works_then (state g.S.Store c.args.connection.now) (state g.S.Store c.bucket_state.new.connection) (state g.S.Store c.wanted_head.new.connection)
+      works_then (state g.S.Store g.P.Shelf c.args.connection.now) (state g.S.Store g.P.Shelf c.bucket_state.new.connection) (state g.S.Store g.P.Shelf c.wanted_head.new.connection)
       (c.in_ok-bucket_state.ensures.works.working (c.in-Ok.ensures.works.within.follows.clean clean)) (c.in-Ok.ensures.works.working clean);
 }
 
@@ -58,14 +58,14 @@ returns-in-Err-Refused-clause-works g c = record {
   within = search rules;
   opens = search rules;
   working = λ clean.
-      works_then (state g.S.Store c.args.connection.now) (state g.S.Store c.bucket_state.new.connection) (state g.S.Store c.wanted_head.new.connection)
+      works_then (state g.S.Store g.P.Shelf c.args.connection.now) (state g.S.Store g.P.Shelf c.bucket_state.new.connection) (state g.S.Store g.P.Shelf c.wanted_head.new.connection)
       (c.in_ok-bucket_state.ensures.works.working (c.in-Err-Refused.ensures.works.within.follows.clean clean)) ((rw c.in-Err-Refused.field-0-is at c.in-Err-Refused.ensures.works.working) clean);
 }
 
 pub returns-in-Err-Refused-clause-decides : goal.returns-in-Err-Refused-clause-decides
 returns-in-Err-Refused-clause-decides g c clean =
     let copy = c.args.copy.now in
-    let first = state g.S.Store c.args.connection.now in
+    let first = state g.S.Store g.P.Shelf c.args.connection.now in
     let clean_first = c.in-Err-Refused.ensures.works.within.follows.clean clean in
     let one = c.in_ok-bucket_state.ensures.decides clean_first in
     let two = (rw c.in-Err-Refused.field-0-is at c.in-Err-Refused.ensures.decides) clean in

@@ -1,5 +1,5 @@
 use Rattle.std.proofs.Common.{rules, ap, ◌∙◌}
-use Rattle.sqlite.specs.Held.{state}
+use Rattle.bh_base.specs.Connections.{state}
 use Rattle.bh_view.specs.Bodies.{body_copied}
 use Rattle.bh_schema.proofs.Storing.{on_ok}
 use Rattle.bh_schema.specs.Views.{head_seen}
@@ -14,7 +14,7 @@ use Rattle.bh_objects.proofs.copies.write_copy.Goals as goal
 pub drop_replaced-requires-clause-held : goal.drop_replaced-requires-clause-held
 drop_replaced-requires-clause-held g c clean r is =
     let copy = c.args.copy.now in
-    let old = tables_at (state g.S.Store c.args.connection.now) in
+    let old = tables_at (state g.S.Store g.P.Shelf c.args.connection.now) in
     let one = rw c.as_str.ensures.value at (on_ok _ c.in_ok-or_trouble.ensures.ok c.copy_body.ensures.copied clean).is in
     ap (bytes_of_id copy.tenant.now copy.bucket.now copy.key.now 0) one ∙ size_again copy.tenant.now copy.bucket.now copy.key.now 0 _ _ old ∙ c.requires.held (c.copy_body.ensures.within.follows.clean clean) r is
 
@@ -31,9 +31,9 @@ returns-clause-changes g c = record {
       record {
         within = it.within;
         is = copy_chain c.args.mode c.args.entry.numbers.before c.args.entry.numbers.after c.args.entry.replaced copy.tenant.now copy.bucket.now copy.key.now copy.at head
-            (tables_at (state g.S.Store c.args.connection.now)) (tables_at (state g.S.Store c.copy_body.new.connection)) (tables_at (state g.S.Store c.drop_replaced.new.connection)) (tables_at (state g.S.Store c.add_version.new.connection))
+            (tables_at (state g.S.Store g.P.Shelf c.args.connection.now)) (tables_at (state g.S.Store g.P.Shelf c.copy_body.new.connection)) (tables_at (state g.S.Store g.P.Shelf c.drop_replaced.new.connection)) (tables_at (state g.S.Store g.P.Shelf c.add_version.new.connection))
             ((rw c.as_str.ensures.value at (on_ok _ c.in_ok-or_trouble.ensures.ok c.copy_body.ensures.copied clean_body).is)
-            ∙ ap (λ (n : Numbers). body_copied (copy.tenant.now, head.seq) (copy.tenant.now, n.before.entry) (tables_at (state g.S.Store c.args.connection.now))) c.numbers.view_is)
+            ∙ ap (λ (n : Numbers). body_copied (copy.tenant.now, head.seq) (copy.tenant.now, n.before.entry) (tables_at (state g.S.Store g.P.Shelf c.args.connection.now))) c.numbers.view_is)
             (c.in_ok-drop_replaced.ensures.changes.holds clean_room).is
             (rw c.as_str-2.ensures.value at it.is);
       }) c.add_version.ensures.changes.holds;

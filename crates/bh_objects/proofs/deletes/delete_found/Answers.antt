@@ -1,6 +1,6 @@
 use Rattle.std.proofs.Common.{rules, ◌≡◌, ℕ, find, Option, None, Err, sym, ap, ◌∙◌, subst}
 use Rattle.std.proofs.lemmas.Result.{err_from_is_err_and}
-use Rattle.sqlite.specs.Held.{state}
+use Rattle.bh_base.specs.Connections.{state}
 use Rattle.bh_types.specs.declared.id.VersionId.{VersionId}
 use Rattle.bh_types.specs.declared.wanted.Wanted.TheVariants.{Named}
 use Rattle.bh_model.specs.Operations.{Removed}
@@ -9,7 +9,7 @@ use Rattle.bh_tables.specs.Typed.{Tables}
 use Rattle.bh_view.proofs.BucketLemmas.{row_of}
 use Rattle.bh_storage.specs.Answers.{removed_answer}
 use Rattle.bh_storage.specs.Calls.{Decides}
-use Rattle.bh_schema.specs.Layer.{IsStateClean}
+use Rattle.bh_base.specs.Layer.{IsStateClean}
 use Rattle.bh_schema.specs.Rows.{SeenHead, seen_head}
 use Rattle.bh_schema.specs.Views.{head_seen}
 use Rattle.bh_schema.specs.Working.{tables_at}
@@ -22,17 +22,17 @@ use Rattle.bh_objects.proofs.Deleting.{Deletes, deletes_read, deletes_failed, ma
 use Rattle.bh_objects.proofs.deletes.delete_found.Given as given
 use Rattle.bh_objects.proofs.deletes.delete_found.Goals as goal
 
-done : (g : given.Over) (c : goal.After-is_marker g) → IsStateClean (state g.S.Store c.drop_dated.new.connection)
-    → Deletes c.args.tenant.now c.args.bucket.now c.args.key.now c.args.at (Named c.args.id) (Removed c.told_id.result c.is_marker.result) (tables_at (state g.S.Store c.args.connection.now)) (tables_at (state g.S.Store c.drop_dated.new.connection))
+done : (g : given.Over) (c : goal.After-is_marker g) → IsStateClean (state g.S.Store g.P.Shelf c.drop_dated.new.connection)
+    → Deletes c.args.tenant.now c.args.bucket.now c.args.key.now c.args.at (Named c.args.id) (Removed c.told_id.result c.is_marker.result) (tables_at (state g.S.Store g.P.Shelf c.args.connection.now)) (tables_at (state g.S.Store g.P.Shelf c.drop_dated.new.connection))
 done g c clean =
     let t = c.args.tenant.now in
     let b = c.args.bucket.now in
     let k = c.args.key.now in
     let n = c.args.number in
-    let first = state g.S.Store c.args.connection.now in
+    let first = state g.S.Store g.P.Shelf c.args.connection.now in
     let old = tables_at first in
-    let middle = tables_at (state g.S.Store c.past_date.new.connection) in
-    let new = tables_at (state g.S.Store c.drop_dated.new.connection) in
+    let middle = tables_at (state g.S.Store g.P.Shelf c.past_date.new.connection) in
+    let new = tables_at (state g.S.Store g.P.Shelf c.drop_dated.new.connection) in
     let clean_middle = c.in_ok-drop_dated.ensures.changes.within.follows.clean clean in
     let clean_old = c.in_ok-date.ensures.works.within.follows.clean clean_middle in
     let one = c.in_ok-date.ensures.decides clean_middle in
@@ -50,7 +50,7 @@ returns-clause-works g c = record {
   opens = search rules;
   working = λ clean.
       let it = done g c clean in
-      still_working (state g.S.Store c.args.connection.now) (state g.S.Store c.drop_dated.new.connection) (c.in_ok-drop_dated.ensures.changes.holds clean).within it.0.1 it.1 it.0.2 it.2;
+      still_working (state g.S.Store g.P.Shelf c.args.connection.now) (state g.S.Store g.P.Shelf c.drop_dated.new.connection) (c.in_ok-drop_dated.ensures.changes.holds clean).within it.0.1 it.1 it.0.2 it.2;
 }
 
 pub returns-clause-carries : goal.returns-clause-carries
@@ -63,9 +63,9 @@ returns-in_err-date-clause-carries g c clean =
     let b = c.args.bucket.now in
     let k = c.args.key.now in
     let n = c.args.number in
-    let first = state g.S.Store c.args.connection.now in
+    let first = state g.S.Store g.P.Shelf c.args.connection.now in
     let old = tables_at first in
-    let new = tables_at (state g.S.Store c.past_date.new.connection) in
+    let new = tables_at (state g.S.Store g.P.Shelf c.past_date.new.connection) in
     let clean_old = c.in_err-date.ensures.works.within.follows.clean clean in
     let row = row_of seen_head (find (is_version t b k n) old.versions) (head_seen c.args.head.now) (sym (c.requires.found clean_old)) in
     rw (p.1, p.2) (deletes_failed old new t b k c.args.at (host_at first (c.requires.working clean_old)) c.args.mode (c.requires.state clean_old) c.args.id n c.requires.number row.0 row.1 (λ date. date) removed_answer c.in_err-date.field-0.0
@@ -79,5 +79,5 @@ drop_dated-requires-clause-held g c clean =
     let t = c.args.tenant.now in
     let b = c.args.bucket.now in
     let k = c.args.key.now in
-    let old = tables_at (state g.S.Store c.args.connection.now) in
+    let old = tables_at (state g.S.Store g.P.Shelf c.args.connection.now) in
     ap (bytes_of_id t b k c.args.number) (c.in_ok-date.ensures.decides clean).1 ∙ size_of_head t b k c.args.number old (head_seen c.args.head.now) (c.requires.found (c.in_ok-date.ensures.works.within.follows.clean clean)) ∙ sym c.as_replaced-entry.ensures.size

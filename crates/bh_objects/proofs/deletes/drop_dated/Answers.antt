@@ -1,5 +1,5 @@
 use Rattle.std.proofs.Common.{rules, ap, ◌∙◌}
-use Rattle.sqlite.specs.Held.{state}
+use Rattle.bh_base.specs.Connections.{state}
 use Rattle.bh_schema.specs.Working.{tables_at}
 use Rattle.bh_schema.specs.Written.{bytes_of_id}
 use Rattle.bh_objects.specs.Writes.{without_entry}
@@ -12,7 +12,7 @@ drop_entry-requires-clause-held g c clean =
     let t = c.args.tenant.now in
     let b = c.args.bucket.now in
     let k = c.args.key.now in
-    ap (bytes_of_id t b k c.args.number) (c.in_ok-set_date.ensures.changes.holds clean).is ∙ sizes_stay t b k c.args.number c.args.entry.seq c.args.date (tables_at (state g.S.Store c.args.connection.now)) ∙ c.requires.held (c.in_ok-set_date.ensures.changes.within.follows.clean clean)
+    ap (bytes_of_id t b k c.args.number) (c.in_ok-set_date.ensures.changes.holds clean).is ∙ sizes_stay t b k c.args.number c.args.entry.seq c.args.date (tables_at (state g.S.Store g.P.Shelf c.args.connection.now)) ∙ c.requires.held (c.in_ok-set_date.ensures.changes.within.follows.clean clean)
 
 pub returns : goal.returns
 returns g c = record {

@@ -1,6 +1,6 @@
 use Rattle.std.proofs.Common.{rules, ap, ◌∙◌, subst}
 use Rattle.std.specs.Option.{option_copied}
-use Rattle.sqlite.specs.Held.{state}
+use Rattle.bh_base.specs.Connections.{state}
 use Rattle.bh_model.specs.Operations.{get_object}
 use Rattle.bh_tables.specs.Typed.{Tables}
 use Rattle.bh_view.specs.View.{view}
@@ -9,6 +9,8 @@ use Rattle.bh_storage.specs.Answers.{found_answer}
 use Rattle.bh_storage.specs.Calls.{Carries}
 use Rattle.bh_objects.specs.Found.{mode_in}
 use Rattle.bh_objects.proofs.Working.{works_then, unless_kept}
+use Rattle.std.proofs.lemmas.Result.{err_from_is_err_and}
+use Rattle.bh_objects.proofs.Unfound.{get_unfound}
 use Rattle.bh_objects.proofs.gets.get_object.Goals as goal
 
 pub find_object-requires-clause-working : goal.find_object-requires-clause-working
@@ -24,12 +26,18 @@ returns-clause-works g c = record {
   within = search rules;
   opens = search rules;
   working = unless_kept c.find_object.result _ _
-      (λ still clean. works_then (state g.S.Store c.args.connection.now) (state g.S.Store c.bucket_state.new.connection) (state g.S.Store c.find_object.new.connection) (c.in_ok-mode.ensures.works.working (c.find_object.ensures.works.within.follows.clean clean)) (still clean))
+      (λ still clean. works_then (state g.S.Store g.P.Shelf c.args.connection.now) (state g.S.Store g.P.Shelf c.bucket_state.new.connection) (state g.S.Store g.P.Shelf c.find_object.new.connection) (c.in_ok-mode.ensures.works.working (c.find_object.ensures.works.within.follows.clean clean)) (still clean))
       c.find_object.ensures.works.working;
 }
 
 pub returns-clause-carries : goal.returns-clause-carries
 returns-clause-carries g c clean =
-    let last = tables_at (state g.S.Store c.find_object.new.connection) in
+    let last = tables_at (state g.S.Store g.P.Shelf c.find_object.new.connection) in
     subst (λ (x : Tables). Carries (found_answer last) c.args.tenant.now (get_object c.args.bucket.now c.args.key.now c.args.wanted (option_copied c.args.range)) x last c.find_object.result)
     (c.in_ok-mode.ensures.decides (c.find_object.ensures.works.within.follows.clean clean)).1 (c.find_object.ensures.carries clean)
+
+pub returns-in_err-mode-clause-carries : goal.returns-in_err-mode-clause-carries
+returns-in_err-mode-clause-carries g c clean =
+    let p = err_from_is_err_and c.from_residual.result c.from_residual.ensures.1 in
+    let last = tables_at (state g.S.Store g.P.Shelf c.bucket_state.new.connection) in
+    rw (p.1, p.2) (get_unfound (λ mode. mode) (found_answer last) c.args.tenant.now c.args.bucket.now c.args.key.now c.args.wanted (tables_at (state g.S.Store g.P.Shelf c.args.connection.now)) last (option_copied c.args.range) c.in_err-mode.field-0.0 (c.in_err-mode.ensures.decides clean))

@@ -1,6 +1,6 @@
 use Rattle.std.proofs.Common.{rules, ◌≡◌, ◌≤◌, Err, sym, ap, subst, ◌∙◌}
 use Rattle.std.specs.Option.{option_copied}
-use Rattle.sqlite.specs.Held.{state}
+use Rattle.bh_base.specs.Connections.{state}
 use Rattle.bh_storage.specs.Answers.{stored_answer}
 use Rattle.bh_storage.specs.declared.answer.StoredVersion.{StoredVersion}
 use Rattle.bh_objects.specs.declared.objects.Admitted.{Admitted}
@@ -52,15 +52,15 @@ returns-in-Ok-clause-works g c = record {
 pub returns-in-Ok-clause-operates : goal.returns-in-Ok-clause-operates
 returns-in-Ok-clause-operates g c =
     let object = c.args.object.now in
-    let new = tables_at (state g.S.Store c.store_admitted.new.connection) in
+    let new = tables_at (state g.S.Store g.P.Shelf c.store_admitted.new.connection) in
     operates_asked stored_answer object.tenant.now (put_step object (option_copied c.args.given)) (λ old bytes. StoresPieces g.D.Digester.digest_of c.args.blocks.now.size bytes old new) _ _ _
-    (tables_at (state g.S.Store c.args.connection.now)) (tables_at (state g.S.Store c.admit.new.connection)) new (λ clean. (c.in-Ok.ensures.decides (c.store_admitted.ensures.works.within.follows.clean clean)).1) c.store_admitted.result c.store_admitted.ensures.operates
+    (tables_at (state g.S.Store g.P.Shelf c.args.connection.now)) (tables_at (state g.S.Store g.P.Shelf c.admit.new.connection)) new (λ clean. (c.in-Ok.ensures.decides (c.store_admitted.ensures.works.within.follows.clean clean)).1) c.store_admitted.result c.store_admitted.ensures.operates
 
 -- the checksum comes before what the head decides
 pub returns-in-Err-clause-operates : goal.returns-in-Err-clause-operates
 returns-in-Err-clause-operates g c =
     let object = c.args.object.now in
-    let v = view (tables_at (state g.S.Store c.args.connection.now)) object.tenant.now in
+    let v = view (tables_at (state g.S.Store g.P.Shelf c.args.connection.now)) object.tenant.now in
     let (given, gives, by) = c.refused_checked.ensures.came in
     operates_refusing stored_answer object.tenant.now (put_step object (option_copied c.args.given)) _ _ _ _ _ _ given gives _ c.refused_checked.result by (λ r count it clean.
     let (refusal, is, told) = it in

@@ -1,6 +1,6 @@
 use Rattle.std.proofs.Common.{rules, ◌≤◌, sym, ap, subst, ◌∙◌}
 use Rattle.std.specs.Option.{option_copied}
-use Rattle.sqlite.specs.Held.{state}
+use Rattle.bh_base.specs.Connections.{state}
 use Rattle.bh_storage.specs.Answers.{stored_answer}
 use Rattle.bh_storage.specs.declared.answer.StoredVersion.{StoredVersion}
 use Rattle.bh_types.specs.declared.bucket_state.BucketState.{BucketState}
@@ -42,9 +42,9 @@ returns-in-Ok-clause-works g c = record {
 pub returns-in-Ok-clause-operates : goal.returns-in-Ok-clause-operates
 returns-in-Ok-clause-operates g c =
     let object = c.args.object.now in
-    let new = tables_at (state g.S.Store c.put_into.new.connection) in
+    let new = tables_at (state g.S.Store g.P.Shelf c.put_into.new.connection) in
     operates_asked stored_answer object.tenant.now (put_step object (option_copied c.args.given)) (λ old bytes. StoresPieces g.D.Digester.digest_of c.args.blocks.now.size bytes old new) _ _ _
-    (tables_at (state g.S.Store c.args.connection.now)) (tables_at (state g.S.Store c.bucket_state.new.connection)) new (λ clean. (c.in-Ok.ensures.decides (c.put_into.ensures.works.within.follows.clean clean)).1) c.put_into.result c.put_into.ensures.operates
+    (tables_at (state g.S.Store g.P.Shelf c.args.connection.now)) (tables_at (state g.S.Store g.P.Shelf c.bucket_state.new.connection)) new (λ clean. (c.in-Ok.ensures.decides (c.put_into.ensures.works.within.follows.clean clean)).1) c.put_into.result c.put_into.ensures.operates
 
 pub returns-in-Err-clause-operates : goal.returns-in-Err-clause-operates
 returns-in-Err-clause-operates g c =
@@ -52,7 +52,7 @@ returns-in-Err-clause-operates g c =
     let (given, gives, by) = c.refused_whole.ensures.came in
     operates_refusing stored_answer object.tenant.now (put_step object (option_copied c.args.given)) _ _ _ _ _ _ given gives _ c.refused_whole.result by (λ r count is clean.
     let d = rw is at c.in-Err.ensures.decides clean in
-    (put_nowhere object.at object.bucket.now object.key.now given (option_copied c.args.given) object.date (view (tables_at (state g.S.Store c.args.connection.now)) object.tenant.now) r d.0, d.1))
+    (put_nowhere object.at object.bucket.now object.key.now given (option_copied c.args.given) object.date (view (tables_at (state g.S.Store g.P.Shelf c.args.connection.now)) object.tenant.now) r d.0, d.1))
 
 pub returns-in-Err-clause-works : goal.returns-in-Err-clause-works
 returns-in-Err-clause-works g c =

@@ -1,7 +1,7 @@
 use Rattle.std.proofs.Common.{rules, ◌≡◌, Option, None, Ok, Err, refl, sym, ap, subst, ◌∙◌}
 use Rattle.std.proofs.lemmas.Result.{err_from_is_err_and}
 use Rattle.std.specs.Option.{option_copied}
-use Rattle.sqlite.specs.Held.{state}
+use Rattle.bh_base.specs.Connections.{state}
 use Rattle.bh_http.proofs.BodyLemmas.{going_may}
 use Rattle.bh_types.specs.declared.refusal.Refusal.{Refusal}
 use Rattle.bh_model.specs.Entries.{new_id}
@@ -27,7 +27,7 @@ store_object-requires-clause-may g c =
 pub store_object-requires-clause-held : goal.store_object-requires-clause-held
 store_object-requires-clause-held g c clean r is =
     let object = c.args.object.now in
-    replaced_held object.tenant.now object.bucket.now object.key.now (tables_at (state g.S.Store c.args.connection.now)) c.args.mode r (sym (c.requires.replaced clean) ∙ is)
+    replaced_held object.tenant.now object.bucket.now object.key.now (tables_at (state g.S.Store g.P.Shelf c.args.connection.now)) c.args.mode r (sym (c.requires.replaced clean) ∙ is)
 
 pub returns-in_err-outcome-clause-operates : goal.returns-in_err-outcome-clause-operates
 returns-in_err-outcome-clause-operates g c =
@@ -47,9 +47,9 @@ returns-in_ok-set_date-in-Done-clause-works g c = record {
   opens = search rules;
   working = λ clean.
       let object = c.args.object.now in
-      let first = state g.S.Store c.args.connection.now in
-      let stored = state g.S.Store c.store_object.new.connection in
-      let new = state g.S.Store c.set_date.new.connection in
+      let first = state g.S.Store g.P.Shelf c.args.connection.now in
+      let stored = state g.S.Store g.P.Shelf c.store_object.new.connection in
+      let new = state g.S.Store g.P.Shelf c.set_date.new.connection in
       let numbers = c.args.admitted.entry.numbers in
       let it = rw c.in-Done.is at c.in_ok-outcome.ensures.received in
       let (whole, right, told, (key, becomes)) = it.received in
@@ -71,9 +71,9 @@ returns-in_ok-set_date-in-Done-clause-operates g c =
     let it = rw c.in-Done.is at c.in_ok-outcome.ensures.received in
     operates_done _ _ _ _ _ _ _ _ _ it.bytes it.gives _ it.received.0 (λ clean.
     let object = c.args.object.now in
-    let first = state g.S.Store c.args.connection.now in
-    let stored = state g.S.Store c.store_object.new.connection in
-    let new = state g.S.Store c.set_date.new.connection in
+    let first = state g.S.Store g.P.Shelf c.args.connection.now in
+    let stored = state g.S.Store g.P.Shelf c.store_object.new.connection in
+    let new = state g.S.Store g.P.Shelf c.set_date.new.connection in
     let numbers = c.args.admitted.entry.numbers in
     let it = rw c.in-Done.is at c.in_ok-outcome.ensures.received in
     let (whole, right, told, (key, becomes)) = it.received in
@@ -88,9 +88,9 @@ returns-in_ok-set_date-in-Done-clause-operates g c =
     dated_is c.in_ok-set_date-in-Done.ensures.near right in
     rw (c.new_id_told-id.ensures ∙ ap (λ (n : Numbers). id_told c.args.mode (new_id c.args.mode n.before.version)) c.numbers.view_is, told) done.dated.0) (λ clean.
     let object = c.args.object.now in
-    let first = state g.S.Store c.args.connection.now in
-    let stored = state g.S.Store c.store_object.new.connection in
-    let new = state g.S.Store c.set_date.new.connection in
+    let first = state g.S.Store g.P.Shelf c.args.connection.now in
+    let stored = state g.S.Store g.P.Shelf c.store_object.new.connection in
+    let new = state g.S.Store g.P.Shelf c.set_date.new.connection in
     let numbers = c.args.admitted.entry.numbers in
     let it = rw c.in-Done.is at c.in_ok-outcome.ensures.received in
     let (whole, right, told, (key, becomes)) = it.received in
@@ -111,5 +111,5 @@ returns-in-Spoilt-clause-operates g c =
     let it = rw c.in-Spoilt.is at c.in_ok-outcome.ensures.received in
     let (whole, wrong, is) = it.received in
     operates_spoilt _ _ _ _ _ _ _ _ _ it.bytes it.gives _ whole (λ clean.
-    put_bad object.at object.bucket.now object.key.now it.bytes (option_copied c.args.given) object.date (view (tables_at (state g.S.Store c.args.connection.now)) object.tenant.now) c.args.mode (c.requires.mode (c.in_ok-outcome.ensures.within.follows.clean clean)) wrong
+    put_bad object.at object.bucket.now object.key.now it.bytes (option_copied c.args.given) object.date (view (tables_at (state g.S.Store g.P.Shelf c.args.connection.now)) object.tenant.now) c.args.mode (c.requires.mode (c.in_ok-outcome.ensures.within.follows.clean clean)) wrong
     ∙ ap (λ (r : Refusal). Err r) (sym is))

@@ -1,6 +1,6 @@
 use Rattle.std.proofs.Common.{ap, ◌∙◌}
 use Rattle.std.proofs.lemmas.Result.{err_from_is_err_and}
-use Rattle.sqlite.specs.Held.{state}
+use Rattle.bh_base.specs.Connections.{state}
 use Rattle.bh_http.proofs.BodyLemmas.{going_may}
 use Rattle.bh_view.specs.Bodies.{pieces, body_stored}
 use Rattle.bh_schema.specs.Working.{tables_at}
@@ -21,7 +21,7 @@ write_object-requires-clause-held g c clean r is =
     let object = c.args.object.now in
     let (whole, right, told, becomes) = (rw c.in-Done.is at c.in_ok-outcome.ensures.received).received in
     let one = rw c.as_str-tenant.ensures.value at (becomes clean).is in
-    ap (bytes_of_id object.tenant.now object.bucket.now object.key.now 0) one ∙ size_again object.tenant.now object.bucket.now object.key.now 0 _ _ (tables_at (state g.S.Store c.args.connection.now))
+    ap (bytes_of_id object.tenant.now object.bucket.now object.key.now 0) one ∙ size_again object.tenant.now object.bucket.now object.key.now 0 _ _ (tables_at (state g.S.Store g.P.Shelf c.args.connection.now))
     ∙ c.requires.held (c.in_ok-outcome.ensures.within.follows.clean clean) r is
 
 pub returns-in_err-write_object-in-Done-clause-received : goal.returns-in_err-write_object-in-Done-clause-received
@@ -52,9 +52,9 @@ returns-in_ok-write_object-in-Done-clause-received g c =
               record {
                 within = it_is.within;
                 is = received_chain g.D.Digester.digest_of c.args.blocks.now.size c.args.mode numbers.before numbers.after c.args.entry.replaced object.tenant.now object.bucket.now object.key.now object.at it.bytes _ _
-                    (tables_at (state g.S.Store c.args.connection.now)) (tables_at (state g.S.Store c.store_checked.new.connection)) (tables_at (state g.S.Store c.write_object.new.connection))
+                    (tables_at (state g.S.Store g.P.Shelf c.args.connection.now)) (tables_at (state g.S.Store g.P.Shelf c.store_checked.new.connection)) (tables_at (state g.S.Store g.P.Shelf c.write_object.new.connection))
                     (rw c.as_str-tenant.ensures.value at (becomes (written.changes.within.follows.clean clean)).is
-                    ∙ ap (λ (it : NewEntry). body_stored g.D.Digester.digest_of (object.tenant.now, it.numbers.before.entry) 0 (pieces c.args.blocks.now.size it_bytes) (tables_at (state g.S.Store c.args.connection.now))) c.entry.view_is) (c.due-size.ensures ∙ counted_whole _ _ it.bytes it.gives whole) (c.as_str.ensures.value ∙ told) it_is.is;
+                    ∙ ap (λ (it : NewEntry). body_stored g.D.Digester.digest_of (object.tenant.now, it.numbers.before.entry) 0 (pieces c.args.blocks.now.size it_bytes) (tables_at (state g.S.Store g.P.Shelf c.args.connection.now))) c.entry.view_is) (c.due-size.ensures ∙ counted_whole _ _ it.bytes it.gives whole) (c.as_str.ensures.value ∙ told) it_is.is;
               },
         ),
       );

@@ -1,6 +1,6 @@
 use Rattle.std.proofs.Common.{rules, sym, ap, ◌∙◌, Ok}
 use Rattle.std.proofs.lemmas.Result.{err_from_is_err_and}
-use Rattle.sqlite.specs.Held.{state}
+use Rattle.bh_base.specs.Connections.{state}
 use Rattle.bh_types.specs.Counts.{Counts}
 use Rattle.bh_types.specs.Outcomes.{◌>>=◌}
 use Rattle.bh_tables.specs.Typed.{Tables}
@@ -14,8 +14,8 @@ use Rattle.bh_objects.proofs.quotas.new_entry.Goals as goal
 
 pub tenant_account-requires : goal.tenant_account-requires
 tenant_account-requires g c clean =
-    let first = state g.S.Store c.args.connection.now in
-    let second = state g.S.Store c.find_replaced.new.connection in
+    let first = state g.S.Store g.P.Shelf c.args.connection.now in
+    let second = state g.S.Store g.P.Shelf c.find_replaced.new.connection in
     works_on first second (asked_working first second c.requires.working c.in_ok-replaced.ensures.reads.within c.in_ok-replaced.ensures.reads.same clean)
 
 pub returns-in_err-require_room-clause-works : goal.returns-in_err-require_room-clause-works
@@ -23,9 +23,9 @@ returns-in_err-require_room-clause-works g c = record {
   within = search rules;
   opens = search rules;
   working = any_unless c.from_residual-in_err-require_room.result _ (λ clean.
-      let first = state g.S.Store c.args.connection.now in
-      let second = state g.S.Store c.find_replaced.new.connection in
-      let third = state g.S.Store c.tenant_account.new.connection in
+      let first = state g.S.Store g.P.Shelf c.args.connection.now in
+      let second = state g.S.Store g.P.Shelf c.find_replaced.new.connection in
+      let third = state g.S.Store g.P.Shelf c.tenant_account.new.connection in
       works_then first second third
       (asked_working first second c.requires.working c.in_ok-replaced.ensures.reads.within c.in_ok-replaced.ensures.reads.same (c.in_ok-account.ensures.works.within.follows.clean clean))
       (c.in_ok-account.ensures.works.working clean));
@@ -33,8 +33,8 @@ returns-in_err-require_room-clause-works g c = record {
 
 pub returns-in_err-require_room-clause-decides : goal.returns-in_err-require_room-clause-decides
 returns-in_err-require_room-clause-decides g c clean =
-    let first = state g.S.Store c.args.connection.now in
-    let second = state g.S.Store c.find_replaced.new.connection in
+    let first = state g.S.Store g.P.Shelf c.args.connection.now in
+    let second = state g.S.Store g.P.Shelf c.find_replaced.new.connection in
     let old = tables_at first in
     let t = c.args.tenant.now in
     let quota = c.in_ok-account.account.quota in
@@ -52,16 +52,16 @@ returns-in_err-require_room-clause-decides g c clean =
     ∙ ap (λ n. ◌>>=◌ {B = Counts × Counts} (room_under quota n bytes c.args.added) (λ _. numbers_from c.args.mode counters)) (sym its) in
     let p = err_from_is_err_and c.from_residual-in_err-require_room.result c.from_residual-in_err-require_room.ensures.1 in
     rw (p.1, p.2) (room_failed (λ (entry : NewEntry). (entry.numbers.before, entry.numbers.after)) (λ (x : Tables). entry_numbers_in c.args.mode c.args.bucket.now c.args.key.now c.args.added (view x t))
-    (room_under quota used bytes c.args.added) (λ _. numbers_from c.args.mode counters) old (tables_at (state g.S.Store c.tenant_account.new.connection)) c.in_err-require_room.field-0.0 (two.1 ∙ one) whole c.in_err-require_room.ensures)
+    (room_under quota used bytes c.args.added) (λ _. numbers_from c.args.mode counters) old (tables_at (state g.S.Store g.P.Shelf c.tenant_account.new.connection)) c.in_err-require_room.field-0.0 (two.1 ∙ one) whole c.in_err-require_room.ensures)
 
 pub returns-in_err-after-clause-works : goal.returns-in_err-after-clause-works
 returns-in_err-after-clause-works g c = record {
   within = search rules;
   opens = search rules;
   working = any_unless c.from_residual-in_err-after.result _ (λ clean.
-      let first = state g.S.Store c.args.connection.now in
-      let second = state g.S.Store c.find_replaced.new.connection in
-      let third = state g.S.Store c.tenant_account.new.connection in
+      let first = state g.S.Store g.P.Shelf c.args.connection.now in
+      let second = state g.S.Store g.P.Shelf c.find_replaced.new.connection in
+      let third = state g.S.Store g.P.Shelf c.tenant_account.new.connection in
       works_then first second third
       (asked_working first second c.requires.working c.in_ok-replaced.ensures.reads.within c.in_ok-replaced.ensures.reads.same (c.in_ok-account.ensures.works.within.follows.clean clean))
       (c.in_ok-account.ensures.works.working clean));
@@ -69,8 +69,8 @@ returns-in_err-after-clause-works g c = record {
 
 pub returns-in_err-after-clause-decides : goal.returns-in_err-after-clause-decides
 returns-in_err-after-clause-decides g c clean =
-    let first = state g.S.Store c.args.connection.now in
-    let second = state g.S.Store c.find_replaced.new.connection in
+    let first = state g.S.Store g.P.Shelf c.args.connection.now in
+    let second = state g.S.Store g.P.Shelf c.find_replaced.new.connection in
     let old = tables_at first in
     let t = c.args.tenant.now in
     let quota = c.in_ok-account.account.quota in
@@ -98,9 +98,9 @@ returns-clause-works g c = record {
   within = search rules;
   opens = search rules;
   working = λ clean.
-      let first = state g.S.Store c.args.connection.now in
-      let second = state g.S.Store c.find_replaced.new.connection in
-      let third = state g.S.Store c.tenant_account.new.connection in
+      let first = state g.S.Store g.P.Shelf c.args.connection.now in
+      let second = state g.S.Store g.P.Shelf c.find_replaced.new.connection in
+      let third = state g.S.Store g.P.Shelf c.tenant_account.new.connection in
       works_then first second third
       (asked_working first second c.requires.working c.in_ok-replaced.ensures.reads.within c.in_ok-replaced.ensures.reads.same (c.in_ok-account.ensures.works.within.follows.clean clean))
       (c.in_ok-account.ensures.works.working clean);
@@ -108,8 +108,8 @@ returns-clause-works g c = record {
 
 pub returns-clause-decides : goal.returns-clause-decides
 returns-clause-decides g c clean =
-    let first = state g.S.Store c.args.connection.now in
-    let second = state g.S.Store c.find_replaced.new.connection in
+    let first = state g.S.Store g.P.Shelf c.args.connection.now in
+    let second = state g.S.Store g.P.Shelf c.find_replaced.new.connection in
     let old = tables_at first in
     let t = c.args.tenant.now in
     let quota = c.in_ok-account.account.quota in

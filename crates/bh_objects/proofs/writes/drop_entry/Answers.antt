@@ -1,5 +1,5 @@
 use Rattle.std.proofs.Common.{rules, ap, ◌∙◌}
-use Rattle.sqlite.specs.Held.{state}
+use Rattle.bh_base.specs.Connections.{state}
 use Rattle.bh_schema.proofs.Storing.{on_ok}
 use Rattle.bh_schema.specs.Written.{bytes_of_id}
 use Rattle.bh_schema.specs.Working.{tables_at}
@@ -14,7 +14,7 @@ delete_version-requires-clause-held g c clean =
     let k = c.args.key.now in
     let one = rw c.as_str-tenant.ensures.value at (on_ok _ c.in_ok-or_trouble.ensures.ok c.drop_body.ensures.dropped clean).is in
     rw (c.as_str-tenant.ensures.value, c.as_str-2.ensures.value, c.as_bytes-key.ensures.value, c.as_str.ensures.value) (
-    ap (bytes_of_id t b k c.args.number) one ∙ size_again t b k c.args.number _ _ (tables_at (state g.S.Store c.args.connection.now)) ∙ c.requires.held (c.drop_body.ensures.within.follows.clean clean)
+    ap (bytes_of_id t b k c.args.number) one ∙ size_again t b k c.args.number _ _ (tables_at (state g.S.Store g.P.Shelf c.args.connection.now)) ∙ c.requires.held (c.drop_body.ensures.within.follows.clean clean)
     )
 
 pub returns : goal.returns

@@ -1,7 +1,7 @@
 use Rattle.std.proofs.Common.{◌≡◌, inl, inr, sym, subst}
 use Rattle.std.proofs.lemmas.Result.{on_ok_weaker}
 use Rattle.sqlite.specs.Held.{state}
-use Rattle.bh_schema.specs.Layer.{standing}
+use Rattle.bh_base.specs.Layer.{standing}
 use Rattle.bh_open.specs.Opening.{Opens}
 use Rattle.bh_open.specs.Versions.{schema_of}
 use Rattle.bh_open.proofs.Steps.{opens_brought, opens_same, left_over}

@@ -1,7 +1,7 @@
 use Rattle.std.proofs.Common.{◌≡◌, IfOk, ap, sym, subst, ◌∙◌}
 use Rattle.sqlite.specs.Held.{state}
 use Rattle.bh_rows.specs.Means.{is_trouble}
-use Rattle.bh_schema.specs.Layer.{Standing, standing}
+use Rattle.bh_base.specs.Layer.{Standing, standing}
 use Rattle.bh_schema.proofs.Finds.{handed_on}
 use Rattle.bh_open.specs.Opening.{Finds}
 use Rattle.bh_open.specs.Versions.{schema_of, IsHostWith}

@@ -2,7 +2,7 @@ use Rattle.std.proofs.Common.{◌≡◌, ◌≢◌, ◌∙◌, Result, Ok, Err, 
 use Rattle.std.proofs.lemmas.Result.{IfOk-weaker, IfErr-weaker}
 use Rattle.sqlite.specs.Held.{state}
 use Rattle.sqlite.specs.Schema.{Schema}
-use Rattle.bh_schema.specs.Layer.{standing}
+use Rattle.bh_base.specs.Layer.{standing}
 use Rattle.bh_open.specs.Versions.{schema_of, IsVersionOf}
 use Rattle.bh_open.specs.declared.found.HostVersion.{HostVersion}
 use Rattle.bh_open.proofs.Steps.{was_inside, settled_when, schema_seen, seen_schema, schema_of_found, finds_of, finds_none, host_with}

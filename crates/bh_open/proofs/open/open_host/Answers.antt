@@ -1,6 +1,6 @@
 use Rattle.std.proofs.Common.{Ok, Err, IfOk, IfErr, ◌≡◌, subst}
 use Rattle.sqlite.specs.Held.{state}
-use Rattle.bh_schema.specs.Layer.{standing, IsStateClean}
+use Rattle.bh_base.specs.Layer.{standing, IsStateClean}
 use Rattle.bh_open.specs.Opening.{Finds, Opens}
 use Rattle.bh_open.specs.Versions.{schema_of}
 use Rattle.bh_open.proofs.Steps.{shows, host_of, rests, tells, names, any_schema}

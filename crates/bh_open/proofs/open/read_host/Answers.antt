@@ -2,7 +2,7 @@ use Rattle.std.proofs.Common.{map, subst, ◌≡◌, ◌∙◌}
 use Rattle.std.proofs.lemmas.Result.{IfOk-weaker, IfErr-weaker}
 use Rattle.sqlite.specs.Held.{state}
 use Rattle.bh_tables.specs.Typed.{tables_in}
-use Rattle.bh_schema.specs.Layer.{Standing, standing, IsStateClean}
+use Rattle.bh_base.specs.Layer.{Standing, standing, IsStateClean}
 use Rattle.bh_open.specs.Opening.{shown_row}
 use Rattle.bh_open.specs.Versions.{IsHostWith}
 use Rattle.bh_open.proofs.open.read_host.Given as given

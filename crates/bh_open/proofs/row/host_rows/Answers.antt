@@ -1,6 +1,6 @@
 use Rattle.std.proofs.Common.{inl}
 use Rattle.sqlite.specs.Held.{state}
-use Rattle.bh_schema.proofs.Calls.{asks_within, asks_opens, asks_same, asks_trouble}
+use Rattle.bh_base.proofs.Calls.{asks_within, asks_opens, asks_same, asks_trouble}
 use Rattle.bh_open.proofs.Texts.{row_asks, row_rows}
 use Rattle.bh_open.proofs.row.host_rows.Goals as goal
 

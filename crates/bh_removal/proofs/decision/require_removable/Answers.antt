@@ -1,21 +1,21 @@
 use Rattle.std.proofs.Common.{rules}
 use Rattle.std.proofs.lemmas.Result.{err_from_is_err_and}
-use Rattle.sqlite.specs.Held.{state}
+use Rattle.bh_base.specs.Connections.{state}
 use Rattle.bh_objects.proofs.Working.{works_on, works_then, unless_kept, unless_then}
 use Rattle.bh_removal.proofs.decision.require_removable.Goals as goal
 
 pub require_buckets_go-requires : goal.require_buckets_go-requires
-require_buckets_go-requires g c clean = works_on (state g.S.Store c.args.connection.now) (state g.S.Store c.require_tenant.new.connection) (c.in_ok-require_tenant.ensures.works.working clean)
+require_buckets_go-requires g c clean = works_on (state g.S.Store g.P.Shelf c.args.connection.now) (state g.S.Store g.P.Shelf c.require_tenant.new.connection) (c.in_ok-require_tenant.ensures.works.working clean)
 
 pub require_over-requires : goal.require_over-requires
-require_over-requires g c clean = works_on (state g.S.Store c.require_tenant.new.connection) (state g.S.Store c.require_buckets_go.new.connection) (c.in_ok-require_buckets_go.ensures.works.working clean)
+require_over-requires g c clean = works_on (state g.S.Store g.P.Shelf c.require_tenant.new.connection) (state g.S.Store g.P.Shelf c.require_buckets_go.new.connection) (c.in_ok-require_buckets_go.ensures.works.working clean)
 
 pub returns-clause-works : goal.returns-clause-works
 returns-clause-works g c =
-    let old = state g.S.Store c.args.connection.now in
-    let one = state g.S.Store c.require_tenant.new.connection in
-    let two = state g.S.Store c.require_buckets_go.new.connection in
-    let new = state g.S.Store c.require_over.new.connection in
+    let old = state g.S.Store g.P.Shelf c.args.connection.now in
+    let one = state g.S.Store g.P.Shelf c.require_tenant.new.connection in
+    let two = state g.S.Store g.P.Shelf c.require_buckets_go.new.connection in
+    let new = state g.S.Store g.P.Shelf c.require_over.new.connection in
     record {
       within = search rules;
       opens = unless_kept c.require_over.result _ _ (λ opens intact up. opens intact (search rules)) c.require_over.ensures.works.opens;
@@ -32,6 +32,6 @@ returns-in_err-require_buckets_go-clause-works g c = record {
   working =
       let p = err_from_is_err_and c.from_residual-in_err-require_buckets_go.result c.from_residual-in_err-require_buckets_go.ensures.1 in
       rw (p.1, p.2) (unless_then _ _ c.in_err-require_buckets_go.field-0.0
-      (λ still clean. works_then (state g.S.Store c.args.connection.now) (state g.S.Store c.require_tenant.new.connection) (state g.S.Store c.require_buckets_go.new.connection) (c.in_ok-require_tenant.ensures.works.working (c.in_err-require_buckets_go.ensures.works.within.follows.clean clean)) (still clean))
+      (λ still clean. works_then (state g.S.Store g.P.Shelf c.args.connection.now) (state g.S.Store g.P.Shelf c.require_tenant.new.connection) (state g.S.Store g.P.Shelf c.require_buckets_go.new.connection) (c.in_ok-require_tenant.ensures.works.working (c.in_err-require_buckets_go.ensures.works.within.follows.clean clean)) (still clean))
       c.in_err-require_buckets_go.ensures.works.working);
 }

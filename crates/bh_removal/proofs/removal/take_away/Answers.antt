@@ -1,5 +1,5 @@
 use Rattle.std.proofs.Common.{rules, ap, ◌∙◌}
-use Rattle.sqlite.specs.Held.{state}
+use Rattle.bh_base.specs.Connections.{state}
 use Rattle.bh_schema.specs.Working.{tables_at}
 use Rattle.bh_objects.proofs.Working.{host_at, same_tables, asked_working}
 use Rattle.bh_removal.specs.Removal.{taken_away}
@@ -8,11 +8,11 @@ use Rattle.bh_removal.proofs.removal.take_away.Goals as goal
 
 pub returns-clause-gone : goal.returns-clause-gone
 returns-clause-gone g c clean =
-    let old = state g.S.Store c.args.connection.now in
+    let old = state g.S.Store g.P.Shelf c.args.connection.now in
     let t = c.args.tenant.now in
     let clean_list = c.in_ok-delete_all.ensures.changes.within.follows.clean clean in
     let clean_old = c.in_ok-bodies.ensures.reads.within.follows.clean clean_list in
-    let same = same_tables old (state g.S.Store c.body_list.new.connection) (c.in_ok-bodies.ensures.reads.same clean_list.intact) in
+    let same = same_tables old (state g.S.Store g.P.Shelf c.body_list.new.connection) (c.in_ok-bodies.ensures.reads.same clean_list.intact) in
     (rw c.deref.ensures.value at (c.in_ok-delete_all.ensures.changes.holds clean).is)
     ∙ ap (taken_away t c.in_ok-bodies.bodies.items) same
     ∙ ap (λ l. taken_away t l (tables_at old)) (c.in_ok-bodies.ensures.numbers clean_list)
@@ -23,10 +23,10 @@ returns-clause-works g c = record {
   within = search rules;
   opens = search rules;
   working = λ clean.
-      let old = state g.S.Store c.args.connection.now in
+      let old = state g.S.Store g.P.Shelf c.args.connection.now in
       let clean_list = c.in_ok-delete_all.ensures.changes.within.follows.clean clean in
       let works = c.requires (c.in_ok-bodies.ensures.reads.within.follows.clean clean_list) in
-      still_without c.args.tenant.now old (state g.S.Store c.delete_all.new.connection) works (c.in_ok-delete_all.ensures.changes.holds clean).within (returns-clause-gone g c clean);
+      still_without c.args.tenant.now old (state g.S.Store g.P.Shelf c.delete_all.new.connection) works (c.in_ok-delete_all.ensures.changes.holds clean).within (returns-clause-gone g c clean);
 }
 
 pub body_list-requires : goal.body_list-requires
@@ -34,4 +34,4 @@ body_list-requires g c = record { inside = λ clean. (c.requires clean).inside }
 
 pub delete_all-requires : goal.delete_all-requires
 delete_all-requires g c clean =
-    (asked_working (state g.S.Store c.args.connection.now) (state g.S.Store c.body_list.new.connection) c.requires c.in_ok-bodies.ensures.reads.within c.in_ok-bodies.ensures.reads.same clean (λ bytes. bytes)).is.inside
+    (asked_working (state g.S.Store g.P.Shelf c.args.connection.now) (state g.S.Store g.P.Shelf c.body_list.new.connection) c.requires c.in_ok-bodies.ensures.reads.within c.in_ok-bodies.ensures.reads.same clean (λ bytes. bytes)).is.inside

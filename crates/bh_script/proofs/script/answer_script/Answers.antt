@@ -1,4 +1,4 @@
-use Rattle.sqlite.specs.Held.{state}
+use Rattle.bh_base.specs.Connections.{state, without_packs}
 use Rattle.sqlite.specs.Steps.{over_memory}
 use Rattle.bh_create.proofs.Memory.{is_intact, is_open}
 use Rattle.bh_storage.specs.Calls.{Seen, IsAtRest}
@@ -13,7 +13,7 @@ pub answer_lines-requires-clause-clean : goal.answer_lines-requires-clause-clean
 answer_lines-requires-clause-clean g c = λ storage. (is_intact storage.storage.host.connection, is_open storage.storage.host.connection)
 
 pub answer_lines-requires-clause-rest : goal.answer_lines-requires-clause-rest
-answer_lines-requires-clause-rest g c = subst (IsAtRest _) (sym (seen_new c.in_ok-storage.storage.memo (seen_in c.in_ok-storage.storage.storage.host.limits (state over_memory c.in_ok-storage.storage.storage.host.connection)) c.args.tuning c.in_ok-storage.storage.storage.host.cache c.in_ok-storage.ensures.memo c.in_ok-storage.ensures.cache)) (c.in_ok-storage.ensures.made.rest _)
+answer_lines-requires-clause-rest g c = subst (IsAtRest _) (sym (seen_new c.in_ok-storage.storage.memo (seen_in c.in_ok-storage.storage.storage.host.limits (state over_memory without_packs c.in_ok-storage.storage.storage.host.connection)) c.args.tuning c.in_ok-storage.storage.storage.host.cache c.in_ok-storage.ensures.memo c.in_ok-storage.ensures.cache)) (c.in_ok-storage.ensures.made.rest _)
 
 pub returns-in_err-storage-clause-answers : goal.returns-in_err-storage-clause-answers
 returns-in_err-storage-clause-answers g c =
@@ -35,7 +35,7 @@ pub returns-clause-answers : goal.returns-clause-answers
 returns-clause-answers g c =
     let made = c.in_ok-storage.ensures in
     by_new_host c.args.limits c.args.digest c.args.bytes.now _ _ c.answer_lines.result (g.W.Sink.contents c.args.writer.now.inner) (g.W.Sink.contents c.answer_lines.new.writer.inner)
-    (made_first _ c.args.limits c.args.digest _ (ap (λ (x : Seen). x.now) (seen_new c.in_ok-storage.storage.memo (seen_in c.in_ok-storage.storage.storage.host.limits (state over_memory c.in_ok-storage.storage.storage.host.connection)) c.args.tuning c.in_ok-storage.storage.storage.host.cache c.in_ok-storage.ensures.memo c.in_ok-storage.ensures.cache) ∙ made.made.tables) made.limits) c.answer_lines.ensures.answers
+    (made_first _ c.args.limits c.args.digest _ (ap (λ (x : Seen). x.now) (seen_new c.in_ok-storage.storage.memo (seen_in c.in_ok-storage.storage.storage.host.limits (state over_memory without_packs c.in_ok-storage.storage.storage.host.connection)) c.args.tuning c.in_ok-storage.storage.storage.host.cache c.in_ok-storage.ensures.memo c.in_ok-storage.ensures.cache) ∙ made.made.tables) made.limits) c.answer_lines.ensures.answers
 
 pub returns-in_err-storage-clause-alone : goal.returns-in_err-storage-clause-alone
 returns-in_err-storage-clause-alone g c =
@@ -61,4 +61,4 @@ returns-clause-alone g c =
     let old = g.W.Sink.contents c.args.writer.now.inner in
     let new = g.W.Sink.contents c.answer_lines.new.writer.inner in
     script_alone c.args.limits c.args.digest c.args.bytes.now c.answer_lines.result old new
-    (by_new_host c.args.limits c.args.digest c.args.bytes.now _ _ c.answer_lines.result old new (made_first _ c.args.limits c.args.digest _ (ap (λ (x : Seen). x.now) (seen_new c.in_ok-storage.storage.memo (seen_in c.in_ok-storage.storage.storage.host.limits (state over_memory c.in_ok-storage.storage.storage.host.connection)) c.args.tuning c.in_ok-storage.storage.storage.host.cache c.in_ok-storage.ensures.memo c.in_ok-storage.ensures.cache) ∙ made.made.tables) made.limits) c.answer_lines.ensures.answers)
+    (by_new_host c.args.limits c.args.digest c.args.bytes.now _ _ c.answer_lines.result old new (made_first _ c.args.limits c.args.digest _ (ap (λ (x : Seen). x.now) (seen_new c.in_ok-storage.storage.memo (seen_in c.in_ok-storage.storage.storage.host.limits (state over_memory without_packs c.in_ok-storage.storage.storage.host.connection)) c.args.tuning c.in_ok-storage.storage.storage.host.cache c.in_ok-storage.ensures.memo c.in_ok-storage.ensures.cache) ∙ made.made.tables) made.limits) c.answer_lines.ensures.answers)

@@ -1,14 +1,14 @@
 use Rattle.std.proofs.Common.{◌≡◌, Ok, Err, Result, IfOk, IfErr, OnOk, true, None, ◌∙◌}
 use Rattle.std.specs.Result.{IsErrAnd}
 use Rattle.std.proofs.lemmas.Result.{IfOk-at_ok}
-use Rattle.sqlite.specs.Held.{state}
+use Rattle.bh_base.specs.Connections.{state}
 use Rattle.sqlite.specs.State.{State}
 use Rattle.sqlite.specs.declared.error.Error.{Error}
 use Rattle.bh_rows.specs.Means.{is_trouble}
 use Rattle.bh_storage.specs.Calls.{Reports}
 use Rattle.bh_storage.specs.declared.error.Trouble.{Trouble}
 use Rattle.bh_storage.specs.declared.report.StoreReport.{StoreReport}
-use Rattle.bh_schema.specs.Layer.{standing, IsIntact, IsStateClean}
+use Rattle.bh_base.specs.Layer.{standing, IsIntact, IsStateClean}
 use Rattle.bh_schema.specs.Troubles.{trouble_of}
 use Rattle.bh_schema.specs.Working.{tables_at, StillWorking}
 use Rattle.bh_schema.proofs.Storing.{on_ok}
@@ -21,10 +21,10 @@ pub returns-clause-reports : goal.returns-clause-reports
 returns-clause-reports g c = go c.or_trouble.result c.or_trouble.ensures.ok
   where
     old : State
-    old = state g.S.Store c.args.connection.now
+    old = state g.S.Store g.P.Shelf c.args.connection.now
 
     new : State
-    new = state g.S.Store c.count_rows.new.connection
+    new = state g.S.Store g.P.Shelf c.count_rows.new.connection
 
     go : (result : Result StoreReport Trouble) → IfOk result (λ x. c.count_rows.result ≡ Ok x) → IfOk result (λ report. IsStateClean new → Reports report (tables_at old) (tables_at new))
     go (Err e) is = tt
@@ -39,10 +39,10 @@ pub returns-clause-working : goal.returns-clause-working
 returns-clause-working g c = go c.or_trouble.result c.or_trouble.ensures.ok
   where
     old : State
-    old = state g.S.Store c.args.connection.now
+    old = state g.S.Store g.P.Shelf c.args.connection.now
 
     new : State
-    new = state g.S.Store c.count_rows.new.connection
+    new = state g.S.Store g.P.Shelf c.count_rows.new.connection
 
     go : (result : Result StoreReport Trouble) → IfOk result (λ x. c.count_rows.result ≡ Ok x) → OnOk result (IsStateClean new → StillWorking old new)
     go (Err e) is = tt
@@ -61,4 +61,4 @@ all_told old new outcome (Ok x) is allowed = tt
 all_told old new outcome (Err t) is allowed = told old new outcome t is allowed
 
 pub returns-clause-trouble : goal.returns-clause-trouble
-returns-clause-trouble g c = all_told (state g.S.Store c.args.connection.now) (state g.S.Store c.count_rows.new.connection) c.count_rows.result c.or_trouble.result c.or_trouble.ensures.err c.count_rows.ensures.trouble
+returns-clause-trouble g c = all_told (state g.S.Store g.P.Shelf c.args.connection.now) (state g.S.Store g.P.Shelf c.count_rows.new.connection) c.count_rows.result c.or_trouble.result c.or_trouble.ensures.err c.count_rows.ensures.trouble

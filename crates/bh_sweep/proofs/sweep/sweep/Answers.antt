@@ -1,7 +1,7 @@
 use Rattle.std.proofs.Common.{◌≡◌, ◌-◌, length, sym, ap, ◌∙◌, subst}
 use Rattle.std.proofs.lemmas.Result.{IfOk-at_ok}
 use Rattle.std.specs.List.{list_any}
-use Rattle.sqlite.specs.Held.{state}
+use Rattle.bh_base.specs.Connections.{state}
 use Rattle.sqlite.specs.State.{State}
 use Rattle.bh_model.specs.State.{Octets}
 use Rattle.bh_model.specs.Runs.{purged_tenant}
@@ -12,7 +12,7 @@ use Rattle.bh_view.specs.Blocks.{AreDigests}
 use Rattle.bh_view.specs.Sweep.{is_due, uploads_swept, without_each, without_blocks}
 use Rattle.bh_view.specs.View.{view}
 use Rattle.bh_cache.specs.Kept.{Agrees}
-use Rattle.bh_schema.specs.Layer.{standing, IsStateClean}
+use Rattle.bh_base.specs.Layer.{standing, IsStateClean}
 use Rattle.bh_schema.specs.Working.{tables_at, StillWorking, StillWorkingBy}
 use Rattle.bh_schema.proofs.Storing.{on_ok}
 use Rattle.bh_objects.proofs.Working.{same_tables, asked_working, works_on, works_then}
@@ -23,30 +23,30 @@ use Rattle.bh_sweep.proofs.sweep.sweep.Given as given
 use Rattle.bh_sweep.proofs.sweep.sweep.Goals as goal
 
 pub any_stale-requires : goal.any_stale-requires
-any_stale-requires g c clean = works_on (state g.S.Store c.args.connection.now) (state g.S.Store c.remove_stale.new.connection) (c.in_ok-uploads.ensures.works.working clean)
+any_stale-requires g c clean = works_on (state g.S.Store g.P.Shelf c.args.connection.now) (state g.S.Store g.P.Shelf c.remove_stale.new.connection) (c.in_ok-uploads.ensures.works.working clean)
 
 pub remove_blocks-requires : goal.remove_blocks-requires
 remove_blocks-requires g c clean =
-    let old = state g.S.Store c.args.connection.now in
-    let one = state g.S.Store c.remove_stale.new.connection in
-    let two = state g.S.Store c.any_stale.new.connection in
+    let old = state g.S.Store g.P.Shelf c.args.connection.now in
+    let one = state g.S.Store g.P.Shelf c.remove_stale.new.connection in
+    let two = state g.S.Store g.P.Shelf c.any_stale.new.connection in
     (asked_working one two (λ before. works_on old one (c.in_ok-uploads.ensures.works.working before)) c.in_ok-stale.ensures.reads.within c.in_ok-stale.ensures.reads.same clean (λ bytes. bytes)).is
 
 module _ (g : given.Over) (c : goal.After-neither-complete g) where
   abbrev old : State
-  old = state g.S.Store c.args.connection.now
+  old = state g.S.Store g.P.Shelf c.args.connection.now
 
   abbrev one : State
-  one = state g.S.Store c.remove_stale.new.connection
+  one = state g.S.Store g.P.Shelf c.remove_stale.new.connection
 
   abbrev two : State
-  two = state g.S.Store c.any_stale.new.connection
+  two = state g.S.Store g.P.Shelf c.any_stale.new.connection
 
   abbrev three : State
-  three = state g.S.Store c.remove_blocks.new.connection
+  three = state g.S.Store g.P.Shelf c.remove_blocks.new.connection
 
   abbrev new : State
-  new = state g.S.Store c.any_unreferenced.new.connection
+  new = state g.S.Store g.P.Shelf c.any_unreferenced.new.connection
 
   module _ (clean : IsStateClean new) where
     clean_three : IsStateClean three

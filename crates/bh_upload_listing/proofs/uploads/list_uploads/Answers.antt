@@ -1,8 +1,10 @@
 use Rattle.std.proofs.Common.{refl, map, ◌∙◌}
-use Rattle.sqlite.specs.Held.{state}
+use Rattle.std.proofs.lemmas.Result.{err_from_is_err_and}
+use Rattle.bh_base.specs.Connections.{state}
 use Rattle.bh_schema.specs.Working.{tables_at}
 use Rattle.bh_objects.proofs.Working.{same_tables, asked_working, works_on, works_then}
 use Rattle.bh_docs.specs.Pages.{uploads_view}
+use Rattle.bh_model.specs.Operations.{Uploads}
 use Rattle.bh_listing.specs.Told.{asked_view}
 use Rattle.bh_pages.specs.Seen.{token_of}
 use Rattle.bh_pages.specs.Uploads.{seen_entry}
@@ -11,15 +13,16 @@ use Rattle.bh_listing.proofs.Telling.{uploads_are}
 use Rattle.bh_upload_listing.specs.Places.{place_view, marked, place_by}
 use Rattle.bh_listing.specs.Uploads.{own_items}
 use Rattle.bh_upload_listing.proofs.Answering.{list_is, list_step, gathered_from}
+use Rattle.bh_upload_listing.proofs.Refusing.{uploads_failed}
 use Rattle.bh_upload_listing.proofs.Starting.{begins_so}
 use Rattle.bh_upload_listing.proofs.Viewed.{small_numbers}
 use Rattle.bh_upload_listing.proofs.uploads.list_uploads.Goals as goal
 
 pub returns-clause-carries : goal.returns-clause-carries
 returns-clause-carries g c clean =
-    let old = state g.S.Store c.args.connection.now in
-    let middle = state g.S.Store c.bucket_state.new.connection in
-    let new = state g.S.Store c.gather_uploads.new.connection in
+    let old = state g.S.Store g.P.Shelf c.args.connection.now in
+    let middle = state g.S.Store g.P.Shelf c.bucket_state.new.connection in
+    let new = state g.S.Store g.P.Shelf c.gather_uploads.new.connection in
     let before = c.in_ok-entries.ensures.reads.within.follows.clean clean in
     let one = c.in_ok-bucket_state.ensures.decides before in
     let asked = c.args.asked.now in
@@ -40,8 +43,15 @@ gather_uploads-requires-clause-working g c clean = (c.in_ok-bucket_state.ensures
 
 pub returns-clause-working : goal.returns-clause-working
 returns-clause-working g c clean =
-    let old = state g.S.Store c.args.connection.now in
-    let middle = state g.S.Store c.bucket_state.new.connection in
-    let new = state g.S.Store c.gather_uploads.new.connection in
+    let old = state g.S.Store g.P.Shelf c.args.connection.now in
+    let middle = state g.S.Store g.P.Shelf c.bucket_state.new.connection in
+    let new = state g.S.Store g.P.Shelf c.gather_uploads.new.connection in
     works_then old middle new (c.in_ok-bucket_state.ensures.works.working (c.in_ok-entries.ensures.reads.within.follows.clean clean))
     (asked_working middle new (λ up. works_on old middle (c.in_ok-bucket_state.ensures.works.working up)) c.in_ok-entries.ensures.reads.within c.in_ok-entries.ensures.reads.same clean)
+
+pub returns-in_err-bucket_state-clause-carries : goal.returns-in_err-bucket_state-clause-carries
+returns-in_err-bucket_state-clause-carries g c clean =
+    let p = err_from_is_err_and c.from_residual.result c.from_residual.ensures.1 in
+    let old = tables_at (state g.S.Store g.P.Shelf c.args.connection.now) in
+    let new = tables_at (state g.S.Store g.P.Shelf c.bucket_state.new.connection) in
+    rw (p.1, p.2) (uploads_failed (λ page. Uploads (uploads_view page)) c.args.tenant.now c.args.bucket.now old new (asked_view c.args.asked.now) (place_view c.args.asked.now c.args.upload) c.in_err-bucket_state.field-0.0 (c.in_err-bucket_state.ensures.decides clean))

@@ -1,7 +1,7 @@
 use Rattle.std.proofs.Common.{rules, ◌≤◌, String, Global, sym, ap, subst, ◌∙◌}
 use Rattle.std.specs.Option.{option_copied}
 use Rattle.std.specs.String.{string_bytes}
-use Rattle.sqlite.specs.Held.{state}
+use Rattle.bh_base.specs.Connections.{state}
 use Rattle.bh_model.specs.Operations.{PartStored}
 use Rattle.bh_tables.specs.Typed.{Tables}
 use Rattle.bh_view.specs.Blocks.{AreDigests}
@@ -43,9 +43,9 @@ returns-in-Ok-clause-works g c = record {
 pub returns-in-Ok-clause-operates : goal.returns-in-Ok-clause-operates
 returns-in-Ok-clause-operates g c =
     let part = c.args.part.now in
-    let new = tables_at (state g.S.Store c.put_into.new.connection) in
+    let new = tables_at (state g.S.Store g.P.Shelf c.put_into.new.connection) in
     operates_asked (λ checksum. PartStored (string_bytes checksum)) part.upload.tenant.now (part_step part (option_copied c.args.given)) (λ old bytes. StoresPieces g.D.Digester.digest_of c.args.blocks.now.size bytes old new) _ _ _
-    (tables_at (state g.S.Store c.args.connection.now)) (tables_at (state g.S.Store c.found_upload.new.connection)) new (λ clean. (c.in-Ok.ensures.decides (c.put_into.ensures.works.within.follows.clean clean)).1) c.put_into.result c.put_into.ensures.operates
+    (tables_at (state g.S.Store g.P.Shelf c.args.connection.now)) (tables_at (state g.S.Store g.P.Shelf c.found_upload.new.connection)) new (λ clean. (c.in-Ok.ensures.decides (c.put_into.ensures.works.within.follows.clean clean)).1) c.put_into.result c.put_into.ensures.operates
 
 pub returns-in-Err-clause-operates : goal.returns-in-Err-clause-operates
 returns-in-Err-clause-operates g c =
@@ -53,7 +53,7 @@ returns-in-Err-clause-operates g c =
     let (given, gives, by) = c.refused_whole.ensures.came in
     operates_refusing _ part.upload.tenant.now (part_step part (option_copied c.args.given)) _ _ _ _ _ _ given gives _ c.refused_whole.result by (λ r count is clean.
     let d = rw is at c.in-Err.ensures.decides clean in
-    (part_nowhere part.upload.bucket.now part.upload.key.now part.upload.upload part.number part.at given (option_copied c.args.given) (view (tables_at (state g.S.Store c.args.connection.now)) part.upload.tenant.now) r d.0, d.1))
+    (part_nowhere part.upload.bucket.now part.upload.key.now part.upload.upload part.number part.at given (option_copied c.args.given) (view (tables_at (state g.S.Store g.P.Shelf c.args.connection.now)) part.upload.tenant.now) r d.0, d.1))
 
 pub returns-in-Err-clause-works : goal.returns-in-Err-clause-works
 returns-in-Err-clause-works g c =

@@ -1,6 +1,6 @@
 use Rattle.std.proofs.Common.{ap, ◌∙◌}
 use Rattle.std.proofs.lemmas.Result.{err_from_is_err_and}
-use Rattle.sqlite.specs.Held.{state}
+use Rattle.bh_base.specs.Connections.{state}
 use Rattle.bh_http.proofs.BodyLemmas.{gives_none, going_may}
 use Rattle.bh_schema.specs.Working.{tables_at}
 use Rattle.bh_objects.proofs.Receiving.{received_err, counted_whole}
@@ -23,7 +23,7 @@ pub add_part-requires-clause-held : goal.add_part-requires-clause-held
 add_part-requires-clause-held g c clean =
     let part = c.args.part.now in
     let (whole, right, told, becomes) = (rw c.in-Done.is at c.in_ok-outcome.ensures.received).received in
-    ap (part_bytes_in part.upload.tenant.now c.args.upload part.number) (rw c.as_str-name.ensures.value at (becomes clean).is) ∙ part_size_again part.upload.tenant.now c.args.upload part.number _ _ (tables_at (state g.S.Store c.args.connection.now))
+    ap (part_bytes_in part.upload.tenant.now c.args.upload part.number) (rw c.as_str-name.ensures.value at (becomes clean).is) ∙ part_size_again part.upload.tenant.now c.args.upload part.number _ _ (tables_at (state g.S.Store g.P.Shelf c.args.connection.now))
     ∙ c.requires.held (c.in_ok-outcome.ensures.within.follows.clean clean)
 
 pub returns-in-Spoilt-clause-stores : goal.returns-in-Spoilt-clause-stores
@@ -67,7 +67,7 @@ returns-in_ok-drop_old-in-Done-clause-stores g c =
               record {
                 within = last.within;
                 is = part_chain g.D.Digester.digest_of c.args.blocks.now.size part.upload.tenant.now c.args.upload part.number it.bytes part.at c.args.taken.entry c.args.taken.replaced
-                    (tables_at (state g.S.Store c.args.connection.now)) (tables_at (state g.S.Store c.store_checked.new.connection)) (tables_at (state g.S.Store c.add_part.new.connection)) (tables_at (state g.S.Store c.drop_old.new.connection))
+                    (tables_at (state g.S.Store g.P.Shelf c.args.connection.now)) (tables_at (state g.S.Store g.P.Shelf c.store_checked.new.connection)) (tables_at (state g.S.Store g.P.Shelf c.add_part.new.connection)) (tables_at (state g.S.Store g.P.Shelf c.drop_old.new.connection))
                     (c.requires.replaced clean_old) (rw c.as_str-name.ensures.value at (becomes clean_body).is) (rw (count, c.as_str.ensures.value, told) at (c.in_ok-add_part-in-Done.ensures.changes.holds clean_row).is) last.is;
               },
         ),

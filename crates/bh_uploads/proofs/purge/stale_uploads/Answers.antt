@@ -1,7 +1,7 @@
 use Rattle.std.proofs.Common.{◌≡◌, ◌==◌, arith, ℕ, zero, suc, Bool, false, true≢false, not, length, map, flat_map, refl, sym, ap, ◌∙◌, subst}
-use Rattle.sqlite.specs.Held.{state}
+use Rattle.bh_base.specs.Connections.{state}
 use Rattle.bh_tables.specs.Typed.{Tables}
-use Rattle.bh_schema.specs.Layer.{IsInside}
+use Rattle.bh_base.specs.Layer.{IsInside}
 use Rattle.bh_schema.specs.Rows.{rule_in, listed_rules}
 use Rattle.bh_schema.specs.Views.{rule_seen}
 use Rattle.bh_schema.specs.Working.{tables_at}
@@ -21,8 +21,8 @@ stale_of_rules-requires g c = record {
 
 pub returns-clause-numbers : goal.returns-clause-numbers
 returns-clause-numbers g c clean =
-    let old = state g.S.Store c.args.connection.now in
-    let mid = state g.S.Store c.list_of.new.connection in
+    let old = state g.S.Store g.P.Shelf c.args.connection.now in
+    let mid = state g.S.Store g.P.Shelf c.list_of.new.connection in
     let t = c.args.tenant.now in
     let clean_mid = c.in_ok-numbers.ensures.reads.within.follows.clean clean in
     let same = same_tables old mid (on_ok _ c.in_ok-rules.ensures.ok c.list_of.ensures.reads.same clean_mid.intact) in
@@ -40,7 +40,7 @@ none_left empty (suc n) m is long none = absurd (true≢false (sym (ap not (is �
 
 pub returns-clause-ruled : goal.returns-clause-ruled
 returns-clause-ruled g c clean is =
-    let rows = listed_rules c.args.tenant.now (tables_at (state g.S.Store c.args.connection.now)) in
+    let rows = listed_rules c.args.tenant.now (tables_at (state g.S.Store g.P.Shelf c.args.connection.now)) in
     let rules = c.in_ok-rules.rules in
     let clean_mid = c.in_ok-numbers.ensures.reads.within.follows.clean clean in
     let seen = (rw c.as_str.ensures.value at (IfOk-at_ok _ c.in_ok-rules.ensures.ok c.list_of.ensures.listed clean_mid)) rows refl in

@@ -1,6 +1,6 @@
 use Rattle.std.proofs.Common.{rules, ℕ, sym, ap, ◌∙◌}
 use Rattle.std.proofs.lemmas.Result.{err_from_is_err_and}
-use Rattle.sqlite.specs.Held.{state}
+use Rattle.bh_base.specs.Connections.{state}
 use Rattle.bh_types.specs.Outcomes.{◌>>=◌}
 use Rattle.bh_tables.specs.Typed.{Tables}
 use Rattle.bh_view.specs.View.{view}
@@ -12,12 +12,13 @@ use Rattle.bh_objects.proofs.Room.{room_lets, room_failed}
 use Rattle.bh_uploads.specs.Found.{given, part_bytes_in, part_entry_in}
 use Rattle.bh_uploads.specs.declared.quotas.PartEntry.{PartEntry}
 use Rattle.bh_uploads.proofs.PartQuota.{entry_decides}
+use Rattle.bh_uploads.proofs.Unfound.{account_unfound}
 use Rattle.bh_uploads.proofs.quotas.part_entry.Goals as goal
 
 pub tenant_account-requires : goal.tenant_account-requires
 tenant_account-requires g c clean =
-    let first = state g.S.Store c.args.connection.now in
-    let second = state g.S.Store c.replaced_part.new.connection in
+    let first = state g.S.Store g.P.Shelf c.args.connection.now in
+    let second = state g.S.Store g.P.Shelf c.replaced_part.new.connection in
     works_on first second (asked_working first second c.requires.working c.in_ok-replaced.ensures.reads.within c.in_ok-replaced.ensures.reads.same clean)
 
 pub returns-in_err-account-clause-works : goal.returns-in_err-account-clause-works
@@ -25,11 +26,11 @@ returns-in_err-account-clause-works g c = record {
   within = search rules;
   opens = search rules;
   working =
-      let first = state g.S.Store c.args.connection.now in
-      let second = state g.S.Store c.replaced_part.new.connection in
+      let first = state g.S.Store g.P.Shelf c.args.connection.now in
+      let second = state g.S.Store g.P.Shelf c.replaced_part.new.connection in
       let p = err_from_is_err_and c.from_residual-in_err-account.result c.from_residual-in_err-account.ensures.1 in
       rw (p.1, p.2) (unless_then _ _ c.in_err-account.field-0.0
-      (λ still clean. works_then first second (state g.S.Store c.tenant_account.new.connection)
+      (λ still clean. works_then first second (state g.S.Store g.P.Shelf c.tenant_account.new.connection)
       (asked_working first second c.requires.working c.in_ok-replaced.ensures.reads.within c.in_ok-replaced.ensures.reads.same (c.in_err-account.ensures.works.within.follows.clean clean)) (still clean)) c.in_err-account.ensures.works.working);
 }
 
@@ -38,9 +39,9 @@ returns-in_err-require_room-clause-works g c = record {
   within = search rules;
   opens = search rules;
   working = any_unless c.from_residual-in_err-require_room.result _ (λ clean.
-      let first = state g.S.Store c.args.connection.now in
-      let second = state g.S.Store c.replaced_part.new.connection in
-      let third = state g.S.Store c.tenant_account.new.connection in
+      let first = state g.S.Store g.P.Shelf c.args.connection.now in
+      let second = state g.S.Store g.P.Shelf c.replaced_part.new.connection in
+      let third = state g.S.Store g.P.Shelf c.tenant_account.new.connection in
       works_then first second third
       (asked_working first second c.requires.working c.in_ok-replaced.ensures.reads.within c.in_ok-replaced.ensures.reads.same (c.in_ok-account.ensures.works.within.follows.clean clean))
       (c.in_ok-account.ensures.works.working clean));
@@ -48,8 +49,8 @@ returns-in_err-require_room-clause-works g c = record {
 
 pub returns-in_err-require_room-clause-decides : goal.returns-in_err-require_room-clause-decides
 returns-in_err-require_room-clause-decides g c clean =
-    let first = state g.S.Store c.args.connection.now in
-    let second = state g.S.Store c.replaced_part.new.connection in
+    let first = state g.S.Store g.P.Shelf c.args.connection.now in
+    let second = state g.S.Store g.P.Shelf c.replaced_part.new.connection in
     let old = tables_at first in
     let t = c.args.tenant.now in
     let quota = c.in_ok-account.account.quota in
@@ -66,16 +67,16 @@ returns-in_err-require_room-clause-decides g c clean =
     ∙ ap (λ n. ◌>>=◌ {B = ℕ} (room_under quota n bytes c.args.added) (λ _. given counters.entry)) (sym its) in
     let p = err_from_is_err_and c.from_residual-in_err-require_room.result c.from_residual-in_err-require_room.ensures.1 in
     rw (p.1, p.2) (room_failed (λ (taken : PartEntry). taken.entry) (λ (x : Tables). part_entry_in (part_bytes_in t c.args.upload c.args.number old) c.args.added (view x t))
-    (room_under quota used bytes c.args.added) (λ _. given counters.entry) old (tables_at (state g.S.Store c.tenant_account.new.connection)) c.in_err-require_room.field-0.0 (two.1 ∙ one) whole c.in_err-require_room.ensures)
+    (room_under quota used bytes c.args.added) (λ _. given counters.entry) old (tables_at (state g.S.Store g.P.Shelf c.tenant_account.new.connection)) c.in_err-require_room.field-0.0 (two.1 ∙ one) whole c.in_err-require_room.ensures)
 
 pub returns-in_err-entry-clause-works : goal.returns-in_err-entry-clause-works
 returns-in_err-entry-clause-works g c = record {
   within = search rules;
   opens = search rules;
   working = any_unless c.from_residual-in_err-entry.result _ (λ clean.
-      let first = state g.S.Store c.args.connection.now in
-      let second = state g.S.Store c.replaced_part.new.connection in
-      let third = state g.S.Store c.tenant_account.new.connection in
+      let first = state g.S.Store g.P.Shelf c.args.connection.now in
+      let second = state g.S.Store g.P.Shelf c.replaced_part.new.connection in
+      let third = state g.S.Store g.P.Shelf c.tenant_account.new.connection in
       works_then first second third
       (asked_working first second c.requires.working c.in_ok-replaced.ensures.reads.within c.in_ok-replaced.ensures.reads.same (c.in_ok-account.ensures.works.within.follows.clean clean))
       (c.in_ok-account.ensures.works.working clean));
@@ -83,8 +84,8 @@ returns-in_err-entry-clause-works g c = record {
 
 pub returns-in_err-entry-clause-decides : goal.returns-in_err-entry-clause-decides
 returns-in_err-entry-clause-decides g c clean =
-    let first = state g.S.Store c.args.connection.now in
-    let second = state g.S.Store c.replaced_part.new.connection in
+    let first = state g.S.Store g.P.Shelf c.args.connection.now in
+    let second = state g.S.Store g.P.Shelf c.replaced_part.new.connection in
     let old = tables_at first in
     let t = c.args.tenant.now in
     let quota = c.in_ok-account.account.quota in
@@ -110,9 +111,9 @@ returns-clause-works g c = record {
   within = search rules;
   opens = search rules;
   working = λ clean.
-      let first = state g.S.Store c.args.connection.now in
-      let second = state g.S.Store c.replaced_part.new.connection in
-      let third = state g.S.Store c.tenant_account.new.connection in
+      let first = state g.S.Store g.P.Shelf c.args.connection.now in
+      let second = state g.S.Store g.P.Shelf c.replaced_part.new.connection in
+      let third = state g.S.Store g.P.Shelf c.tenant_account.new.connection in
       works_then first second third
       (asked_working first second c.requires.working c.in_ok-replaced.ensures.reads.within c.in_ok-replaced.ensures.reads.same (c.in_ok-account.ensures.works.within.follows.clean clean))
       (c.in_ok-account.ensures.works.working clean);
@@ -120,8 +121,8 @@ returns-clause-works g c = record {
 
 pub returns-clause-decides : goal.returns-clause-decides
 returns-clause-decides g c clean =
-    let first = state g.S.Store c.args.connection.now in
-    let second = state g.S.Store c.replaced_part.new.connection in
+    let first = state g.S.Store g.P.Shelf c.args.connection.now in
+    let second = state g.S.Store g.P.Shelf c.replaced_part.new.connection in
     let old = tables_at first in
     let t = c.args.tenant.now in
     let quota = c.in_ok-account.account.quota in
@@ -142,3 +143,13 @@ returns-clause-decides g c clean =
 
 pub returns-clause-bytes : goal.returns-clause-bytes
 returns-clause-bytes g c clean = sym (c.in_ok-replaced.ensures.bytes (c.in_ok-account.ensures.works.within.follows.clean clean))
+
+pub returns-in_err-account-clause-decides : goal.returns-in_err-account-clause-decides
+returns-in_err-account-clause-decides g c clean =
+    let p = err_from_is_err_and c.from_residual-in_err-account.result c.from_residual-in_err-account.ensures.1 in
+    let first = state g.S.Store g.P.Shelf c.args.connection.now in
+    let second = state g.S.Store g.P.Shelf c.replaced_part.new.connection in
+    let t = c.args.tenant.now in
+    let one = same_tables first second (c.in_ok-replaced.ensures.reads.same (c.in_err-account.ensures.works.within.follows.clean clean).intact) in
+    rw (p.1, p.2) (account_unfound (λ (a : Account). (a.quota, a.counters)) (λ (taken : PartEntry). taken.entry) t (part_bytes_in t c.args.upload c.args.number (tables_at first)) c.args.added
+    (tables_at first) (tables_at second) (tables_at (state g.S.Store g.P.Shelf c.tenant_account.new.connection)) one c.in_err-account.field-0.0 (c.in_err-account.ensures.decides clean))

@@ -1,6 +1,6 @@
 use Rattle.std.proofs.Common.{rules, Ok, sym, ap, ◌∙◌}
 use Rattle.std.proofs.lemmas.Result.{err_from_is_err_and}
-use Rattle.sqlite.specs.Held.{state}
+use Rattle.bh_base.specs.Connections.{state}
 use Rattle.bh_schema.specs.Working.{tables_at}
 use Rattle.bh_objects.proofs.Working.{works_then, unless_then}
 use Rattle.bh_view.specs.View.{view}
@@ -19,30 +19,30 @@ returns-in_err-require_upload-clause-works g c = record {
   working =
       let p = err_from_is_err_and c.from_residual-in_err-require_upload.result c.from_residual-in_err-require_upload.ensures.1 in
       rw (p.1, p.2) (unless_then _ _ c.in_err-require_upload.field-0.0
-      (λ still clean. works_then (state g.S.Store c.args.connection.now) (state g.S.Store c.bucket_state.new.connection) (state g.S.Store c.require_upload.new.connection) (c.in_ok-mode.ensures.works.working (c.in_err-require_upload.ensures.works.within.follows.clean clean)) (still clean)) c.in_err-require_upload.ensures.works.working);
+      (λ still clean. works_then (state g.S.Store g.P.Shelf c.args.connection.now) (state g.S.Store g.P.Shelf c.bucket_state.new.connection) (state g.S.Store g.P.Shelf c.require_upload.new.connection) (c.in_ok-mode.ensures.works.working (c.in_err-require_upload.ensures.works.within.follows.clean clean)) (still clean)) c.in_err-require_upload.ensures.works.working);
 }
 
 pub returns-in_err-require_upload-clause-decides : goal.returns-in_err-require_upload-clause-decides
 returns-in_err-require_upload-clause-decides g c clean =
     let p = err_from_is_err_and c.from_residual-in_err-require_upload.result c.from_residual-in_err-require_upload.ensures.1 in
     let u = c.args.upload.now in
-    let first = state g.S.Store c.args.connection.now in
+    let first = state g.S.Store g.P.Shelf c.args.connection.now in
     let clean_first = c.in_err-require_upload.ensures.works.within.follows.clean clean in
     let one = c.in_ok-mode.ensures.decides clean_first in
-    rw (p.1, p.2) (upload_refused (tables_at first) (tables_at (state g.S.Store c.bucket_state.new.connection)) (tables_at (state g.S.Store c.require_upload.new.connection)) u.tenant.now u.bucket.now u.key.now (c.requires (c.in_ok-mode.ensures.works.within.follows.clean clean_first)).sound
+    rw (p.1, p.2) (upload_refused (tables_at first) (tables_at (state g.S.Store g.P.Shelf c.bucket_state.new.connection)) (tables_at (state g.S.Store g.P.Shelf c.require_upload.new.connection)) u.tenant.now u.bucket.now u.key.now (c.requires (c.in_ok-mode.ensures.works.within.follows.clean clean_first)).sound
     c.in_ok-mode.mode one.0 one.1 u.upload c.in-Some.id c.in-Some.is c.in_err-require_upload.field-0.0 (λ (found : FoundUpload). (found.mode, found.number)) (c.in_err-require_upload.ensures.decides clean))
 
 pub returns-clause-works : goal.returns-clause-works
 returns-clause-works g c = record {
   within = search rules;
   opens = search rules;
-  working = λ clean. works_then (state g.S.Store c.args.connection.now) (state g.S.Store c.bucket_state.new.connection) (state g.S.Store c.require_upload.new.connection) (c.in_ok-mode.ensures.works.working (c.in_ok-require_upload.ensures.works.within.follows.clean clean)) (c.in_ok-require_upload.ensures.works.working clean);
+  working = λ clean. works_then (state g.S.Store g.P.Shelf c.args.connection.now) (state g.S.Store g.P.Shelf c.bucket_state.new.connection) (state g.S.Store g.P.Shelf c.require_upload.new.connection) (c.in_ok-mode.ensures.works.working (c.in_ok-require_upload.ensures.works.within.follows.clean clean)) (c.in_ok-require_upload.ensures.works.working clean);
 }
 
 pub returns-clause-decides : goal.returns-clause-decides
 returns-clause-decides g c clean =
     let u = c.args.upload.now in
-    let first = state g.S.Store c.args.connection.now in
+    let first = state g.S.Store g.P.Shelf c.args.connection.now in
     let clean_first = c.in_ok-require_upload.ensures.works.within.follows.clean clean in
     let one = c.in_ok-mode.ensures.decides clean_first in
     let two = c.in_ok-require_upload.ensures.decides clean in (

@@ -1,5 +1,5 @@
 use Rattle.std.proofs.Common.{rules, arith, ◌+◌, drop, sym, ap, ◌∙◌}
-use Rattle.sqlite.specs.Held.{state}
+use Rattle.bh_base.specs.Connections.{state}
 use Rattle.bh_schema.specs.Working.{tables_at}
 use Rattle.bh_schema.proofs.Storing.{within_then}
 use Rattle.bh_uploads.specs.Writes.{without_bodies}
@@ -19,7 +19,7 @@ loop-body-preserved g c =
       inside = λ clean. (step.changes.holds clean).within;
       left = λ clean.
           ap (without_bodies c.args.tenant.now (drop (c.loop-body.body-index + 1) c.args.bodies.now)) (step.changes.holds clean).is
-          ∙ ap (λ l. without_bodies c.args.tenant.now l (tables_at (state g.S.Store c.loop-body.connection))) (sym (drop_next c.args.bodies.now c.loop-body.body-index c.loop-body-test.true))
+          ∙ ap (λ l. without_bodies c.args.tenant.now l (tables_at (state g.S.Store g.P.Shelf c.loop-body.connection))) (sym (drop_next c.args.bodies.now c.loop-body.body-index c.loop-body-test.true))
           ∙ inv.left (step.changes.within.follows.clean clean);
     }
 
@@ -32,7 +32,7 @@ returns g c = record {
         let inv = c.loop-body.invariant in
         record {
           within = inv.inside clean;
-          is = ap (λ l. without_bodies c.args.tenant.now l (tables_at (state g.S.Store c.loop-body.connection))) (sym (drop_last c.args.bodies.now c.loop-body.body-index (λ low. let end = c.loop-body-test.false in omega (arith, low, end)))) ∙ inv.left clean;
+          is = ap (λ l. without_bodies c.args.tenant.now l (tables_at (state g.S.Store g.P.Shelf c.loop-body.connection))) (sym (drop_last c.args.bodies.now c.loop-body.body-index (λ low. let end = c.loop-body-test.false in omega (arith, low, end)))) ∙ inv.left clean;
         };
   };
 }

@@ -1,6 +1,6 @@
 use Rattle.std.proofs.Common.{map, sym, ap, ◌∙◌}
 use Rattle.std.proofs.lemmas.Result.{IfOk-weaker}
-use Rattle.sqlite.specs.Held.{state}
+use Rattle.bh_base.specs.Connections.{state}
 use Rattle.sqlite_keyed.proofs.ListLemmas.{map-map}
 use Rattle.bh_tables.specs.Shown.{tenants_by_name}
 use Rattle.bh_tables.specs.Typed.{Tables}
@@ -11,14 +11,14 @@ use Rattle.bh_usage.proofs.listing.read_all.Goals as goal
 
 pub all_with_keys-requires : goal.all_with_keys-requires
 all_with_keys-requires g c =
-    let old = state g.S.Store c.args.connection.now in
-    let one = state g.S.Store c.tenant_list.new.connection in
+    let old = state g.S.Store g.P.Shelf c.args.connection.now in
+    let one = state g.S.Store g.P.Shelf c.tenant_list.new.connection in
     record { inside = asked_inside old one c.tenant_list.ensures.reads.within c.requires.inside c.in_ok-listed.ensures.reads.same }
 
 pub returns-clause-told : goal.returns-clause-told
 returns-clause-told g c = IfOk-weaker c.all_with_keys.result _ _ (λ all told clean.
-    let old = state g.S.Store c.args.connection.now in
-    let one = state g.S.Store c.tenant_list.new.connection in
+    let old = state g.S.Store g.P.Shelf c.args.connection.now in
+    let one = state g.S.Store g.P.Shelf c.tenant_list.new.connection in
     let between = c.all_with_keys.ensures.reads.within.follows.clean clean in
     let rows = tenants_by_name (tables_at old).tenants in
     told clean ∙ sym (map-map (told_with (tables_at one)) tenant_seen _)

@@ -23,8 +23,8 @@ pub returns-in_err-found-in-Ok-clause-operates : goal.returns-in_err-found-in-Ok
 returns-in_err-found-in-Ok-clause-operates g c =
     let p = err_from_is_err_and c.from_residual.result c.from_residual.ensures.1 in
     let (given, gives) = c.drain.ensures.some in
-    let old = (seen g.S.Store c.args.self.now).now in
-    let new = (seen g.S.Store c.find_object.new.self).now in
+    let old = (seen g.S.Store g.P.Shelf c.args.self.now).now in
+    let new = (seen g.S.Store g.P.Shelf c.find_object.new.self).now in
     rw (p.1, p.2) (found_err new new c.args.tenant.now _ _ _ _ old new given gives c.in-Ok.ensures.whole c.in_err-found-in-Ok.field-0.0 c.in_err-found-in-Ok.ensures.carries)
 
 pub returns-in_err-found-in-Ok-clause-measured : goal.returns-in_err-found-in-Ok-clause-measured
@@ -42,7 +42,7 @@ pub returns-in_ok-found-in-Ok-clause-measured : goal.returns-in_ok-found-in-Ok-c
 returns-in_ok-found-in-Ok-clause-measured g c = c.in_ok-found-in-Ok.ensures.measured
 
 pub returns-in-Err-clause-goes_on : goal.returns-in-Err-clause-goes_on
-returns-in-Err-clause-goes_on g c = record { within = nothing_done g.S.Store c.args.self.now; opens = tt; working = tt }
+returns-in-Err-clause-goes_on g c = record { within = nothing_done g.S.Store g.P.Shelf c.args.self.now; opens = tt; working = tt }
 
 pub returns-in-Err-clause-operates : goal.returns-in-Err-clause-operates
 returns-in-Err-clause-operates g c =

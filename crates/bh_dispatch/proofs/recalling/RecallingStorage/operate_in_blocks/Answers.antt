@@ -21,16 +21,16 @@ pub operate_in_blocks-requires : goal.operate_in_blocks-requires
 operate_in_blocks-requires g c = record {
   positive = c.requires.positive;
   going = c.requires.going;
-  working = host_works g.S.Store g.D.Digester.digest_of c.args.self.now c.requires.working;
-  early = λ clean. subst (λ (x : Seen). c.args.at ≤ latest_of x.now) (alone_is g.S.Store g.D.Digester.digest_of c.args.self.now c.requires.working clean) (c.requires.early clean);
+  working = host_works g.S.Store g.P.Shelf g.D.Digester.digest_of c.args.self.now c.requires.working;
+  early = λ clean. subst (λ (x : Seen). c.args.at ≤ latest_of x.now) (alone_is g.S.Store g.P.Shelf g.D.Digester.digest_of c.args.self.now c.requires.working clean) (c.requires.early clean);
 }
 
 pub operate_in_blocks-requires-in_default-2 : goal.operate_in_blocks-requires-in_default-2
 operate_in_blocks-requires-in_default-2 g c = record {
   positive = c.requires.positive;
   going = c.requires.going;
-  working = host_works g.S.Store g.D.Digester.digest_of c.args.self.now c.requires.working;
-  early = λ clean. subst (λ (x : Seen). c.args.at ≤ latest_of x.now) (alone_is g.S.Store g.D.Digester.digest_of c.args.self.now c.requires.working clean) (c.requires.early clean);
+  working = host_works g.S.Store g.P.Shelf g.D.Digester.digest_of c.args.self.now c.requires.working;
+  early = λ clean. subst (λ (x : Seen). c.args.at ≤ latest_of x.now) (alone_is g.S.Store g.P.Shelf g.D.Digester.digest_of c.args.self.now c.requires.working clean) (c.requires.early clean);
 }
 
 pub returns-in-GetObject-clause-goes_on : goal.returns-in-GetObject-clause-goes_on
@@ -38,13 +38,13 @@ returns-in-GetObject-clause-goes_on g c = c.get_object.ensures.goes_on
 
 pub returns-in-GetObject-clause-operates : goal.returns-in-GetObject-clause-operates
 returns-in-GetObject-clause-operates g c =
-    finds (seen g.S.Store c.args.self.now).limits c.args.at c.args.tenant.now c.in-GetObject.object c.in-GetObject.version c.in-GetObject.range _ _ _ (seen g.S.Store c.get_object.new.self).now (seen g.S.Store c.args.self.now).now (seen g.S.Store c.get_object.new.self).now c.get_object.result c.args.operation.now c.in-GetObject.is
+    finds (seen g.S.Store g.P.Shelf c.args.self.now).limits c.args.at c.args.tenant.now c.in-GetObject.object c.in-GetObject.version c.in-GetObject.range _ _ _ (seen g.S.Store g.P.Shelf c.get_object.new.self).now (seen g.S.Store g.P.Shelf c.args.self.now).now (seen g.S.Store g.P.Shelf c.get_object.new.self).now c.get_object.result c.args.operation.now c.in-GetObject.is
     (rw c.bytes_of.ensures at c.get_object.ensures.operates)
 
 pub returns-in-GetObject-clause-cuts : goal.returns-in-GetObject-clause-cuts
 returns-in-GetObject-clause-cuts g c =
     let h = c.get_object.ensures.operates in
-    cuts_no_object g.S.Store g.D.Digester.digest_of c.args.size c.args.operation.now c.in-GetObject.object c.in-GetObject.version c.in-GetObject.range c.in-GetObject.is _ _ _ _ c.get_object.result h.given h.gives
+    cuts_no_object g.S.Store g.P.Shelf g.D.Digester.digest_of c.args.size c.args.operation.now c.in-GetObject.object c.in-GetObject.version c.in-GetObject.range c.in-GetObject.is _ _ _ _ c.get_object.result h.given h.gives
 
 pub returns-in-GetObject-clause-measured : goal.returns-in-GetObject-clause-measured
 returns-in-GetObject-clause-measured g c = c.get_object.ensures.measured
@@ -56,18 +56,18 @@ returns-in_default g c =
     let new = record old { storage = c.operate_in_blocks.new.self } in
     let h = c.operate_in_blocks.ensures in
     let w = h.goes_on.within in
-    let a = storage.seen g.S.Store old.storage.host in
-    let b = storage.seen g.S.Store c.operate_in_blocks.new.self.host in
-    let Clean = storage.IsClean g.S.Store c.operate_in_blocks.new.self.host in
-    let first : Clean → storage.IsClean g.S.Store old.storage.host = λ clean. (w.intact clean.0, w.opened clean.0 clean.1) in
+    let a = storage.seen g.S.Store g.P.Shelf old.storage.host in
+    let b = storage.seen g.S.Store g.P.Shelf c.operate_in_blocks.new.self.host in
+    let Clean = storage.IsClean g.S.Store g.P.Shelf c.operate_in_blocks.new.self.host in
+    let first : Clean → storage.IsClean g.S.Store g.P.Shelf old.storage.host = λ clean. (w.intact clean.0, w.opened clean.0 clean.1) in
     let t = c.args.tenant.now in
     let step = λ (given : Octets). operated a.limits c.args.at given c.args.operation.now in
     let start = g.B.Body.coming c.args.body.now in
     let end = g.B.Body.coming c.operate_in_blocks.new.body in
-    let was = λ (clean : Clean). alone_is g.S.Store digest old c.requires.working (first clean) in
-    let it = tells_so old.memo a.limits c.args.at t c.args.operation.now (sym c.only_tells.ensures ∙ c.if-only_tells.true) start end b.now a.now b.now Clean (λ clean. so g.S.Store digest old c.requires.working (first clean)) c.operate_in_blocks.result h.operates in
+    let was = λ (clean : Clean). alone_is g.S.Store g.P.Shelf digest old c.requires.working (first clean) in
+    let it = tells_so old.memo a.limits c.args.at t c.args.operation.now (sym c.only_tells.ensures ∙ c.if-only_tells.true) start end b.now a.now b.now Clean (λ clean. so g.S.Store g.P.Shelf digest old c.requires.working (first clean)) c.operate_in_blocks.result h.operates in
     record {
-      goes_on = unless_spoilt g.S.Store digest old new c.operate_in_blocks.result h.goes_on it;
+      goes_on = unless_spoilt g.S.Store g.P.Shelf digest old new c.operate_in_blocks.result h.goes_on it;
       cuts = h.cuts;
       operates = rw (same_limits old.memo a) (operates_shown old.memo old.memo a b Clean was t step start end c.operate_in_blocks.result it h.operates);
       measured = measured_shown old.memo old.memo a b Clean was c.operate_in_blocks.result it h.measured;
@@ -80,19 +80,19 @@ returns-in_default-2 g c =
     let new = record old { storage = c.operate_in_blocks-in_default-2.new.self; memo = c.forget.new.self } in
     let h = c.operate_in_blocks-in_default-2.ensures in
     let w = h.goes_on.within in
-    let a = storage.seen g.S.Store old.storage.host in
-    let b = storage.seen g.S.Store c.operate_in_blocks-in_default-2.new.self.host in
-    let Clean = storage.IsClean g.S.Store c.operate_in_blocks-in_default-2.new.self.host in
-    let first : Clean → storage.IsClean g.S.Store old.storage.host = λ clean. (w.intact clean.0, w.opened clean.0 clean.1) in
+    let a = storage.seen g.S.Store g.P.Shelf old.storage.host in
+    let b = storage.seen g.S.Store g.P.Shelf c.operate_in_blocks-in_default-2.new.self.host in
+    let Clean = storage.IsClean g.S.Store g.P.Shelf c.operate_in_blocks-in_default-2.new.self.host in
+    let first : Clean → storage.IsClean g.S.Store g.P.Shelf old.storage.host = λ clean. (w.intact clean.0, w.opened clean.0 clean.1) in
     let t = c.args.tenant.now in
     let step = λ (given : Octets). operated a.limits c.args.at given c.args.operation.now in
     let start = g.B.Body.coming c.args.body.now in
     let end = g.B.Body.coming c.operate_in_blocks-in_default-2.new.body in
-    let was = λ (clean : Clean). alone_is g.S.Store digest old c.requires.working (first clean) in
+    let was = λ (clean : Clean). alone_is g.S.Store g.P.Shelf digest old c.requires.working (first clean) in
     let it = forgotten old.memo c.forget.new.self a b Clean was t step start end (record { latest = c.forget.ensures.latest; quiet = c.forget.ensures.quiet; buckets = c.forget.ensures.buckets; secrets = c.forget.ensures.secrets })
-    (λ clean. so g.S.Store digest old c.requires.working (first clean)) c.operate_in_blocks-in_default-2.result h.operates in
+    (λ clean. so g.S.Store g.P.Shelf digest old c.requires.working (first clean)) c.operate_in_blocks-in_default-2.result h.operates in
     record {
-      goes_on = unless_spoilt g.S.Store digest old new c.operate_in_blocks-in_default-2.result h.goes_on it;
+      goes_on = unless_spoilt g.S.Store g.P.Shelf digest old new c.operate_in_blocks-in_default-2.result h.goes_on it;
       cuts = h.cuts;
       operates = rw (same_limits old.memo a) (operates_shown old.memo c.forget.new.self a b Clean was t step start end c.operate_in_blocks-in_default-2.result it h.operates);
       measured = measured_shown old.memo c.forget.new.self a b Clean was c.operate_in_blocks-in_default-2.result it h.measured;

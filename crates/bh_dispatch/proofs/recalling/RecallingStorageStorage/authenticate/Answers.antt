@@ -10,23 +10,23 @@ use Rattle.bh_dispatch.proofs.Remembering.{unless, at_rest, decided_same, still_
 use Rattle.bh_dispatch.proofs.recalling.RecallingStorageStorage.authenticate.Goals as goal
 
 pub authenticate-requires : goal.authenticate-requires
-authenticate-requires g c = host_works g.S.Store g.D.Digester.digest_of c.args.self.now c.requires
+authenticate-requires g c = host_works g.S.Store g.P.Shelf g.D.Digester.digest_of c.args.self.now c.requires
 
 pub returns-then-eq-clause-goes_on : goal.returns-then-eq-clause-goes_on
-returns-then-eq-clause-goes_on g c = at_rest g.S.Store g.D.Digester.digest_of _ (λ A a. a) c.args.self.now c.requires
+returns-then-eq-clause-goes_on g c = at_rest g.S.Store g.P.Shelf g.D.Digester.digest_of _ (λ A a. a) c.args.self.now c.requires
 
 pub returns-then-eq-clause-decides : goal.returns-then-eq-clause-decides
 returns-then-eq-clause-decides g c clean =
     let same : bytes_eq c.args.secret.now c.in-Some.known.now ≡ true = search rules in
-    (known_accepted c.args.self.now.memo (storage.seen g.S.Store c.args.self.now.storage.host) c.args.key.now c.in-Some.known.now c.args.secret.now (c.requires clean) c.in-Some.ensures same, refl)
+    (known_accepted c.args.self.now.memo (storage.seen g.S.Store g.P.Shelf c.args.self.now.storage.host) c.args.key.now c.in-Some.known.now c.args.secret.now (c.requires clean) c.in-Some.ensures same, refl)
 
 pub returns-in-Some-clause-goes_on : goal.returns-in-Some-clause-goes_on
-returns-in-Some-clause-goes_on g c = at_rest g.S.Store g.D.Digester.digest_of _ (λ A a. a) c.args.self.now c.requires
+returns-in-Some-clause-goes_on g c = at_rest g.S.Store g.P.Shelf g.D.Digester.digest_of _ (λ A a. a) c.args.self.now c.requires
 
 pub returns-in-Some-clause-decides : goal.returns-in-Some-clause-decides
 returns-in-Some-clause-decides g c clean =
     let other : bytes_eq c.args.secret.now c.in-Some.known.now ≡ false = search rules in
-    (other_denied c.args.self.now.memo (storage.seen g.S.Store c.args.self.now.storage.host) c.args.key.now c.in-Some.known.now c.args.secret.now (c.requires clean) c.in-Some.ensures other, refl)
+    (other_denied c.args.self.now.memo (storage.seen g.S.Store g.P.Shelf c.args.self.now.storage.host) c.args.key.now c.in-Some.known.now c.args.secret.now (c.requires clean) c.in-Some.ensures other, refl)
 
 pub returns-in_err-authenticate-clause-goes_on : goal.returns-in_err-authenticate-clause-goes_on
 returns-in_err-authenticate-clause-goes_on g c =
@@ -35,11 +35,11 @@ returns-in_err-authenticate-clause-goes_on g c =
     let old = c.args.self.now in
     let h = c.in_err-authenticate.ensures in
     let w = h.goes_on.within in
-    let a = storage.seen g.S.Store old.storage.host in
-    let b = storage.seen g.S.Store c.authenticate.new.self.host in
-    let Clean = storage.IsClean g.S.Store c.authenticate.new.self.host in
-    rw (p.1, p.2) (unless g.S.Store digest old (record old { storage = c.authenticate.new.self }) {X = Unit {0}} (Err c.in_err-authenticate.field-0.0) h.goes_on
-    (still_so {X = Unit {0}} old.memo a.now b.now Clean (Err c.in_err-authenticate.field-0.0) (λ (clean : Clean). so g.S.Store digest old c.requires (first g.S.Store digest old c.requires old.memo c.authenticate.new.self w clean))
+    let a = storage.seen g.S.Store g.P.Shelf old.storage.host in
+    let b = storage.seen g.S.Store g.P.Shelf c.authenticate.new.self.host in
+    let Clean = storage.IsClean g.S.Store g.P.Shelf c.authenticate.new.self.host in
+    rw (p.1, p.2) (unless g.S.Store g.P.Shelf digest old (record old { storage = c.authenticate.new.self }) {X = Unit {0}} (Err c.in_err-authenticate.field-0.0) h.goes_on
+    (still_so {X = Unit {0}} old.memo a.now b.now Clean (Err c.in_err-authenticate.field-0.0) (λ (clean : Clean). so g.S.Store g.P.Shelf digest old c.requires (first g.S.Store g.P.Shelf digest old c.requires old.memo c.authenticate.new.self w clean))
     (decided_same {X = Unit {0}} (λ _. tt) (authenticate c.args.key.now c.args.secret.now (view a.now c.args.key.now.tenant)) a.now b.now Clean (Err c.in_err-authenticate.field-0.0) h.decides)))
 
 pub returns-in_err-authenticate-clause-decides : goal.returns-in_err-authenticate-clause-decides
@@ -49,12 +49,12 @@ returns-in_err-authenticate-clause-decides g c =
     let old = c.args.self.now in
     let h = c.in_err-authenticate.ensures in
     let w = h.goes_on.within in
-    let a = storage.seen g.S.Store old.storage.host in
-    let b = storage.seen g.S.Store c.authenticate.new.self.host in
-    let Clean = storage.IsClean g.S.Store c.authenticate.new.self.host in
-    rw (p.1, p.2) (shown_unless old.memo old.memo a b Clean (was g.S.Store digest old c.requires old.memo c.authenticate.new.self w) {X = Unit {0}} {E = Refusal}
+    let a = storage.seen g.S.Store g.P.Shelf old.storage.host in
+    let b = storage.seen g.S.Store g.P.Shelf c.authenticate.new.self.host in
+    let Clean = storage.IsClean g.S.Store g.P.Shelf c.authenticate.new.self.host in
+    rw (p.1, p.2) (shown_unless old.memo old.memo a b Clean (was g.S.Store g.P.Shelf digest old c.requires old.memo c.authenticate.new.self w) {X = Unit {0}} {E = Refusal}
     (λ r x y. Decides (λ _. tt) (authenticate c.args.key.now c.args.secret.now (view x c.args.key.now.tenant)) x y r) (λ trouble x y. tt) (Err c.in_err-authenticate.field-0.0)
-    (still_so {X = Unit {0}} old.memo a.now b.now Clean (Err c.in_err-authenticate.field-0.0) (λ (clean : Clean). so g.S.Store digest old c.requires (first g.S.Store digest old c.requires old.memo c.authenticate.new.self w clean))
+    (still_so {X = Unit {0}} old.memo a.now b.now Clean (Err c.in_err-authenticate.field-0.0) (λ (clean : Clean). so g.S.Store g.P.Shelf digest old c.requires (first g.S.Store g.P.Shelf digest old c.requires old.memo c.authenticate.new.self w clean))
     (decided_same {X = Unit {0}} (λ _. tt) (authenticate c.args.key.now c.args.secret.now (view a.now c.args.key.now.tenant)) a.now b.now Clean (Err c.in_err-authenticate.field-0.0) h.decides))
     h.decides)
 
@@ -63,8 +63,8 @@ returns-clause-goes_on g c =
     let old = c.args.self.now in
     let h = c.in_ok-authenticate.ensures in
     let added = c.remember_secret.ensures in
-    unless g.S.Store g.D.Digester.digest_of old (record old { storage = c.authenticate.new.self; memo = c.remember_secret.new.self }) {X = Unit {0}} {E = Refusal} (Ok tt) h.goes_on
-    (secret_so g.S.Store g.D.Digester.digest_of old c.requires c.remember_secret.new.self c.authenticate.new.self h.goes_on.within c.args.key.now c.args.secret.now
+    unless g.S.Store g.P.Shelf g.D.Digester.digest_of old (record old { storage = c.authenticate.new.self; memo = c.remember_secret.new.self }) {X = Unit {0}} {E = Refusal} (Ok tt) h.goes_on
+    (secret_so g.S.Store g.P.Shelf g.D.Digester.digest_of old c.requires c.remember_secret.new.self c.authenticate.new.self h.goes_on.within c.args.key.now c.args.secret.now
     (record { latest = added.latest; quiet = added.quiet; buckets = added.buckets; secrets = added.secrets }) h.decides)
 
 pub returns-clause-decides : goal.returns-clause-decides
@@ -73,8 +73,8 @@ returns-clause-decides g c clean =
     let h = c.in_ok-authenticate.ensures in
     let w = h.goes_on.within in
     let added = c.remember_secret.ensures in
-    shown old.memo c.remember_secret.new.self (storage.seen g.S.Store old.storage.host) (storage.seen g.S.Store c.authenticate.new.self.host) (storage.IsClean g.S.Store c.authenticate.new.self.host)
-    (was g.S.Store g.D.Digester.digest_of old c.requires c.remember_secret.new.self c.authenticate.new.self w)
+    shown old.memo c.remember_secret.new.self (storage.seen g.S.Store g.P.Shelf old.storage.host) (storage.seen g.S.Store g.P.Shelf c.authenticate.new.self.host) (storage.IsClean g.S.Store g.P.Shelf c.authenticate.new.self.host)
+    (was g.S.Store g.P.Shelf g.D.Digester.digest_of old c.requires c.remember_secret.new.self c.authenticate.new.self w)
     (λ x y. (authenticate c.args.key.now c.args.secret.now (view x c.args.key.now.tenant) ≡ Ok tt) × (y ≡ x)) clean
-    (secret_so g.S.Store g.D.Digester.digest_of old c.requires c.remember_secret.new.self c.authenticate.new.self w c.args.key.now c.args.secret.now
+    (secret_so g.S.Store g.P.Shelf g.D.Digester.digest_of old c.requires c.remember_secret.new.self c.authenticate.new.self w c.args.key.now c.args.secret.now
     (record { latest = added.latest; quiet = added.quiet; buckets = added.buckets; secrets = added.secrets }) h.decides clean) (h.decides clean)

@@ -6,10 +6,10 @@ use Rattle.bh_dispatch.proofs.Remembering.{within}
 use Rattle.bh_dispatch.proofs.recalling.RecallingStorageStorage.begin.Goals as goal
 
 pub begin-requires : goal.begin-requires
-begin-requires g c clean = rests_under c.args.self.now.memo (storage.seen g.S.Store c.args.self.now.storage.host) (c.requires clean)
+begin-requires g c clean = rests_under c.args.self.now.memo (storage.seen g.S.Store g.P.Shelf c.args.self.now.storage.host) (c.requires clean)
 
 pub returns-clause-within : goal.returns-clause-within
-returns-clause-within g c = within g.S.Store c.args.self.now (record c.args.self.now { storage = c.begin.new.self }) c.begin.ensures.within
+returns-clause-within g c = within g.S.Store g.P.Shelf c.args.self.now (record c.args.self.now { storage = c.begin.new.self }) c.begin.ensures.within
 
 pub returns-clause-survives : goal.returns-clause-survives
 returns-clause-survives g c = c.begin.ensures.survives
@@ -19,12 +19,12 @@ returns-clause-opens g c = c.begin.ensures.opens
 
 pub returns-clause-same : goal.returns-clause-same
 returns-clause-same g c =
-    on_ok_weaker c.begin.result (λ same intact. same_now c.args.self.now.memo (storage.seen g.S.Store c.args.self.now.storage.host) (storage.seen g.S.Store c.begin.new.self.host) (same intact)) c.begin.ensures.same
+    on_ok_weaker c.begin.result (λ same intact. same_now c.args.self.now.memo (storage.seen g.S.Store g.P.Shelf c.args.self.now.storage.host) (storage.seen g.S.Store g.P.Shelf c.begin.new.self.host) (same intact)) c.begin.ensures.same
 
 pub returns-clause-working : goal.returns-clause-working
 returns-clause-working g c =
     let a = c.args.self.now.storage.host in
     let b = c.begin.new.self.host in
     let h = c.begin.ensures in
-    begins c.args.self.now.memo (storage.seen g.S.Store a) (storage.seen g.S.Store b) (storage.IsIntact g.S.Store a) (storage.IsOpen g.S.Store a) (storage.IsIntact g.S.Store b) h.within.intact (storage.IsOpen g.S.Store b) c.begin.result
+    begins c.args.self.now.memo (storage.seen g.S.Store g.P.Shelf a) (storage.seen g.S.Store g.P.Shelf b) (storage.IsIntact g.S.Store g.P.Shelf a) (storage.IsOpen g.S.Store g.P.Shelf a) (storage.IsIntact g.S.Store g.P.Shelf b) h.within.intact (storage.IsOpen g.S.Store g.P.Shelf b) c.begin.result
     c.requires h.opens h.same h.working

@@ -8,12 +8,12 @@ use Rattle.bh_dispatch.proofs.Remembering.{unless, unless_any, none_so, alone_is
 use Rattle.bh_dispatch.proofs.recalling.RecallingStorageStorage.command.Goals as goal
 
 pub command-requires : goal.command-requires
-command-requires g c = host_works g.S.Store g.D.Digester.digest_of c.args.self.now c.requires
+command-requires g c = host_works g.S.Store g.P.Shelf g.D.Digester.digest_of c.args.self.now c.requires
 
 pub returns-clause-goes_on : goal.returns-clause-goes_on
 returns-clause-goes_on g c =
-    let b = storage.seen g.S.Store c.command.new.self.host in
-    unless g.S.Store g.D.Digester.digest_of c.args.self.now (record c.args.self.now { storage = c.command.new.self; memo = c.clear.new.self }) c.command.result c.command.ensures.goes_on
+    let b = storage.seen g.S.Store g.P.Shelf c.command.new.self.host in
+    unless g.S.Store g.P.Shelf g.D.Digester.digest_of c.args.self.now (record c.args.self.now { storage = c.command.new.self; memo = c.clear.new.self }) c.command.result c.command.ensures.goes_on
     (unless_any c.command.result _ (λ clean. none_so c.clear.new.self b.now c.clear.ensures))
 
 pub returns-clause-carries : goal.returns-clause-carries
@@ -21,9 +21,9 @@ returns-clause-carries g c =
     let old = c.args.self.now in
     let h = c.command.ensures in
     let w = h.goes_on.within in
-    let a = storage.seen g.S.Store old.storage.host in
-    let b = storage.seen g.S.Store c.command.new.self.host in
-    let Clean = storage.IsClean g.S.Store c.command.new.self.host in
+    let a = storage.seen g.S.Store g.P.Shelf old.storage.host in
+    let b = storage.seen g.S.Store g.P.Shelf c.command.new.self.host in
+    let Clean = storage.IsClean g.S.Store g.P.Shelf c.command.new.self.host in
     let order = order_of c.args.command.now in
-    shown_unless old.memo c.clear.new.self a b Clean (λ (clean : Clean). alone_is g.S.Store g.D.Digester.digest_of old c.requires (w.intact clean.0, w.opened clean.0 clean.1))
+    shown_unless old.memo c.clear.new.self a b Clean (λ (clean : Clean). alone_is g.S.Store g.P.Shelf g.D.Digester.digest_of old c.requires (w.intact clean.0, w.opened clean.0 clean.1))
     (λ r x y. Carries command_answer_view (tenant_of order) (ordered c.args.at order) x y r) (λ trouble x y. tt) c.command.result (unless_any c.command.result _ (λ clean. none_so c.clear.new.self b.now c.clear.ensures)) h.carries

@@ -4,7 +4,7 @@ use Rattle.bh_memo.proofs.Recalling.{works_under}
 use Rattle.bh_dispatch.proofs.recalling.RecallingStorageStorage.commit.Goals as goal
 
 pub commit-requires : goal.commit-requires
-commit-requires g c clean = works_under c.args.self.now.memo (storage.seen g.S.Store c.args.self.now.storage.host) (c.requires clean)
+commit-requires g c clean = works_under c.args.self.now.memo (storage.seen g.S.Store g.P.Shelf c.args.self.now.storage.host) (c.requires clean)
 
 pub returns-clause-intact : goal.returns-clause-intact
 returns-clause-intact g c = c.commit.ensures.intact
@@ -20,24 +20,24 @@ returns-clause-done g c =
     let a = c.args.self.now.storage.host in
     let b = c.commit.new.self.host in
     let h = c.commit.ensures in
-    commits c.args.self.now.memo (storage.seen g.S.Store a) (storage.seen g.S.Store b) (storage.IsIntact g.S.Store a) (storage.IsOpen g.S.Store a) (storage.IsIntact g.S.Store b) h.intact c.requires (storage.IsOpen g.S.Store b) c.commit.result h.opens h.done
+    commits c.args.self.now.memo (storage.seen g.S.Store g.P.Shelf a) (storage.seen g.S.Store g.P.Shelf b) (storage.IsIntact g.S.Store g.P.Shelf a) (storage.IsOpen g.S.Store g.P.Shelf a) (storage.IsIntact g.S.Store g.P.Shelf b) h.intact c.requires (storage.IsOpen g.S.Store g.P.Shelf b) c.commit.result h.opens h.done
 
 pub returns-clause-survives : goal.returns-clause-survives
 returns-clause-survives g c =
     let a = c.args.self.now.storage.host in
     let b = c.commit.new.self.host in
     let h = c.commit.ensures in
-    leaves c.args.self.now.memo (storage.seen g.S.Store a) (storage.seen g.S.Store b) (storage.IsIntact g.S.Store a) (storage.IsOpen g.S.Store a) (storage.IsIntact g.S.Store b) h.intact c.requires (storage.IsOpen g.S.Store b) (storage.left g.S.Store b) c.commit.result h.opens h.survives
+    leaves c.args.self.now.memo (storage.seen g.S.Store g.P.Shelf a) (storage.seen g.S.Store g.P.Shelf b) (storage.IsIntact g.S.Store g.P.Shelf a) (storage.IsOpen g.S.Store g.P.Shelf a) (storage.IsIntact g.S.Store g.P.Shelf b) h.intact c.requires (storage.IsOpen g.S.Store g.P.Shelf b) (storage.left g.S.Store g.P.Shelf b) c.commit.result h.opens h.survives
 
 pub returns-clause-crash : goal.returns-clause-crash
 returns-clause-crash g c =
     let a = c.args.self.now.storage.host in
     let b = c.commit.new.self.host in
     let h = c.commit.ensures in
-    crashes c.args.self.now.memo (storage.seen g.S.Store a) (storage.seen g.S.Store b) (storage.IsIntact g.S.Store a) (storage.IsOpen g.S.Store a) (storage.IsIntact g.S.Store b) h.intact c.requires (storage.left g.S.Store a) (storage.left g.S.Store b) c.commit.result h.crash
+    crashes c.args.self.now.memo (storage.seen g.S.Store g.P.Shelf a) (storage.seen g.S.Store g.P.Shelf b) (storage.IsIntact g.S.Store g.P.Shelf a) (storage.IsOpen g.S.Store g.P.Shelf a) (storage.IsIntact g.S.Store g.P.Shelf b) h.intact c.requires (storage.left g.S.Store g.P.Shelf a) (storage.left g.S.Store g.P.Shelf b) c.commit.result h.crash
 
 pub returns-clause-kept : goal.returns-clause-kept
-returns-clause-kept g c = kept_err c.args.self.now.memo (storage.seen g.S.Store c.args.self.now.storage.host) (storage.seen g.S.Store c.commit.new.self.host) (storage.IsClean g.S.Store c.commit.new.self.host) c.commit.result c.commit.ensures.kept
+returns-clause-kept g c = kept_err c.args.self.now.memo (storage.seen g.S.Store g.P.Shelf c.args.self.now.storage.host) (storage.seen g.S.Store g.P.Shelf c.commit.new.self.host) (storage.IsClean g.S.Store g.P.Shelf c.commit.new.self.host) c.commit.result c.commit.ensures.kept
 
 pub returns-clause-limits : goal.returns-clause-limits
-returns-clause-limits g c = limits_stay c.args.self.now.memo c.args.self.now.memo (storage.seen g.S.Store c.args.self.now.storage.host) (storage.seen g.S.Store c.commit.new.self.host) c.commit.ensures.limits
+returns-clause-limits g c = limits_stay c.args.self.now.memo c.args.self.now.memo (storage.seen g.S.Store g.P.Shelf c.args.self.now.storage.host) (storage.seen g.S.Store g.P.Shelf c.commit.new.self.host) c.commit.ensures.limits

@@ -10,10 +10,10 @@ use Rattle.bh_dispatch.proofs.Remembering.{within}
 use Rattle.bh_dispatch.proofs.recalling.RecallingStorageStorage.next_piece.Goals as goal
 
 pub next_piece-requires : goal.next_piece-requires
-next_piece-requires g c clean = reads_under c.args.self.now.memo (storage.seen g.S.Store c.args.self.now.storage.host) (c.requires clean)
+next_piece-requires g c clean = reads_under c.args.self.now.memo (storage.seen g.S.Store g.P.Shelf c.args.self.now.storage.host) (c.requires clean)
 
 pub returns-clause-within : goal.returns-clause-within
-returns-clause-within g c = within g.S.Store c.args.self.now (record c.args.self.now { storage = c.next_piece.new.self }) c.next_piece.ensures.within
+returns-clause-within g c = within g.S.Store g.P.Shelf c.args.self.now (record c.args.self.now { storage = c.next_piece.new.self }) c.next_piece.ensures.within
 
 pub returns-clause-opens : goal.returns-clause-opens
 returns-clause-opens g c = c.next_piece.ensures.opens
@@ -25,20 +25,20 @@ pub returns-clause-gives : goal.returns-clause-gives
 returns-clause-gives g c =
     let old = c.args.self.now in
     let w = c.next_piece.ensures.within in
-    let Clean = storage.IsClean g.S.Store c.next_piece.new.self.host in
+    let Clean = storage.IsClean g.S.Store g.P.Shelf c.next_piece.new.self.host in
     IfOk-weaker c.next_piece.result _ _
     (λ piece gives (clean : Clean). subst (λ (x : Seen). IfSome piece (λ bytes. to_come c.args.plan.now x.now ≡ bytes.items ++ to_come c.next_piece.new.plan x.now))
-    (sym (reads_alone old.memo (storage.seen g.S.Store old.storage.host) (c.requires (w.intact clean.0, w.opened clean.0 clean.1)))) (gives clean))
+    (sym (reads_alone old.memo (storage.seen g.S.Store g.P.Shelf old.storage.host) (c.requires (w.intact clean.0, w.opened clean.0 clean.1)))) (gives clean))
     c.next_piece.ensures.gives
 
 pub returns-clause-ends : goal.returns-clause-ends
 returns-clause-ends g c =
     let old = c.args.self.now in
     let w = c.next_piece.ensures.within in
-    let Clean = storage.IsClean g.S.Store c.next_piece.new.self.host in
+    let Clean = storage.IsClean g.S.Store g.P.Shelf c.next_piece.new.self.host in
     IfOk-weaker c.next_piece.result _ _
     (λ piece ends (clean : Clean). subst (λ (x : Seen). IfNone piece (to_come c.args.plan.now x.now ≡ []))
-    (sym (reads_alone old.memo (storage.seen g.S.Store old.storage.host) (c.requires (w.intact clean.0, w.opened clean.0 clean.1)))) (ends clean))
+    (sym (reads_alone old.memo (storage.seen g.S.Store g.P.Shelf old.storage.host) (c.requires (w.intact clean.0, w.opened clean.0 clean.1)))) (ends clean))
     c.next_piece.ensures.ends
 
 pub returns-clause-some : goal.returns-clause-some

@@ -5,12 +5,12 @@ use Rattle.bh_dispatch.proofs.Remembering.{on_ok, ok_any, none_so, alone_is, hos
 use Rattle.bh_dispatch.proofs.recalling.RecallingStorageStorage.sweep.Goals as goal
 
 pub sweep-requires : goal.sweep-requires
-sweep-requires g c = host_works g.S.Store g.D.Digester.digest_of c.args.self.now c.requires
+sweep-requires g c = host_works g.S.Store g.P.Shelf g.D.Digester.digest_of c.args.self.now c.requires
 
 pub returns-clause-goes_on : goal.returns-clause-goes_on
 returns-clause-goes_on g c =
-    let b = storage.seen g.S.Store c.sweep.new.self.host in
-    on_ok g.S.Store g.D.Digester.digest_of c.args.self.now (record c.args.self.now { storage = c.sweep.new.self; memo = c.clear.new.self }) c.sweep.result c.sweep.ensures.goes_on
+    let b = storage.seen g.S.Store g.P.Shelf c.sweep.new.self.host in
+    on_ok g.S.Store g.P.Shelf g.D.Digester.digest_of c.args.self.now (record c.args.self.now { storage = c.sweep.new.self; memo = c.clear.new.self }) c.sweep.result c.sweep.ensures.goes_on
     (ok_any c.sweep.result _ (λ clean. none_so c.clear.new.self b.now c.clear.ensures))
 
 pub returns-clause-sweeps : goal.returns-clause-sweeps
@@ -18,8 +18,8 @@ returns-clause-sweeps g c =
     let old = c.args.self.now in
     let h = c.sweep.ensures in
     let w = h.goes_on.within in
-    let a = storage.seen g.S.Store old.storage.host in
-    let b = storage.seen g.S.Store c.sweep.new.self.host in
-    let Clean = storage.IsClean g.S.Store c.sweep.new.self.host in
-    told_ok old.memo c.clear.new.self a b Clean (λ (clean : Clean). alone_is g.S.Store g.D.Digester.digest_of old c.requires (w.intact clean.0, w.opened clean.0 clean.1))
+    let a = storage.seen g.S.Store g.P.Shelf old.storage.host in
+    let b = storage.seen g.S.Store g.P.Shelf c.sweep.new.self.host in
+    let Clean = storage.IsClean g.S.Store g.P.Shelf c.sweep.new.self.host in
+    told_ok old.memo c.clear.new.self a b Clean (λ (clean : Clean). alone_is g.S.Store g.P.Shelf g.D.Digester.digest_of old c.requires (w.intact clean.0, w.opened clean.0 clean.1))
     (Sweeps c.args.at c.args.limit) c.sweep.result (ok_any c.sweep.result _ (λ clean. none_so c.clear.new.self b.now c.clear.ensures)) h.sweeps

@@ -13,7 +13,7 @@ returns-clause-survives g c = c.take_back.ensures.survives
 
 pub returns-clause-back : goal.returns-clause-back
 returns-clause-back g c clean =
-    takes_back c.args.self.now.memo c.clear.new.self (storage.seen g.S.Store c.args.self.now.storage.host) (storage.seen g.S.Store c.take_back.new.self.host) c.clear.ensures (c.take_back.ensures.back clean)
+    takes_back c.args.self.now.memo c.clear.new.self (storage.seen g.S.Store g.P.Shelf c.args.self.now.storage.host) (storage.seen g.S.Store g.P.Shelf c.take_back.new.self.host) c.clear.ensures (c.take_back.ensures.back clean)
 
 pub returns-clause-limits : goal.returns-clause-limits
-returns-clause-limits g c = limits_stay c.args.self.now.memo c.clear.new.self (storage.seen g.S.Store c.args.self.now.storage.host) (storage.seen g.S.Store c.take_back.new.self.host) c.take_back.ensures.limits
+returns-clause-limits g c = limits_stay c.args.self.now.memo c.clear.new.self (storage.seen g.S.Store g.P.Shelf c.args.self.now.storage.host) (storage.seen g.S.Store g.P.Shelf c.take_back.new.self.host) c.take_back.ensures.limits

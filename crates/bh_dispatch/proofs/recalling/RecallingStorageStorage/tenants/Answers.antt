@@ -7,7 +7,7 @@ use Rattle.bh_dispatch.proofs.Remembering.{on_ok, told_so, so, alone_is, host_wo
 use Rattle.bh_dispatch.proofs.recalling.RecallingStorageStorage.tenants.Goals as goal
 
 pub tenants-requires : goal.tenants-requires
-tenants-requires g c = host_works g.S.Store g.D.Digester.digest_of c.args.self.now c.requires
+tenants-requires g c = host_works g.S.Store g.P.Shelf g.D.Digester.digest_of c.args.self.now c.requires
 
 pub returns-clause-goes_on : goal.returns-clause-goes_on
 returns-clause-goes_on g c =
@@ -15,11 +15,11 @@ returns-clause-goes_on g c =
     let old = c.args.self.now in
     let h = c.tenants.ensures in
     let w = h.goes_on.within in
-    let a = storage.seen g.S.Store old.storage.host in
-    let b = storage.seen g.S.Store c.tenants.new.self.host in
-    let Clean = storage.IsClean g.S.Store c.tenants.new.self.host in
-    on_ok g.S.Store digest old (record old { storage = c.tenants.new.self }) c.tenants.result h.goes_on
-    (told_so old.memo (λ (listed : Vec TenantReport Global). Lists listed.items) (λ x y z told. told.same) a.now b.now Clean c.tenants.result (λ (clean : Clean). so g.S.Store digest old c.requires (w.intact clean.0, w.opened clean.0 clean.1)) h.lists)
+    let a = storage.seen g.S.Store g.P.Shelf old.storage.host in
+    let b = storage.seen g.S.Store g.P.Shelf c.tenants.new.self.host in
+    let Clean = storage.IsClean g.S.Store g.P.Shelf c.tenants.new.self.host in
+    on_ok g.S.Store g.P.Shelf digest old (record old { storage = c.tenants.new.self }) c.tenants.result h.goes_on
+    (told_so old.memo (λ (listed : Vec TenantReport Global). Lists listed.items) (λ x y z told. told.same) a.now b.now Clean c.tenants.result (λ (clean : Clean). so g.S.Store g.P.Shelf digest old c.requires (w.intact clean.0, w.opened clean.0 clean.1)) h.lists)
 
 pub returns-clause-lists : goal.returns-clause-lists
 returns-clause-lists g c =
@@ -27,9 +27,9 @@ returns-clause-lists g c =
     let old = c.args.self.now in
     let h = c.tenants.ensures in
     let w = h.goes_on.within in
-    let a = storage.seen g.S.Store old.storage.host in
-    let b = storage.seen g.S.Store c.tenants.new.self.host in
-    let Clean = storage.IsClean g.S.Store c.tenants.new.self.host in
-    let first : Clean → storage.IsClean g.S.Store old.storage.host = λ clean. (w.intact clean.0, w.opened clean.0 clean.1) in
-    told_ok old.memo old.memo a b Clean (λ clean. alone_is g.S.Store digest old c.requires (first clean)) (λ (listed : Vec TenantReport Global). Lists listed.items) c.tenants.result
-    (told_so old.memo (λ (listed : Vec TenantReport Global). Lists listed.items) (λ x y z told. told.same) a.now b.now Clean c.tenants.result (λ clean. so g.S.Store digest old c.requires (first clean)) h.lists) h.lists
+    let a = storage.seen g.S.Store g.P.Shelf old.storage.host in
+    let b = storage.seen g.S.Store g.P.Shelf c.tenants.new.self.host in
+    let Clean = storage.IsClean g.S.Store g.P.Shelf c.tenants.new.self.host in
+    let first : Clean → storage.IsClean g.S.Store g.P.Shelf old.storage.host = λ clean. (w.intact clean.0, w.opened clean.0 clean.1) in
+    told_ok old.memo old.memo a b Clean (λ clean. alone_is g.S.Store g.P.Shelf digest old c.requires (first clean)) (λ (listed : Vec TenantReport Global). Lists listed.items) c.tenants.result
+    (told_so old.memo (λ (listed : Vec TenantReport Global). Lists listed.items) (λ x y z told. told.same) a.now b.now Clean c.tenants.result (λ clean. so g.S.Store g.P.Shelf digest old c.requires (first clean)) h.lists) h.lists

@@ -1,10 +1,10 @@
 use Rattle.std.proofs.Common.{refl}
-use Rattle.sqlite.specs.Held.{state}
+use Rattle.bh_base.specs.Connections.{state}
 use Rattle.bh_tables.specs.Typed.{Tables}
 use Rattle.bh_types.specs.declared.bucket_state.BucketState.{BucketState}
 use Rattle.bh_view.specs.View.{view}
 use Rattle.bh_storage.specs.Calls.{Decides}
-use Rattle.bh_schema.specs.Layer.{IsIntact, IsOpen}
+use Rattle.bh_base.specs.Layer.{IsIntact, IsOpen}
 use Rattle.bh_schema.specs.Working.{tables_at}
 use Rattle.bh_schema.proofs.Storing.{AreBoth, both, parts, keeps, under}
 use Rattle.bh_objects.specs.Found.{mode_in}
@@ -14,15 +14,15 @@ use Rattle.bh_dispatch.proofs.Storing.{seen_working, stored, opened, agrees_seen
 use Rattle.bh_dispatch.proofs.storage.HostStorage.bucket_state.Goals as goal
 
 pub bucket_state-requires : goal.bucket_state-requires
-bucket_state-requires g c clean = seen_working g.D.Digester.digest_of c.args.self.now.host.limits (state g.S.Store c.args.self.now.host.connection) (under _ _ (c.requires (parts clean)))
+bucket_state-requires g c clean = seen_working g.D.Digester.digest_of c.args.self.now.host.limits (state g.S.Store g.P.Shelf c.args.self.now.host.connection) (under _ _ (c.requires (parts clean)))
 
 pub returns : goal.returns
 returns g c =
     let l = c.args.self.now.host.limits in
     let k = c.args.self.now.host.cache in
     let digest = g.D.Digester.digest_of in
-    let old = state g.S.Store c.args.self.now.host.connection in
-    let new = state g.S.Store c.bucket_state.new.connection in
+    let old = state g.S.Store g.P.Shelf c.args.self.now.host.connection in
+    let new = state g.S.Store g.P.Shelf c.bucket_state.new.connection in
     let h = c.bucket_state.ensures in
     let shown = λ (state : BucketState). state in
     let answer = λ (x : Tables). mode_in c.args.bucket.now (view x c.args.tenant.now) in
@@ -32,7 +32,7 @@ returns g c =
     let agrees = same_agrees digest k l old new began c.bucket_state.result (λ clean. agrees_seen k l old (c.requires (parts (h.works.within.follows.clean clean)))) same in
     record {
       goes_on = record {
-        within = stored g.S.Store c.args.self.now _ (keeps g.S.Store c.args.self.now.host _ refl h.works.within);
+        within = stored g.S.Store g.P.Shelf c.args.self.now _ (keeps g.S.Store g.P.Shelf c.args.self.now.host _ refl h.works.within);
         opens = opened (IsIntact new) (IsOpen old) (IsOpen new) c.bucket_state.result h.works.opens;
         working = works_beside digest k k l old new began c.bucket_state.result works agrees;
       };

@@ -1,5 +1,5 @@
 use Rattle.std.proofs.Common.{◌≡◌, refl, sym, subst, ◌≤◌}
-use Rattle.sqlite.specs.Held.{state}
+use Rattle.bh_base.specs.Connections.{state}
 use Rattle.bh_machine.specs.Machine.{operated}
 use Rattle.bh_machine.proofs.Bounded.{operated_bounded}
 use Rattle.bh_model.specs.State.{Octets}
@@ -7,7 +7,7 @@ use Rattle.bh_storage.specs.Answers.{offer_view}
 use Rattle.bh_storage.specs.Calls.{Seen}
 use Rattle.bh_view.specs.View.{latest_of}
 use Rattle.bh_cache.specs.Kept.{Agrees}
-use Rattle.bh_schema.specs.Layer.{IsIntact, IsOpen, IsStateClean}
+use Rattle.bh_base.specs.Layer.{IsIntact, IsOpen, IsStateClean}
 use Rattle.bh_schema.specs.Storage.{seen_in, beside}
 use Rattle.bh_schema.specs.Working.{tables_at}
 use Rattle.bh_schema.proofs.Storing.{AreBoth, both, parts, keeps, shows_in, under, plain}
@@ -17,19 +17,19 @@ use Rattle.bh_dispatch.proofs.Storing.{IsAtWork, seen_working, digests_seen, ear
 use Rattle.bh_dispatch.proofs.storage.HostStorage.operate_in_blocks.Goals as goal
 
 pub operate-requires-clause-working : goal.operate-requires-clause-working
-operate-requires-clause-working g c clean = seen_working g.D.Digester.digest_of c.args.self.now.host.limits (state g.S.Store c.args.self.now.host.connection) (under _ _ (c.requires.working (parts clean)))
+operate-requires-clause-working g c clean = seen_working g.D.Digester.digest_of c.args.self.now.host.limits (state g.S.Store g.P.Shelf c.args.self.now.host.connection) (under _ _ (c.requires.working (parts clean)))
 
 pub operate-requires-clause-blocks : goal.operate-requires-clause-blocks
 operate-requires-clause-blocks g c = record {
-  kept = λ clean. agrees_seen c.args.self.now.host.cache c.args.self.now.host.limits (state g.S.Store c.args.self.now.host.connection) (c.requires.working (parts clean));
-  digests = λ clean. digests_seen g.D.Digester.digest_of c.args.self.now.host.limits (state g.S.Store c.args.self.now.host.connection) (under _ _ (c.requires.working (parts clean)));
+  kept = λ clean. agrees_seen c.args.self.now.host.cache c.args.self.now.host.limits (state g.S.Store g.P.Shelf c.args.self.now.host.connection) (c.requires.working (parts clean));
+  digests = λ clean. digests_seen g.D.Digester.digest_of c.args.self.now.host.limits (state g.S.Store g.P.Shelf c.args.self.now.host.connection) (under _ _ (c.requires.working (parts clean)));
   positive = c.requires.positive;
 }
 
 pub operate-requires-clause-early : goal.operate-requires-clause-early
 operate-requires-clause-early g c clean =
     let working = c.requires.working (parts clean) in
-    early_seen g.D.Digester.digest_of c.args.self.now.host.limits (state g.S.Store c.args.self.now.host.connection) c.args.at (under _ _ working)
+    early_seen g.D.Digester.digest_of c.args.self.now.host.limits (state g.S.Store g.P.Shelf c.args.self.now.host.connection) c.args.at (under _ _ working)
     (subst (λ (x : Seen). c.args.at ≤ latest_of x.now) (plain _ _ working) (c.requires.early (parts clean)))
 
 pub returns : goal.returns
@@ -37,8 +37,8 @@ returns g c =
     let l = c.args.self.now.host.limits in
     let k = c.args.self.now.host.cache in
     let digest = g.D.Digester.digest_of in
-    let old = state g.S.Store c.args.self.now.host.connection in
-    let new = state g.S.Store c.operate.new.connection in
+    let old = state g.S.Store g.P.Shelf c.args.self.now.host.connection in
+    let new = state g.S.Store g.P.Shelf c.operate.new.connection in
     let h = c.operate.ensures.operated in
     let kept = c.operate.ensures.kept in
     let t = c.args.tenant.now in
@@ -51,7 +51,7 @@ returns g c =
     (λ working agrees clean. sym (told digest k k l old new began (λ a b. b ≡ tables_at new) clean (working clean) (agrees (both clean)) (shows_in l new (working clean)))) works kept in
     record {
       goes_on = record {
-        within = stored g.S.Store c.args.self.now _ (keeps g.S.Store c.args.self.now.host _ refl h.works.within);
+        within = stored g.S.Store g.P.Shelf c.args.self.now _ (keeps g.S.Store g.P.Shelf c.args.self.now.host _ refl h.works.within);
         opens = opened_spoilt (IsIntact new) (IsOpen old) (IsOpen new) c.operate.result h.works.opens;
         working = works_spoilt digest k k l old new began c.operate.result works kept;
       };

@@ -1,9 +1,9 @@
 use Rattle.std.proofs.Common.{refl, ap, ◌∙◌}
 use Rattle.std.proofs.lemmas.Result.{on_ok_weaker}
-use Rattle.sqlite.specs.Held.{state}
+use Rattle.bh_base.specs.Connections.{state}
 use Rattle.bh_tables.specs.Typed.{Tables}
 use Rattle.bh_storage.specs.Calls.{Purges}
-use Rattle.bh_schema.specs.Layer.{IsIntact, IsOpen}
+use Rattle.bh_base.specs.Layer.{IsIntact, IsOpen}
 use Rattle.bh_schema.specs.Working.{tables_at}
 use Rattle.bh_schema.proofs.Storing.{AreBoth, both, parts, keeps, under}
 use Rattle.bh_dispatch.proofs.Asking.{ruled_beside}
@@ -11,7 +11,7 @@ use Rattle.bh_dispatch.proofs.Storing.{IsAtWork, seen_working, stored, works_aft
 use Rattle.bh_dispatch.proofs.storage.HostStorage.purge_telling.Goals as goal
 
 pub purge-requires : goal.purge-requires
-purge-requires g c clean = seen_working g.D.Digester.digest_of c.args.self.now.host.limits (state g.S.Store c.args.self.now.host.connection) (under _ _ (c.requires (parts clean)))
+purge-requires g c clean = seen_working g.D.Digester.digest_of c.args.self.now.host.limits (state g.S.Store g.P.Shelf c.args.self.now.host.connection) (under _ _ (c.requires (parts clean)))
 
 pub returns : goal.returns
 returns g c =
@@ -19,8 +19,8 @@ returns g c =
     let k = c.args.self.now.host.cache in
     let t = c.args.tenant.now in
     let digest = g.D.Digester.digest_of in
-    let old = state g.S.Store c.args.self.now.host.connection in
-    let new = state g.S.Store c.purge.new.connection in
+    let old = state g.S.Store g.P.Shelf c.args.self.now.host.connection in
+    let new = state g.S.Store g.P.Shelf c.purge.new.connection in
     let h = c.purge.ensures in
     let began = λ (clean : AreBoth new). c.requires (parts (h.works.within.follows.clean (both clean))) in
     let was : AreBoth new → IsAtWork digest l old = λ clean. under _ _ (began clean) in
@@ -29,7 +29,7 @@ returns g c =
     (on_ok_weaker c.purge.result (λ is clean. ap (λ (x : Tables). x.blocks) (is clean) ∙ purged_blocks t c.args.at (tables_at old)) h.purges) in
     record {
       goes_on = record {
-        within = stored g.S.Store c.args.self.now _ (keeps g.S.Store c.args.self.now.host _ refl h.works.within);
+        within = stored g.S.Store g.P.Shelf c.args.self.now _ (keeps g.S.Store g.P.Shelf c.args.self.now.host _ refl h.works.within);
         opens = opened_ok (IsIntact new) (IsOpen old) (IsOpen new) c.purge.result h.works.opens;
         working = works_after_all digest k k l old new began c.purge.result works agrees;
       };

@@ -1,30 +1,30 @@
 use Rattle.std.proofs.Common.{refl, sym}
-use Rattle.sqlite.specs.Held.{state}
+use Rattle.bh_base.specs.Connections.{state}
 use Rattle.bh_event.specs.Events.{RemoveTenant, ShowUsage, ShowKeys}
 use Rattle.bh_model.specs.Operations.{remove_tenant, show_usage, show_keys}
 use Rattle.bh_machine.proofs.Bounded.{ordered_bounded}
 use Rattle.bh_storage.specs.Answers.{command_answer_view}
-use Rattle.bh_schema.specs.Layer.{IsIntact, IsOpen}
+use Rattle.bh_base.specs.Layer.{IsIntact, IsOpen}
 use Rattle.bh_schema.proofs.Storing.{AreBoth, both, parts, keeps, under}
 use Rattle.bh_dispatch.proofs.Storing.{seen_working, still_working, carried, stored, opened, by_any, agrees_seen, kept_carried, works_beside, carries_beside}
 use Rattle.bh_dispatch.proofs.storage.HostStorageStorage.command.Goals as goal
 
 pub show_usage-requires : goal.show_usage-requires
-show_usage-requires g c clean = seen_working g.D.Digester.digest_of c.args.self.now.host.limits (state g.S.Store c.args.self.now.host.connection) (under _ _ (c.requires (parts clean)))
+show_usage-requires g c clean = seen_working g.D.Digester.digest_of c.args.self.now.host.limits (state g.S.Store g.P.Shelf c.args.self.now.host.connection) (under _ _ (c.requires (parts clean)))
 
 pub returns-in-Usage-clause-goes_on : goal.returns-in-Usage-clause-goes_on
 returns-in-Usage-clause-goes_on g c =
     let digest = g.D.Digester.digest_of in
     let k = c.args.self.now.host.cache in
     let l = c.args.self.now.host.limits in
-    let old = state g.S.Store c.args.self.now.host.connection in
-    let new = state g.S.Store c.show_usage.new.connection in
+    let old = state g.S.Store g.P.Shelf c.args.self.now.host.connection in
+    let new = state g.S.Store g.P.Shelf c.show_usage.new.connection in
     let h = c.show_usage.ensures in
     let t = c.as_str.result.now in
     let began = λ (clean : AreBoth new). c.requires (parts (h.works.within.follows.clean (both clean))) in
     let works = still_working digest l old new command_answer_view t (show_usage t) c.show_usage.result (λ s bound. ordered_bounded s bound c.args.at (ShowUsage t)) (λ clean. under _ _ (began clean)) (by_any digest old new c.show_usage.result h.works.working) h.carries in
     record {
-      within = stored g.S.Store c.args.self.now _ (keeps g.S.Store c.args.self.now.host _ refl h.works.within);
+      within = stored g.S.Store g.P.Shelf c.args.self.now _ (keeps g.S.Store g.P.Shelf c.args.self.now.host _ refl h.works.within);
       opens = opened (IsIntact new) (IsOpen old) (IsOpen new) c.show_usage.result h.works.opens;
       working = works_beside digest k k l old new began c.show_usage.result works
           (kept_carried k command_answer_view t (show_usage t) c.show_usage.result old new (λ clean. agrees_seen k l old (c.requires (parts (h.works.within.follows.clean clean)))) h.carries);
@@ -35,8 +35,8 @@ returns-in-Usage-clause-carries g c clean =
     let digest = g.D.Digester.digest_of in
     let k = c.args.self.now.host.cache in
     let l = c.args.self.now.host.limits in
-    let old = state g.S.Store c.args.self.now.host.connection in
-    let new = state g.S.Store c.show_usage.new.connection in
+    let old = state g.S.Store g.P.Shelf c.args.self.now.host.connection in
+    let new = state g.S.Store g.P.Shelf c.show_usage.new.connection in
     let h = c.show_usage.ensures in
     let t = c.as_str.result.now in
     let began = λ (clean : AreBoth new). c.requires (parts (h.works.within.follows.clean (both clean))) in
@@ -47,21 +47,21 @@ returns-in-Usage-clause-carries g c clean =
     (carried digest l old new command_answer_view t (show_usage t) c.show_usage.result (under _ _ (began clean)) clean working (h.carries (both clean))))
 
 pub show_keys-requires : goal.show_keys-requires
-show_keys-requires g c clean = seen_working g.D.Digester.digest_of c.args.self.now.host.limits (state g.S.Store c.args.self.now.host.connection) (under _ _ (c.requires (parts clean)))
+show_keys-requires g c clean = seen_working g.D.Digester.digest_of c.args.self.now.host.limits (state g.S.Store g.P.Shelf c.args.self.now.host.connection) (under _ _ (c.requires (parts clean)))
 
 pub returns-in-Keys-clause-goes_on : goal.returns-in-Keys-clause-goes_on
 returns-in-Keys-clause-goes_on g c =
     let digest = g.D.Digester.digest_of in
     let k = c.args.self.now.host.cache in
     let l = c.args.self.now.host.limits in
-    let old = state g.S.Store c.args.self.now.host.connection in
-    let new = state g.S.Store c.show_keys.new.connection in
+    let old = state g.S.Store g.P.Shelf c.args.self.now.host.connection in
+    let new = state g.S.Store g.P.Shelf c.show_keys.new.connection in
     let h = c.show_keys.ensures in
     let t = c.as_str-in-Keys.result.now in
     let began = λ (clean : AreBoth new). c.requires (parts (h.works.within.follows.clean (both clean))) in
     let works = still_working digest l old new command_answer_view t (show_keys t) c.show_keys.result (λ s bound. ordered_bounded s bound c.args.at (ShowKeys t)) (λ clean. under _ _ (began clean)) (by_any digest old new c.show_keys.result h.works.working) h.carries in
     record {
-      within = stored g.S.Store c.args.self.now _ (keeps g.S.Store c.args.self.now.host _ refl h.works.within);
+      within = stored g.S.Store g.P.Shelf c.args.self.now _ (keeps g.S.Store g.P.Shelf c.args.self.now.host _ refl h.works.within);
       opens = opened (IsIntact new) (IsOpen old) (IsOpen new) c.show_keys.result h.works.opens;
       working = works_beside digest k k l old new began c.show_keys.result works
           (kept_carried k command_answer_view t (show_keys t) c.show_keys.result old new (λ clean. agrees_seen k l old (c.requires (parts (h.works.within.follows.clean clean)))) h.carries);
@@ -72,8 +72,8 @@ returns-in-Keys-clause-carries g c clean =
     let digest = g.D.Digester.digest_of in
     let k = c.args.self.now.host.cache in
     let l = c.args.self.now.host.limits in
-    let old = state g.S.Store c.args.self.now.host.connection in
-    let new = state g.S.Store c.show_keys.new.connection in
+    let old = state g.S.Store g.P.Shelf c.args.self.now.host.connection in
+    let new = state g.S.Store g.P.Shelf c.show_keys.new.connection in
     let h = c.show_keys.ensures in
     let t = c.as_str-in-Keys.result.now in
     let began = λ (clean : AreBoth new). c.requires (parts (h.works.within.follows.clean (both clean))) in
@@ -84,15 +84,15 @@ returns-in-Keys-clause-carries g c clean =
     (carried digest l old new command_answer_view t (show_keys t) c.show_keys.result (under _ _ (began clean)) clean working (h.carries (both clean))))
 
 pub remove_tenant-requires : goal.remove_tenant-requires
-remove_tenant-requires g c clean = seen_working g.D.Digester.digest_of c.args.self.now.host.limits (state g.S.Store c.args.self.now.host.connection) (under _ _ (c.requires (parts clean)))
+remove_tenant-requires g c clean = seen_working g.D.Digester.digest_of c.args.self.now.host.limits (state g.S.Store g.P.Shelf c.args.self.now.host.connection) (under _ _ (c.requires (parts clean)))
 
 pub returns-in-TenantRemove-clause-goes_on : goal.returns-in-TenantRemove-clause-goes_on
 returns-in-TenantRemove-clause-goes_on g c =
     let digest = g.D.Digester.digest_of in
     let k = c.args.self.now.host.cache in
     let l = c.args.self.now.host.limits in
-    let old = state g.S.Store c.args.self.now.host.connection in
-    let new = state g.S.Store c.remove_tenant.new.connection in
+    let old = state g.S.Store g.P.Shelf c.args.self.now.host.connection in
+    let new = state g.S.Store g.P.Shelf c.remove_tenant.new.connection in
     let h = c.remove_tenant.ensures in
     let t = c.as_str-in-TenantRemove.result.now in
     let at = c.args.at in
@@ -100,7 +100,7 @@ returns-in-TenantRemove-clause-goes_on g c =
     let began = λ (clean : AreBoth new). c.requires (parts (h.works.within.follows.clean (both clean))) in
     let works = still_working digest l old new command_answer_view t (remove_tenant at t w) c.remove_tenant.result (λ s bound. ordered_bounded s bound at (RemoveTenant t w)) (λ clean. under _ _ (began clean)) (by_any digest old new c.remove_tenant.result h.works.working) h.carries in
     record {
-      within = stored g.S.Store c.args.self.now _ (keeps g.S.Store c.args.self.now.host _ refl h.works.within);
+      within = stored g.S.Store g.P.Shelf c.args.self.now _ (keeps g.S.Store g.P.Shelf c.args.self.now.host _ refl h.works.within);
       opens = opened (IsIntact new) (IsOpen old) (IsOpen new) c.remove_tenant.result h.works.opens;
       working = works_beside digest k k l old new began c.remove_tenant.result works
           (kept_carried k command_answer_view t (remove_tenant at t w) c.remove_tenant.result old new (λ clean. agrees_seen k l old (c.requires (parts (h.works.within.follows.clean clean)))) h.carries);
@@ -111,8 +111,8 @@ returns-in-TenantRemove-clause-carries g c clean =
     let digest = g.D.Digester.digest_of in
     let k = c.args.self.now.host.cache in
     let l = c.args.self.now.host.limits in
-    let old = state g.S.Store c.args.self.now.host.connection in
-    let new = state g.S.Store c.remove_tenant.new.connection in
+    let old = state g.S.Store g.P.Shelf c.args.self.now.host.connection in
+    let new = state g.S.Store g.P.Shelf c.remove_tenant.new.connection in
     let h = c.remove_tenant.ensures in
     let t = c.as_str-in-TenantRemove.result.now in
     let at = c.args.at in

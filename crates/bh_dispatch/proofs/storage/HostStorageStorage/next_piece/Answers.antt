@@ -1,27 +1,27 @@
 use Rattle.std.proofs.Common.{refl}
-use Rattle.sqlite.specs.Held.{state}
-use Rattle.bh_schema.specs.Layer.{IsIntact, IsOpen}
+use Rattle.bh_base.specs.Connections.{state}
+use Rattle.bh_base.specs.Layer.{IsIntact, IsOpen}
 use Rattle.bh_schema.proofs.Storing.{AreBoth, both, parts, keeps}
 use Rattle.bh_dispatch.proofs.Piecing.{read_host, read_agrees, seen_after, gives_seen, ends_seen}
 use Rattle.bh_dispatch.proofs.Storing.{stored, opened_ok}
 use Rattle.bh_dispatch.proofs.storage.HostStorageStorage.next_piece.Goals as goal
 
 pub next_piece-requires-clause-host : goal.next_piece-requires-clause-host
-next_piece-requires-clause-host g c clean = read_host c.args.self.now.host.cache c.args.self.now.host.limits (state g.S.Store c.args.self.now.host.connection) (c.requires (parts clean))
+next_piece-requires-clause-host g c clean = read_host c.args.self.now.host.cache c.args.self.now.host.limits (state g.S.Store g.P.Shelf c.args.self.now.host.connection) (c.requires (parts clean))
 
 pub next_piece-requires-clause-agrees : goal.next_piece-requires-clause-agrees
-next_piece-requires-clause-agrees g c clean = read_agrees c.args.self.now.host.cache c.args.self.now.host.limits (state g.S.Store c.args.self.now.host.connection) (c.requires (parts clean))
+next_piece-requires-clause-agrees g c clean = read_agrees c.args.self.now.host.cache c.args.self.now.host.limits (state g.S.Store g.P.Shelf c.args.self.now.host.connection) (c.requires (parts clean))
 
 pub returns : goal.returns
 returns g c =
     let l = c.args.self.now.host.limits in
     let k = c.args.self.now.host.cache in
-    let old = state g.S.Store c.args.self.now.host.connection in
-    let new = state g.S.Store c.next_piece.new.connection in
+    let old = state g.S.Store g.P.Shelf c.args.self.now.host.connection in
+    let new = state g.S.Store g.P.Shelf c.next_piece.new.connection in
     let h = c.next_piece.ensures in
     let was = λ (clean : AreBoth new). parts (h.reads.within.follows.clean (both clean)) in
     record {
-      within = stored g.S.Store c.args.self.now _ (keeps g.S.Store c.args.self.now.host _ refl h.reads.within);
+      within = stored g.S.Store g.P.Shelf c.args.self.now _ (keeps g.S.Store g.P.Shelf c.args.self.now.host _ refl h.reads.within);
       opens = opened_ok (IsIntact new) (IsOpen old) (IsOpen new) c.next_piece.result h.reads.opens;
       same = seen_after k l old new c.requires was c.next_piece.new.cache c.next_piece.result h.reads.same h.agrees;
       gives = gives_seen k l old new c.requires was c.next_piece.result c.args.plan.now c.next_piece.new.plan h.gives;

@@ -1,21 +1,21 @@
 use Rattle.std.proofs.Common.{refl}
-use Rattle.sqlite.specs.Held.{state}
+use Rattle.bh_base.specs.Connections.{state}
 use Rattle.bh_storage.specs.Calls.{Reports}
-use Rattle.bh_schema.specs.Layer.{IsIntact, IsOpen}
+use Rattle.bh_base.specs.Layer.{IsIntact, IsOpen}
 use Rattle.bh_schema.proofs.Storing.{AreBoth, both, parts, keeps, under}
 use Rattle.bh_dispatch.proofs.Storing.{IsAtWork, seen_working, stored, told_works, told_after, told_blocks, opened_ok, agrees_seen, kept_ok, works_after_all, told_beside}
 use Rattle.bh_dispatch.proofs.storage.HostStorageStorage.report.Goals as goal
 
 pub report-requires : goal.report-requires
-report-requires g c clean = seen_working g.D.Digester.digest_of c.args.self.now.host.limits (state g.S.Store c.args.self.now.host.connection) (under _ _ (c.requires (parts clean)))
+report-requires g c clean = seen_working g.D.Digester.digest_of c.args.self.now.host.limits (state g.S.Store g.P.Shelf c.args.self.now.host.connection) (under _ _ (c.requires (parts clean)))
 
 pub returns : goal.returns
 returns g c =
     let l = c.args.self.now.host.limits in
     let k = c.args.self.now.host.cache in
     let digest = g.D.Digester.digest_of in
-    let old = state g.S.Store c.args.self.now.host.connection in
-    let new = state g.S.Store c.report.new.connection in
+    let old = state g.S.Store g.P.Shelf c.args.self.now.host.connection in
+    let new = state g.S.Store g.P.Shelf c.report.new.connection in
     let h = c.report.ensures in
     let began = λ (clean : AreBoth new). c.requires (parts (h.within.follows.clean (both clean))) in
     let was : AreBoth new → IsAtWork digest l old = λ clean. under _ _ (began clean) in
@@ -23,7 +23,7 @@ returns g c =
     let agrees = kept_ok k c.report.result old new (λ clean. agrees_seen k l old (c.requires (parts (h.within.follows.clean clean)))) (told_blocks Reports (λ x a b told. told.same) digest l old new c.report.result h.reports) in
     record {
       goes_on = record {
-        within = stored g.S.Store c.args.self.now _ (keeps g.S.Store c.args.self.now.host _ refl h.within);
+        within = stored g.S.Store g.P.Shelf c.args.self.now _ (keeps g.S.Store g.P.Shelf c.args.self.now.host _ refl h.within);
         opens = opened_ok (IsIntact new) (IsOpen old) (IsOpen new) c.report.result h.opens;
         working = works_after_all digest k k l old new began c.report.result works agrees;
       };

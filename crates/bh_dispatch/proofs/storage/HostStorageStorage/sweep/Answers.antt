@@ -1,14 +1,14 @@
 use Rattle.std.proofs.Common.{refl}
 use Rattle.std.proofs.lemmas.Result.{on_ok_weaker}
-use Rattle.sqlite.specs.Held.{state}
+use Rattle.bh_base.specs.Connections.{state}
 use Rattle.bh_storage.specs.Calls.{Sweeps}
-use Rattle.bh_schema.specs.Layer.{IsIntact, IsOpen}
+use Rattle.bh_base.specs.Layer.{IsIntact, IsOpen}
 use Rattle.bh_schema.proofs.Storing.{AreBoth, both, parts, keeps, under}
 use Rattle.bh_dispatch.proofs.Storing.{IsAtWork, seen_working, stored, swept_works, sweeps_after, opened_ok, agrees_seen, works_after_all, told_beside}
 use Rattle.bh_dispatch.proofs.storage.HostStorageStorage.sweep.Goals as goal
 
 pub sweep-requires : goal.sweep-requires
-sweep-requires g c clean = seen_working g.D.Digester.digest_of c.args.self.now.host.limits (state g.S.Store c.args.self.now.host.connection) (under _ _ (c.requires (parts clean)))
+sweep-requires g c clean = seen_working g.D.Digester.digest_of c.args.self.now.host.limits (state g.S.Store g.P.Shelf c.args.self.now.host.connection) (under _ _ (c.requires (parts clean)))
 
 pub returns : goal.returns
 returns g c =
@@ -16,8 +16,8 @@ returns g c =
     let k = c.args.self.now.host.cache in
     let m = c.sweep.new.cache in
     let digest = g.D.Digester.digest_of in
-    let old = state g.S.Store c.args.self.now.host.connection in
-    let new = state g.S.Store c.sweep.new.connection in
+    let old = state g.S.Store g.P.Shelf c.args.self.now.host.connection in
+    let new = state g.S.Store g.P.Shelf c.sweep.new.connection in
     let h = c.sweep.ensures in
     let began = λ (clean : AreBoth new). c.requires (parts (h.within.follows.clean (both clean))) in
     let was : AreBoth new → IsAtWork digest l old = λ clean. under _ _ (began clean) in
@@ -25,7 +25,7 @@ returns g c =
     let agrees = on_ok_weaker c.sweep.result (λ kept clean. kept clean (agrees_seen k l old (c.requires (parts (h.within.follows.clean clean))))) h.kept in
     record {
       goes_on = record {
-        within = stored g.S.Store c.args.self.now _ (keeps g.S.Store c.args.self.now.host _ refl h.within);
+        within = stored g.S.Store g.P.Shelf c.args.self.now _ (keeps g.S.Store g.P.Shelf c.args.self.now.host _ refl h.within);
         opens = opened_ok (IsIntact new) (IsOpen old) (IsOpen new) c.sweep.result h.opens;
         working = works_after_all digest k m l old new began c.sweep.result works agrees;
       };

@@ -12,7 +12,7 @@ returns-in_err-connection-clause-limits g c =
     let host = c.in_ok-storage.field-0.storage.host in
     let facts = c.in_ok-storage.field-0.memo in
     let is : c.args.self.now.storage ≡ Some c.in_ok-storage.field-0 = sym c.take.ensures.value ∙ c.in_ok-storage.was in
-    rw c.take.ensures.after (limits_stay host.digester facts host.cache host.limits c.args.self.now.limits host.connection c.args.self.now.storage is)
+    rw c.take.ensures.after (limits_stay host.digester facts host.cache host.limits c.args.self.now.limits host.connection.database host.connection.packs c.args.self.now.storage is)
 
 pub returns-clause-intact : goal.returns-clause-intact
 returns-clause-intact g c =
@@ -20,8 +20,8 @@ returns-clause-intact g c =
     let facts = c.in_ok-storage.field-0.memo in
     let again = c.in_ok-connection.field-0 in
     let is : c.args.self.now.storage ≡ Some c.in_ok-storage.field-0 = sym c.take.ensures.value ∙ c.in_ok-storage.was in
-    let found = subst (λ o. IfSome o (λ again. HasCleanDisk (file_state again) → IsOpenAgain host.connection again)) c.in_ok-connection.was c.copy_and_open-copy.ensures.again in
-    intact_kept host.digester facts host.cache host.limits c.args.self.now.limits host.connection c.args.self.now.storage is c.tuning.result again found
+    let found = subst (λ o. IfSome o (λ again. HasCleanDisk (file_state again) → IsOpenAgain host.connection.database again)) c.in_ok-connection.was c.copy_and_open-copy.ensures.again in
+    intact_kept host.digester facts host.cache host.limits c.args.self.now.limits host.connection.database host.connection.packs c.args.self.now.storage is c.tuning.result again found
 
 pub returns-clause-stays : goal.returns-clause-stays
 returns-clause-stays g c =
@@ -29,11 +29,11 @@ returns-clause-stays g c =
     let facts = c.in_ok-storage.field-0.memo in
     let again = c.in_ok-connection.field-0 in
     let is : c.args.self.now.storage ≡ Some c.in_ok-storage.field-0 = sym c.take.ensures.value ∙ c.in_ok-storage.was in
-    let found = subst (λ o. IfSome o (λ again. HasCleanDisk (file_state again) → IsOpenAgain host.connection again)) c.in_ok-connection.was c.copy_and_open-copy.ensures.again in
+    let found = subst (λ o. IfSome o (λ again. HasCleanDisk (file_state again) → IsOpenAgain host.connection.database again)) c.in_ok-connection.was c.copy_and_open-copy.ensures.again in
     record {
       same = λ intact up. rw (c.new-2.ensures, c.new.ensures)
-          (same_kept host.digester facts host.cache host.limits c.args.self.now.limits host.connection c.args.self.now.storage is c.tuning.result again found g.G.Digester.digest_of c.requires intact);
-      survives = left_kept host.digester facts host.cache host.limits c.args.self.now.limits host.connection c.args.self.now.storage is c.tuning.result again found;
+          (same_kept host.digester facts host.cache host.limits c.args.self.now.limits host.connection.database host.connection.packs c.args.self.now.storage is c.tuning.result again found g.G.Digester.digest_of c.requires intact);
+      survives = left_kept host.digester facts host.cache host.limits c.args.self.now.limits host.connection.database host.connection.packs c.args.self.now.storage is c.tuning.result again found;
     }
 
 pub returns-clause-ready : goal.returns-clause-ready
@@ -42,16 +42,16 @@ returns-clause-ready g c clean =
     let facts = c.in_ok-storage.field-0.memo in
     let again = c.in_ok-connection.field-0 in
     let is : c.args.self.now.storage ≡ Some c.in_ok-storage.field-0 = sym c.take.ensures.value ∙ c.in_ok-storage.was in
-    let found = subst (λ o. IfSome o (λ again. HasCleanDisk (file_state again) → IsOpenAgain host.connection again)) c.in_ok-connection.was c.copy_and_open-copy.ensures.again in
+    let found = subst (λ o. IfSome o (λ again. HasCleanDisk (file_state again) → IsOpenAgain host.connection.database again)) c.in_ok-connection.was c.copy_and_open-copy.ensures.again in
     rw (c.new-2.ensures, c.new.ensures)
-    (rests_kept host.digester facts host.cache host.limits c.args.self.now.limits host.connection c.args.self.now.storage is c.tuning.result again found g.G.Digester.digest_of c.requires clean.0)
+    (rests_kept host.digester facts host.cache host.limits c.args.self.now.limits host.connection.database host.connection.packs c.args.self.now.storage is c.tuning.result again found g.G.Digester.digest_of c.requires clean.0)
 
 pub returns-clause-limits : goal.returns-clause-limits
 returns-clause-limits g c =
     let host = c.in_ok-storage.field-0.storage.host in
     let facts = c.in_ok-storage.field-0.memo in
     let is : c.args.self.now.storage ≡ Some c.in_ok-storage.field-0 = sym c.take.ensures.value ∙ c.in_ok-storage.was in
-    rw (c.new-2.ensures, c.new.ensures) (limits_after host.digester facts host.cache host.limits c.args.self.now.limits host.connection c.args.self.now.storage is c.tuning.result c.in_ok-connection.field-0)
+    rw (c.new-2.ensures, c.new.ensures) (limits_after host.digester facts host.cache host.limits c.args.self.now.limits host.connection.database host.connection.packs c.args.self.now.storage is c.tuning.result c.in_ok-connection.field-0)
 
 pub returns-clause-copied : goal.returns-clause-copied
 returns-clause-copied g c =
@@ -59,8 +59,8 @@ returns-clause-copied g c =
     let facts = c.in_ok-storage.field-0.memo in
     let again = c.in_ok-connection.field-0 in
     let is : c.args.self.now.storage ≡ Some c.in_ok-storage.field-0 = sym c.take.ensures.value ∙ c.in_ok-storage.was in
-    let found = subst (λ o. IfSome o (λ again. HasCleanDisk (file_state again) → IsOpenAgain host.connection again)) c.in_ok-connection.was c.copy_and_open-copy.ensures.again in
-    copies_kept host.digester facts host.cache host.limits c.args.self.now.limits host.connection c.args.self.now.storage is c.tuning.result again found g.G.Digester.digest_of c.requires _ c.copy_and_open-copy.result.copy
+    let found = subst (λ o. IfSome o (λ again. HasCleanDisk (file_state again) → IsOpenAgain host.connection.database again)) c.in_ok-connection.was c.copy_and_open-copy.ensures.again in
+    copies_kept host.digester facts host.cache host.limits c.args.self.now.limits host.connection.database host.connection.packs c.args.self.now.storage is c.tuning.result again found g.G.Digester.digest_of c.requires _ c.copy_and_open-copy.result.copy
     c.copy_and_open-copy.result.connection c.in_ok-connection.was c.copy_and_open-copy.ensures.copied
 
 pub returns-clause-tuned : goal.returns-clause-tuned

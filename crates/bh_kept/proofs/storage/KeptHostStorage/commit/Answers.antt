@@ -1,3 +1,4 @@
+use Rattle.bh_base.specs.Connections.{without_packs}
 use Rattle.std.proofs.Common.{◌≡◌, ◌⊎◌, OnOk, OnErr, sym, subst}
 use Rattle.sqlite.specs.Files.{over_files}
 use Rattle.bh_tables.specs.Typed.{Tables}
@@ -15,10 +16,10 @@ returns-in-Some-clause-opened g c intact up = subst (λ o. kept.IsOpen o) (sym c
 pub returns-in-Some-clause-survives : goal.returns-in-Some-clause-survives
 returns-in-Some-clause-survives g c =
     let new = c.commit.new.self in
-    subst (λ o. OnOk c.commit.result (storage.IsIntact over_files new.storage.host → (x : Tables) → storage.left over_files new.storage.host x → x ≡ (kept.seen c.args.self.now.limits o).now)) (sym c.in-Some.is) c.commit.ensures.survives
+    subst (λ o. OnOk c.commit.result (storage.IsIntact over_files without_packs new.storage.host → (x : Tables) → storage.left over_files without_packs new.storage.host x → x ≡ (kept.seen c.args.self.now.limits o).now)) (sym c.in-Some.is) c.commit.ensures.survives
 
 pub returns-in-Some-clause-crash : goal.returns-in-Some-clause-crash
 returns-in-Some-clause-crash g c =
     let new = c.commit.new.self in
-    subst (λ o. OnErr c.commit.result (kept.IsOpen o → storage.IsIntact over_files new.storage.host → (x : Tables) → storage.left over_files new.storage.host x → kept.left o x ⊎ (x ≡ (kept.seen c.args.self.now.limits o).now))) (sym c.in-Some.is)
+    subst (λ o. OnErr c.commit.result (kept.IsOpen o → storage.IsIntact over_files without_packs new.storage.host → (x : Tables) → storage.left over_files without_packs new.storage.host x → kept.left o x ⊎ (x ≡ (kept.seen c.args.self.now.limits o).now))) (sym c.in-Some.is)
     c.commit.ensures.crash

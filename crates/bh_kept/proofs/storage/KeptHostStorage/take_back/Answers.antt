@@ -1,3 +1,4 @@
+use Rattle.bh_base.specs.Connections.{without_packs}
 use Rattle.std.proofs.Common.{sym, subst}
 use Rattle.sqlite.specs.Files.{over_files}
 use Rattle.bh_storage.specs.Calls.{TakesBack}
@@ -17,4 +18,4 @@ returns-in-Some-clause-survives g c intact x may = subst (λ o. kept.left o x) (
 
 pub returns-in-Some-clause-back : goal.returns-in-Some-clause-back
 returns-in-Some-clause-back g c clean =
-    subst (λ o. TakesBack (kept.seen c.args.self.now.limits o) (recalling.seen over_files c.take_back.new.self)) (sym c.in-Some.is) (c.take_back.ensures.back clean)
+    subst (λ o. TakesBack (kept.seen c.args.self.now.limits o) (recalling.seen over_files without_packs c.take_back.new.self)) (sym c.in-Some.is) (c.take_back.ensures.back clean)

@@ -1,7 +1,7 @@
 use Rattle.std.proofs.Common.{rules, ◌≡◌, true, false, Some, None, option_map, bytes_eq, ap, ◌∙◌, refl}
 use Rattle.std.specs.String.{string_bytes}
 use Rattle.std.proofs.lemmas.Result.{IfOk-at_ok}
-use Rattle.sqlite.specs.Held.{state}
+use Rattle.bh_base.specs.Connections.{state}
 use Rattle.bh_model.specs.Credentials.{secret_of}
 use Rattle.bh_view.specs.View.{view}
 use Rattle.bh_schema.specs.Storage.{seen_in}
@@ -10,15 +10,15 @@ use Rattle.bh_schema.proofs.CredentialSteps.{secret_seen, unknown_key, right_sec
 use Rattle.bh_schema.proofs.host.Host.authenticate.Goals as goal
 
 pub find_secret-requires : goal.find_secret-requires
-find_secret-requires g c = record { inside = λ clean. inside_of _ (state g.S.Store c.args.self.now.connection) (under _ _ (c.requires (parts clean))) }
+find_secret-requires g c = record { inside = λ clean. inside_of _ (state g.S.Store g.P.Shelf c.args.self.now.connection) (under _ _ (c.requires (parts clean))) }
 
 pub returns-in_err-found-clause-within : goal.returns-in_err-found-clause-within
-returns-in_err-found-clause-within g c = keeps g.S.Store c.args.self.now _ refl c.find_secret.ensures.reads.within
+returns-in_err-found-clause-within g c = keeps g.S.Store g.P.Shelf c.args.self.now _ refl c.find_secret.ensures.reads.within
 
 pub returns-in_default-found : goal.returns-in_default-found
 returns-in_default-found g c =
-    let old = state g.S.Store c.args.self.now.connection in
-    let new = state g.S.Store c.find_secret.new.connection in
+    let old = state g.S.Store g.P.Shelf c.args.self.now.connection in
+    let new = state g.S.Store g.P.Shelf c.find_secret.new.connection in
     let l = c.args.self.now.limits in
     let w = c.find_secret.ensures.reads.within in
     let same = on_ok _ c.in_ok-found.ensures.ok c.find_secret.ensures.reads.same in
@@ -27,7 +27,7 @@ returns-in_default-found g c =
     rw (c.as_str.ensures.value, c.as_str-2.ensures.value) at (secret_seen _ old c.as_str.result.now c.as_str-2.result.now (option_map string_bytes c.in_ok-found.found) (under _ _ (c.requires (asked_before _ _ old new c.requires w same clean))) (IfOk-at_ok _ c.in_ok-found.ensures.ok c.find_secret.ensures.found (both clean))) in
     let none : c.in_ok-found.found ≡ None = search rules in
     record {
-      within = keeps g.S.Store c.args.self.now _ refl w;
+      within = keeps g.S.Store g.P.Shelf c.args.self.now _ refl w;
       opens = λ up intact. (on_ok _ c.in_ok-found.ensures.ok c.find_secret.ensures.reads.opens intact).1;
       working = asked_works _ _ old new c.requires w same;
       settings = (refl, w.follows.limit);
@@ -36,8 +36,8 @@ returns-in_default-found g c =
 
 pub returns-then-eq : goal.returns-then-eq
 returns-then-eq g c =
-    let old = state g.S.Store c.args.self.now.connection in
-    let new = state g.S.Store c.find_secret.new.connection in
+    let old = state g.S.Store g.P.Shelf c.args.self.now.connection in
+    let new = state g.S.Store g.P.Shelf c.find_secret.new.connection in
     let l = c.args.self.now.limits in
     let w = c.find_secret.ensures.reads.within in
     let same = on_ok _ c.in_ok-found.ensures.ok c.find_secret.ensures.reads.same in
@@ -47,7 +47,7 @@ returns-then-eq g c =
     let found : c.in_ok-found.found ≡ Some c.in-Some-found.known = search rules in
     let equal : bytes_eq c.args.secret.now (string_bytes c.in-Some-found.known) ≡ true = search rules in
     record {
-      within = keeps g.S.Store c.args.self.now _ refl w;
+      within = keeps g.S.Store g.P.Shelf c.args.self.now _ refl w;
       opens = λ up intact. (on_ok _ c.in_ok-found.ensures.ok c.find_secret.ensures.reads.opens intact).1;
       working = asked_works _ _ old new c.requires w same;
       settings = (refl, w.follows.limit);
@@ -56,8 +56,8 @@ returns-then-eq g c =
 
 pub returns : goal.returns
 returns g c =
-    let old = state g.S.Store c.args.self.now.connection in
-    let new = state g.S.Store c.find_secret.new.connection in
+    let old = state g.S.Store g.P.Shelf c.args.self.now.connection in
+    let new = state g.S.Store g.P.Shelf c.find_secret.new.connection in
     let l = c.args.self.now.limits in
     let w = c.find_secret.ensures.reads.within in
     let same = on_ok _ c.in_ok-found.ensures.ok c.find_secret.ensures.reads.same in
@@ -67,7 +67,7 @@ returns g c =
     let found : c.in_ok-found.found ≡ Some c.in-Some-found.known = search rules in
     let other : bytes_eq c.args.secret.now (string_bytes c.in-Some-found.known) ≡ false = search rules in
     record {
-      within = keeps g.S.Store c.args.self.now _ refl w;
+      within = keeps g.S.Store g.P.Shelf c.args.self.now _ refl w;
       opens = λ up intact. (on_ok _ c.in_ok-found.ensures.ok c.find_secret.ensures.reads.opens intact).1;
       working = asked_works _ _ old new c.requires w same;
       settings = (refl, w.follows.limit);

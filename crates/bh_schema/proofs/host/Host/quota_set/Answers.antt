@@ -1,6 +1,6 @@
 use Rattle.std.proofs.Common.{rules, ap, List, ◌≡◌, ◌^◌, nat_le, true, false, Some, is_some, IsTrue, ◌∙◌, refl}
 use Rattle.std.proofs.lemmas.Result.{IfOk-at_ok}
-use Rattle.sqlite.specs.Held.{state}
+use Rattle.bh_base.specs.Connections.{state}
 use Rattle.bh_types.specs.Names.{is_tenant_name}
 use Rattle.bh_model.proofs.BoundLemmas.{used_stays_bounded}
 use Rattle.bh_model.specs.Operations.{Done, set_quota}
@@ -11,7 +11,7 @@ use Rattle.bh_view.specs.View.{view}
 use Rattle.sqlite_keyed.specs.Lists.{update_where}
 use Rattle.bh_tables.specs.Typed.{VersionRow, PartRow, RefRow, BlockRow, Tables, tables_in}
 use Rattle.bh_tables.specs.Shown.{is_tenant}
-use Rattle.bh_schema.specs.Layer.{standing, Holds}
+use Rattle.bh_base.specs.Layer.{standing, Holds}
 use Rattle.bh_schema.specs.Storage.{seen_in}
 use Rattle.bh_schema.specs.Rows.{tenant_numbers}
 use Rattle.bh_schema.proofs.Storing.{under, plain, plain_after, asked_plain, bodied_still, on_ok, both, parts, inside_of, keeps, AreBoth, asked_before, asked_works, asked_inside, asked_same, wrote_within, wrote_opens, wrote_before, wrote_first}
@@ -19,11 +19,11 @@ use Rattle.bh_schema.proofs.TenantSteps.{none_of, some_of, tenant_seen, sets_quo
 use Rattle.bh_schema.proofs.host.Host.quota_set.Goals as goal
 
 pub find_tenant-requires : goal.find_tenant-requires
-find_tenant-requires g c = record { inside = λ clean. inside_of _ (state g.S.Store c.args.self.now.connection) (under _ _ (c.requires (parts clean))) }
+find_tenant-requires g c = record { inside = λ clean. inside_of _ (state g.S.Store g.P.Shelf c.args.self.now.connection) (under _ _ (c.requires (parts clean))) }
 
 pub returns-in_err-found : goal.returns-in_err-found
 returns-in_err-found g c = record {
-  within = keeps g.S.Store c.args.self.now _ refl c.find_tenant.ensures.reads.within;
+  within = keeps g.S.Store g.P.Shelf c.args.self.now _ refl c.find_tenant.ensures.reads.within;
   opens = search rules;
   working = search rules;
   carries = search rules;
@@ -33,15 +33,15 @@ returns-in_err-found g c = record {
 pub returns-then-is_none : goal.returns-then-is_none
 returns-then-is_none g c =
     let t = c.args.tenant.now in
-    let old = state g.S.Store c.args.self.now.connection in
-    let new = state g.S.Store c.find_tenant.new.connection in
+    let old = state g.S.Store g.P.Shelf c.args.self.now.connection in
+    let new = state g.S.Store g.P.Shelf c.find_tenant.new.connection in
     let w = c.find_tenant.ensures.reads.within in
     let same = on_ok _ c.in_ok-found.ensures.ok c.find_tenant.ensures.reads.same in
     let name : IsTrue (is_tenant_name t) = search rules in
     let few : nat_le c.args.quota (2 ^ 60) ≡ true = search rules in
     let away : is_some c.in_ok-found.found ≡ false = search rules in
     record {
-      within = keeps g.S.Store c.args.self.now _ refl w;
+      within = keeps g.S.Store g.P.Shelf c.args.self.now _ refl w;
       opens = λ up intact. (on_ok _ c.in_ok-found.ensures.ok c.find_tenant.ensures.reads.opens intact).1;
       working = asked_works _ _ old new c.requires w same;
       settings = (refl, w.follows.limit);
@@ -53,17 +53,17 @@ returns-then-is_none g c =
 
 pub set_number-requires-clause-inside : goal.set_number-requires-clause-inside
 set_number-requires-clause-inside g c =
-    asked_inside _ _ (state g.S.Store c.args.self.now.connection) (state g.S.Store c.find_tenant.new.connection) c.requires c.find_tenant.ensures.reads.within (on_ok _ c.in_ok-found.ensures.ok c.find_tenant.ensures.reads.same)
+    asked_inside _ _ (state g.S.Store g.P.Shelf c.args.self.now.connection) (state g.S.Store g.P.Shelf c.find_tenant.new.connection) c.requires c.find_tenant.ensures.reads.within (on_ok _ c.in_ok-found.ensures.ok c.find_tenant.ensures.reads.same)
 
 pub returns-in_err-or_trouble : goal.returns-in_err-or_trouble
 returns-in_err-or_trouble g c =
-    let old = state g.S.Store c.args.self.now.connection in
-    let mid = state g.S.Store c.find_tenant.new.connection in
-    let new = state g.S.Store c.set_number.new.connection in
+    let old = state g.S.Store g.P.Shelf c.args.self.now.connection in
+    let mid = state g.S.Store g.P.Shelf c.find_tenant.new.connection in
+    let new = state g.S.Store g.P.Shelf c.set_number.new.connection in
     let asked = c.find_tenant.ensures.reads.within in
     let wrote = c.set_number.ensures.writes.within in
     record {
-      within = keeps g.S.Store c.args.self.now _ refl (wrote_within old mid new asked (on_ok _ c.in_ok-found.ensures.ok c.find_tenant.ensures.reads.opens) wrote);
+      within = keeps g.S.Store g.P.Shelf c.args.self.now _ refl (wrote_within old mid new asked (on_ok _ c.in_ok-found.ensures.ok c.find_tenant.ensures.reads.opens) wrote);
       opens = search rules;
       working = search rules;
       carries = search rules;
@@ -74,9 +74,9 @@ pub returns : goal.returns
 returns g c =
     let t = c.args.tenant.now in
     let n = c.args.quota in
-    let old = state g.S.Store c.args.self.now.connection in
-    let mid = state g.S.Store c.find_tenant.new.connection in
-    let new = state g.S.Store c.set_number.new.connection in
+    let old = state g.S.Store g.P.Shelf c.args.self.now.connection in
+    let mid = state g.S.Store g.P.Shelf c.find_tenant.new.connection in
+    let new = state g.S.Store g.P.Shelf c.set_number.new.connection in
     let l = c.args.self.now.limits in
     let asked = c.find_tenant.ensures.reads.within in
     let opens = on_ok _ c.in_ok-found.ensures.ok c.find_tenant.ensures.reads.opens in
@@ -96,7 +96,7 @@ returns g c =
     quota_becomes _ old new t n (known clean).0 (works clean) (known clean).1 (leb-true _ _ few) (held clean) in
     let after = λ (clean : AreBoth new). plain_after _ _ (was clean) (seen_in c.args.self.now.limits new) (ap (λ (x : List VersionRow × List PartRow × List RefRow × List BlockRow). x.3) (bodied_still _ old new change (λ x. refl) (works clean) (held clean))) in
     record {
-      within = keeps g.S.Store c.args.self.now _ refl (wrote_within old mid new asked opens wrote);
+      within = keeps g.S.Store g.P.Shelf c.args.self.now _ refl (wrote_within old mid new asked opens wrote);
       opens = wrote_opens old mid new asked opens wrote (on_ok _ c.in_ok-or_trouble.ensures.ok c.set_number.ensures.writes.opens);
       working = λ clean. rw (after clean) (works_of _ t _ old new change (λ x. refl) (works clean) (held clean) (becomes clean)
           (bound_of _ t (set_quota t n) Done _ old (used_stays_bounded.set_quota_bounded t n) (sets_quota t n _ (known clean).0 name few (known clean).1) (works clean)));

@@ -1,20 +1,20 @@
 use Rattle.std.proofs.Common.{not, ap, ◌∙◌}
 use Rattle.std.specs.String.{string_bytes}
-use Rattle.sqlite.specs.Held.{state}
+use Rattle.bh_base.specs.Connections.{state}
 use Rattle.bh_schema.proofs.KnownSteps.{still_inside, both_within, both_open, both_same, key_there, no_key_there}
 use Rattle.bh_schema.proofs.rows.known.find_key.Goals as goal
 
 pub find_secret-requires : goal.find_secret-requires
 find_secret-requires g c =
     record {
-      inside = still_inside (state g.S.Store c.args.connection.now) (state g.S.Store c.find_tenant.new.connection) c.in_ok-find_tenant.ensures.reads.same c.in_ok-find_tenant.ensures.reads.within c.requires.inside;
+      inside = still_inside (state g.S.Store g.P.Shelf c.args.connection.now) (state g.S.Store g.P.Shelf c.find_tenant.new.connection) c.in_ok-find_tenant.ensures.reads.same c.in_ok-find_tenant.ensures.reads.within c.requires.inside;
     }
 
 pub returns-then-is_none-2 : goal.returns-then-is_none-2
 returns-then-is_none-2 g c =
-    let a = state g.S.Store c.args.connection.now in
-    let b = state g.S.Store c.find_tenant.new.connection in
-    let d = state g.S.Store c.find_secret.new.connection in
+    let a = state g.S.Store g.P.Shelf c.args.connection.now in
+    let b = state g.S.Store g.P.Shelf c.find_tenant.new.connection in
+    let d = state g.S.Store g.P.Shelf c.find_secret.new.connection in
     let one = c.in_ok-find_tenant.ensures in
     let two = c.in_ok-find_secret.ensures in
     record {
@@ -30,9 +30,9 @@ returns-then-is_none-2 g c =
 
 pub returns : goal.returns
 returns g c =
-    let a = state g.S.Store c.args.connection.now in
-    let b = state g.S.Store c.find_tenant.new.connection in
-    let d = state g.S.Store c.find_secret.new.connection in
+    let a = state g.S.Store g.P.Shelf c.args.connection.now in
+    let b = state g.S.Store g.P.Shelf c.find_tenant.new.connection in
+    let d = state g.S.Store g.P.Shelf c.find_secret.new.connection in
     let one = c.in_ok-find_tenant.ensures in
     let two = c.in_ok-find_secret.ensures in
     record {

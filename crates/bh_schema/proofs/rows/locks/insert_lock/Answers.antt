@@ -2,13 +2,18 @@ use Rattle.std.proofs.Common.{refl}
 use Rattle.sqlite.specs.Held.{state}
 use Rattle.bh_tables.proofs.Places.{locks}
 use Rattle.bh_tables.proofs.LockTexts.{lock_inserted, new_lock}
-use Rattle.bh_schema.specs.Layer.{standing}
-use Rattle.bh_schema.proofs.Calls.{inserted}
+use Rattle.bh_base.specs.Layer.{standing}
+use Rattle.bh_base.proofs.Calls.{inserted}
+use Rattle.bh_base.specs.Connections.{backing}
+use Rattle.bh_base.specs.Shown.{shown}
+use Rattle.bh_tables.specs.Typed.{totals_of, no_rows}
+use Rattle.bh_base.proofs.Apart.{locks_apart, lock_may}
 use Rattle.bh_schema.proofs.rows.locks.insert_lock.Goals as goal
 
 pub returns : goal.returns
 returns g c =
     let h = rw (c.to_sql.ensures, c.to_sql-2.ensures) at c.write.ensures in
-    let old = state g.S.Store c.args.connection.now in
-    let w = inserted locks old (state g.S.Store c.write.new.connection) c.requires.inside (λ t l. refl) c.write.result h.live (lock_inserted c.args.tenant.now c.args.bucket.now) (λ clean is. new_lock (standing old).now (c.requires.inside clean).host _ is.free is.owned) h.runs h.survives in
+    let old = state g.S.Store c.args.connection.now.database in
+    let a = backing g.P.Shelf c.args.connection.now.packs in
+    let w = inserted locks (λ _. locks_apart) a old (state g.S.Store c.write.new.connection) c.requires.inside (λ t l. refl) c.write.result h.live (lock_inserted c.args.tenant.now c.args.bucket.now) (λ packs db. lock_may (totals_of no_rows) packs db _) (λ clean is. new_lock (standing (shown a old)).now (c.requires.inside clean).host _ is.free is.owned) h.runs h.survives in
     record { writes = record { within = w.within; opens = w.opens; inside = w.inside }; holds = w.holds; trouble = w.trouble }

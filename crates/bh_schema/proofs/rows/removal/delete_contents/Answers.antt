@@ -1,6 +1,6 @@
-use Rattle.sqlite.specs.Held.{state}
+use Rattle.bh_base.specs.Connections.{state}
 use Rattle.bh_schema.specs.declared.rows.removal.TenantTable.TheVariants as table
-use Rattle.bh_schema.specs.Layer.{IsIntact, IsOpen}
+use Rattle.bh_base.specs.Layer.{IsIntact, IsOpen}
 use Rattle.bh_schema.specs.Removal.{without_table, sums_without}
 use Rattle.bh_schema.proofs.Storing.{within_then}
 use Rattle.bh_schema.proofs.VersionSteps.{then_turned}
@@ -9,12 +9,12 @@ use Rattle.bh_schema.proofs.rows.removal.delete_contents.Goals as goal
 pub returns-clause-rewrites : goal.returns-clause-rewrites
 returns-clause-rewrites g c =
     let t = c.args.tenant.now in
-    let s0 = state g.S.Store c.args.connection.now in
-    let s1 = state g.S.Store c.delete_owned.new.connection in
-    let s2 = state g.S.Store c.delete_owned-2.new.connection in
-    let s3 = state g.S.Store c.delete_owned-3.new.connection in
-    let s4 = state g.S.Store c.delete_owned-4.new.connection in
-    let s5 = state g.S.Store c.delete_owned-5.new.connection in
+    let s0 = state g.S.Store g.P.Shelf c.args.connection.now in
+    let s1 = state g.S.Store g.P.Shelf c.delete_owned.new.connection in
+    let s2 = state g.S.Store g.P.Shelf c.delete_owned-2.new.connection in
+    let s3 = state g.S.Store g.P.Shelf c.delete_owned-3.new.connection in
+    let s4 = state g.S.Store g.P.Shelf c.delete_owned-4.new.connection in
+    let s5 = state g.S.Store g.P.Shelf c.delete_owned-5.new.connection in
     let e1 = c.in_ok-delete_owned.ensures in
     let e2 = c.in_ok-delete_owned-2.ensures in
     let e3 = c.in_ok-delete_owned-3.ensures in
@@ -38,12 +38,12 @@ returns-clause-rewrites g c =
 
 pub returns-clause-writes : goal.returns-clause-writes
 returns-clause-writes g c =
-    let s0 = state g.S.Store c.args.connection.now in
-    let s1 = state g.S.Store c.delete_owned.new.connection in
-    let s2 = state g.S.Store c.delete_owned-2.new.connection in
-    let s3 = state g.S.Store c.delete_owned-3.new.connection in
-    let s4 = state g.S.Store c.delete_owned-4.new.connection in
-    let s5 = state g.S.Store c.delete_owned-5.new.connection in
+    let s0 = state g.S.Store g.P.Shelf c.args.connection.now in
+    let s1 = state g.S.Store g.P.Shelf c.delete_owned.new.connection in
+    let s2 = state g.S.Store g.P.Shelf c.delete_owned-2.new.connection in
+    let s3 = state g.S.Store g.P.Shelf c.delete_owned-3.new.connection in
+    let s4 = state g.S.Store g.P.Shelf c.delete_owned-4.new.connection in
+    let s5 = state g.S.Store g.P.Shelf c.delete_owned-5.new.connection in
     let e1 = c.in_ok-delete_owned.ensures in
     let e2 = c.in_ok-delete_owned-2.ensures in
     let e3 = c.in_ok-delete_owned-3.ensures in

@@ -1,10 +1,13 @@
 use Rattle.bh_schema.proofs.Asking.{failed_sum, no_value, summed}
-use Rattle.bh_schema.proofs.Calls.{counted}
+use Rattle.bh_base.proofs.Calls.{counted}
 use Rattle.bh_tables.proofs.Places.{retains}
 use Rattle.bh_tables.proofs.RemovalTexts.{its_dates_counted}
 use Rattle.sqlite.specs.Held.{state}
 use Rattle.sqlite.specs.Order.{Row}
 use Rattle.std.proofs.Common.{List, Ok, Err}
+use Rattle.bh_base.specs.Connections.{backing}
+use Rattle.bh_base.specs.Shown.{shown}
+use Rattle.bh_base.proofs.Apart.{retains_apart}
 use Rattle.bh_schema.proofs.rows.removal.late_dates.Goals as goal
 
 pub returns-in_err-rows : goal.returns-in_err-rows
@@ -12,8 +15,8 @@ returns-in_err-rows g c =
     let h = rw (c.to_sql.ensures, c.number.ensures) at c.in_err-rows.ensures in
     let old = c.args.connection.now in
     let new = c.query_all.new.self in
-    let q = counted retains (state g.S.Store old) (state g.S.Store new) c.requires.inside (λ (l : List Row). l) (Err c.in_err-rows.field-0.0) (its_dates_counted c.args.tenant.now c.args.moment) h.ok h.err h.survives in
-    let f = failed_sum g.S.Store old new c.from_residual.result _ c.from_residual.ensures q in
+    let q = counted retains (λ _. retains_apart) (backing g.P.Shelf old.packs) (state g.S.Store old.database) (state g.S.Store new) c.requires.inside (λ (l : List Row). l) (Err c.in_err-rows.field-0.0) (its_dates_counted c.args.tenant.now c.args.moment) h.ok h.err h.survives in
+    let f = failed_sum g.S.Store g.P.Shelf old (record old { database = new }) c.from_residual.result _ c.from_residual.ensures q in
     record { reads = f.reads; total = no_value _ _ _ c.from_residual.ensures; trouble = f.trouble }
 
 pub returns : goal.returns
@@ -21,6 +24,6 @@ returns g c =
     let h = rw (c.to_sql.ensures, c.number.ensures) at c.in_ok-rows.ensures in
     let old = c.args.connection.now in
     let new = c.query_all.new.self in
-    let q = counted retains (state g.S.Store old) (state g.S.Store new) c.requires.inside (λ (l : List Row). l) (Ok c.in_ok-rows.rows.items) (its_dates_counted c.args.tenant.now c.args.moment) h.ok h.err h.survives in
-    let a = summed g.S.Store old new c.read_total.result q _ c.deref.ensures.value c.read_total.ensures.read c.read_total.ensures.trouble in
+    let q = counted retains (λ _. retains_apart) (backing g.P.Shelf old.packs) (state g.S.Store old.database) (state g.S.Store new) c.requires.inside (λ (l : List Row). l) (Ok c.in_ok-rows.rows.items) (its_dates_counted c.args.tenant.now c.args.moment) h.ok h.err h.survives in
+    let a = summed g.S.Store g.P.Shelf old (record old { database = new }) c.read_total.result q _ c.deref.ensures.value c.read_total.ensures.read c.read_total.ensures.trouble in
     record { reads = a.reads; total = a.total; trouble = a.trouble }

@@ -1,13 +1,13 @@
 use Rattle.std.proofs.Common.{◌≡◌, ap, ap₂, sym, subst, ◌∙◌, ◌+◌}
-use Rattle.sqlite.specs.Held.{state}
+use Rattle.bh_base.specs.Connections.{state}
 use Rattle.bh_tables.specs.Typed.{totals_of, tables_in}
-use Rattle.bh_schema.specs.Layer.{Standing, standing, IsInsideBy, HoldsBy}
+use Rattle.bh_base.specs.Layer.{Standing, standing, IsInsideBy, HoldsBy}
 use Rattle.bh_schema.proofs.TallySteps.{own_tally, recounts}
 use Rattle.bh_schema.proofs.rows.tallies.recount.Goals as goal
 
 pub returns-clause-enters : goal.returns-clause-enters
 returns-clause-enters g c = λ clean.
-    let a = standing (state g.S.Store c.args.connection.now) in
+    let a = standing (state g.S.Store g.P.Shelf c.args.connection.now) in
     let one = c.in_ok-tally.ensures in
     let two = c.in_ok-set_tally.ensures in
     let middle = two.writes.within.follows.clean clean in
@@ -21,4 +21,4 @@ returns-clause-enters g c = λ clean.
     (ap (λ n. c.in_ok-versions.versions + n) (sym c.one_if-2.ensures.is) ∙ c.in_ok-versions.ensures.counted ∙ ap (λ n. y.versions + n) c.one_if.ensures.is)
     (ap (λ n. c.in_ok-markers.markers + n) (sym c.one_if-4.ensures.is) ∙ c.in_ok-markers.ensures.counted ∙ ap (λ n. y.markers + n) c.one_if-3.ensures.is)
     (ap (λ n. c.in_ok-objects.objects + n) (sym c.one_if-6.ensures.is) ∙ c.in_ok-objects.ensures.counted ∙ ap (λ n. y.objects + n) c.one_if-5.ensures.is) in
-    record { within = subst (λ s. IsInsideBy s (standing (state g.S.Store c.set_tally.new.connection))) law it.within; is = it.is ∙ ap (λ (x : Standing). tables_in x.now) same }
+    record { within = subst (λ s. IsInsideBy s (standing (state g.S.Store g.P.Shelf c.set_tally.new.connection))) law it.within; is = it.is ∙ ap (λ (x : Standing). tables_in x.now) same }

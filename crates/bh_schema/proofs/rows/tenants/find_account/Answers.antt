@@ -1,8 +1,8 @@
 use Rattle.bh_rows.proofs.ScanLemmas.{first_row}
 use Rattle.bh_schema.proofs.Asking.{failed, no_value, plain}
-use Rattle.bh_schema.proofs.Calls.{selected}
-use Rattle.bh_schema.specs.Layer.{standing}
-use Rattle.bh_schema.specs.Connections.{tables}
+use Rattle.bh_base.proofs.Calls.{selected}
+use Rattle.bh_base.specs.Layer.{standing}
+use Rattle.bh_base.specs.Connections.{tables}
 use Rattle.bh_schema.specs.Rows.{tenant_account}
 use Rattle.bh_tables.proofs.Places.{tenants}
 use Rattle.bh_tables.proofs.UsedTexts.{account_shown}
@@ -11,6 +11,9 @@ use Rattle.bh_tables.specs.Typed.{Tables, TenantRow, totals_of, tables as tables
 use Rattle.sqlite.specs.Held.{state}
 use Rattle.sqlite.specs.Order.{Row}
 use Rattle.std.proofs.Common.{List, Ok, Err, ap, find, slice_get, ◌∙◌}
+use Rattle.bh_base.specs.Connections.{backing}
+use Rattle.bh_base.specs.Shown.{shown}
+use Rattle.bh_base.proofs.Apart.{tenants_apart}
 use Rattle.bh_schema.proofs.rows.tenants.find_account.Goals as goal
 
 pub returns-in_err-rows : goal.returns-in_err-rows
@@ -19,8 +22,8 @@ returns-in_err-rows g c =
     let h = rw c.to_sql.ensures at c.in_err-rows.ensures in
     let old = c.args.connection.now in
     let new = c.query_all.new.self in
-    let q = selected tenants (state g.S.Store old) (state g.S.Store new) c.requires.inside (λ (l : List Row). l) (Err c.in_err-rows.field-0.0) (account_shown (totals_of (tables_of (state g.S.Store old))) c.args.name.now) h.ok h.err h.survives in
-    let f = failed g.S.Store old new c.from_residual.result _ c.from_residual.ensures q in
+    let q = selected tenants (λ _. tenants_apart) (backing g.P.Shelf old.packs) (state g.S.Store old.database) (state g.S.Store new) c.requires.inside (λ (l : List Row). l) (Err c.in_err-rows.field-0.0) (account_shown (totals_of (tables_of (shown (backing g.P.Shelf old.packs) (state g.S.Store old.database)))) c.args.name.now) h.ok h.err h.survives in
+    let f = failed g.S.Store g.P.Shelf old (record old { database = new }) c.from_residual.result _ c.from_residual.ensures q in
     record { reads = f.reads; found = no_value _ _ _ c.from_residual.ensures; trouble = f.trouble }
 
 pub returns : goal.returns
@@ -29,7 +32,7 @@ returns g c =
     let h = rw c.to_sql.ensures at c.in_ok-rows.ensures in
     let old = c.args.connection.now in
     let new = c.query_all.new.self in
-    let q = selected tenants (state g.S.Store old) (state g.S.Store new) c.requires.inside (λ (l : List Row). l) (Ok c.in_ok-rows.rows.items) (account_shown (totals_of (tables_of (state g.S.Store old))) c.args.name.now) h.ok h.err h.survives in
-    let a = plain g.S.Store old new c.first_of.result _ (λ (x : Tables × TenantRow). shown_account (totals_of x.0) x.1) (λ t. (tables g.S.Store old, t)) (λ (x : Tables × TenantRow). tenant_account x.0 x.1) c.first_of.ensures.found c.first_of.ensures.trouble q (find (is_tenant c.args.name.now) (tables g.S.Store old).tenants)
-    (λ clean. ap (λ l. slice_get l 0) c.deref.ensures.value ∙ first_row (shown_account (totals_of (tables g.S.Store old))) (is_tenant c.args.name.now) _ _ (q.rows clean)) in
+    let q = selected tenants (λ _. tenants_apart) (backing g.P.Shelf old.packs) (state g.S.Store old.database) (state g.S.Store new) c.requires.inside (λ (l : List Row). l) (Ok c.in_ok-rows.rows.items) (account_shown (totals_of (tables_of (shown (backing g.P.Shelf old.packs) (state g.S.Store old.database)))) c.args.name.now) h.ok h.err h.survives in
+    let a = plain g.S.Store g.P.Shelf old (record old { database = new }) c.first_of.result _ (λ (x : Tables × TenantRow). shown_account (totals_of x.0) x.1) (λ t. (tables g.S.Store g.P.Shelf old, t)) (λ (x : Tables × TenantRow). tenant_account x.0 x.1) c.first_of.ensures.found c.first_of.ensures.trouble q (find (is_tenant c.args.name.now) (tables g.S.Store g.P.Shelf old).tenants)
+    (λ clean. ap (λ l. slice_get l 0) c.deref.ensures.value ∙ first_row (shown_account (totals_of (tables g.S.Store g.P.Shelf old))) (is_tenant c.args.name.now) _ _ (q.rows clean)) in
     record { reads = a.reads; found = a.found; trouble = a.trouble }

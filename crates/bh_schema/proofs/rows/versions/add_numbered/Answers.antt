@@ -1,21 +1,21 @@
 use Rattle.std.proofs.Common.{refl}
-use Rattle.sqlite.specs.Held.{state}
+use Rattle.bh_base.specs.Connections.{state}
 use Rattle.bh_tables.specs.Typed.{used_changed, tables_in}
-use Rattle.bh_schema.specs.Layer.{standing}
+use Rattle.bh_base.specs.Layer.{standing}
 use Rattle.bh_schema.specs.Tallies.{coming, entries_changed}
 use Rattle.bh_schema.specs.Written.{version_columns_of, with_version, with_numbers}
 use Rattle.bh_schema.proofs.Storing.{within_then}
-use Rattle.bh_schema.proofs.VersionSteps.{then_entered, ended_so, comes_law}
+use Rattle.bh_schema.proofs.VersionSteps.{live_shown, then_entered, ended_so, comes_law}
 use Rattle.bh_schema.proofs.rows.versions.add_numbered.Goals as goal
 
 pub returns-clause-holds : goal.returns-clause-holds
 returns-clause-holds g c = λ clean.
     let v = c.args.version.now in
     let tenant = v.tenant.now in
-    let a = state g.S.Store c.args.connection.now in
-    let b = state g.S.Store c.entry_comes.new.connection in
-    let d = state g.S.Store c.use_numbers.new.connection in
-    let e = state g.S.Store c.insert_version.new.connection in
+    let a = state g.S.Store g.P.Shelf c.args.connection.now in
+    let b = state g.S.Store g.P.Shelf c.entry_comes.new.connection in
+    let d = state g.S.Store g.P.Shelf c.use_numbers.new.connection in
+    let e = state g.S.Store g.P.Shelf c.insert_version.new.connection in
     let one = c.in_ok-entry_comes.ensures in
     let two = c.in_ok-use_numbers.ensures in
     let three = c.in_ok-insert_version.ensures in
@@ -26,14 +26,14 @@ returns-clause-holds g c = λ clean.
     ended_so a e (λ s. used (counted s)) (λ t. with_version v (numbered t)) (λ so. one.writes.within.follows.clean (two.writes.within.follows.clean (three.writes.within.follows.clean so)))
     (then_entered a d e (λ s. used (counted s)) (λ s. s) numbered (with_version v) three.writes.within.follows.clean
     (then_entered a b d counted used (λ t. t) numbered two.writes.within.follows.clean one.enters two.rewrites) three.rewrites)
-    (λ was. comes_law a c.schema-schema.ensures.live was (c.requires.inside was) (version_columns_of v) (one.newer middle) (λ t. record t { next_version = c.args.next_version; next_entry = c.args.next_entry }) (λ t. refl)) clean
+    (λ was. comes_law a (live_shown g.S.Store g.P.Shelf c.args.connection.now c.schema-schema.ensures.live) was (c.requires.inside was) (version_columns_of v) (one.newer middle) (λ t. record t { next_version = c.args.next_version; next_entry = c.args.next_entry }) (λ t. refl)) clean
 
 pub returns-clause-writes : goal.returns-clause-writes
 returns-clause-writes g c =
-    let a = state g.S.Store c.args.connection.now in
-    let b = state g.S.Store c.entry_comes.new.connection in
-    let d = state g.S.Store c.use_numbers.new.connection in
-    let e = state g.S.Store c.insert_version.new.connection in
+    let a = state g.S.Store g.P.Shelf c.args.connection.now in
+    let b = state g.S.Store g.P.Shelf c.entry_comes.new.connection in
+    let d = state g.S.Store g.P.Shelf c.use_numbers.new.connection in
+    let e = state g.S.Store g.P.Shelf c.insert_version.new.connection in
     let one = c.in_ok-entry_comes.ensures.writes in
     let two = c.in_ok-use_numbers.ensures.writes in
     let three = c.in_ok-insert_version.ensures.writes in

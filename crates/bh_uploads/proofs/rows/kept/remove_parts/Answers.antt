@@ -1,7 +1,7 @@
 use Rattle.std.proofs.Common.{ap, ◌∙◌, subst, sym}
 use Rattle.std.proofs.lemmas.Result.{on_ok_weaker}
 use Rattle.bh_tables.specs.Typed.{tables_in, bytes_kept}
-use Rattle.bh_schema.specs.Layer.{Standing, IsInside}
+use Rattle.bh_base.specs.Layer.{Standing, IsInside}
 use Rattle.bh_uploads.specs.Writes.{without_parts}
 use Rattle.bh_uploads.proofs.rows.kept.remove_parts.Goals as goal
 

@@ -1,7 +1,7 @@
-use Rattle.sqlite.specs.Held.{state}
+use Rattle.bh_base.specs.Connections.{state}
 use Rattle.bh_tables.specs.Typed.{Totals, used_changed, kept_changed, tables_in}
-use Rattle.bh_schema.specs.Layer.{standing, IsIntact, IsOpen}
-use Rattle.bh_schema.proofs.Calls.{in_midst}
+use Rattle.bh_base.specs.Layer.{standing, IsIntact, IsOpen}
+use Rattle.bh_base.proofs.Calls.{in_midst}
 use Rattle.bh_schema.proofs.Storing.{within_then}
 use Rattle.bh_schema.proofs.VersionSteps.{then_turned, ended}
 use Rattle.bh_uploads.specs.Writes.{without_parts}
@@ -9,15 +9,15 @@ use Rattle.bh_uploads.proofs.Keeping.{taken_law}
 use Rattle.bh_uploads.proofs.rows.kept.take_parts.Goals as goal
 
 pub delete_parts-requires-clause-midst : goal.delete_parts-requires-clause-midst
-delete_parts-requires-clause-midst g c clean = in_midst (standing (state g.S.Store c.args.connection.now)) (c.requires.inside clean)
+delete_parts-requires-clause-midst g c clean = in_midst (standing (state g.S.Store g.P.Shelf c.args.connection.now)) (c.requires.inside clean)
 
 pub returns-clause-holds : goal.returns-clause-holds
 returns-clause-holds g c =
     let t = c.args.tenant.now in
-    let a = state g.S.Store c.args.connection.now in
-    let b = state g.S.Store c.delete_parts.new.connection in
-    let d = state g.S.Store c.use_less.new.connection in
-    let e = state g.S.Store c.keep_bytes.new.connection in
+    let a = state g.S.Store g.P.Shelf c.args.connection.now in
+    let b = state g.S.Store g.P.Shelf c.delete_parts.new.connection in
+    let d = state g.S.Store g.P.Shelf c.use_less.new.connection in
+    let e = state g.S.Store g.P.Shelf c.keep_bytes.new.connection in
     let one = c.in_ok-delete_parts.ensures in
     let two = c.in_ok-use_less.ensures in
     let three = c.in_ok-keep_bytes.ensures in
@@ -33,8 +33,8 @@ returns-clause-writes g c =
     let one = c.in_ok-delete_parts.ensures.writes in
     let two = c.in_ok-use_less.ensures.writes in
     let three = c.in_ok-keep_bytes.ensures.writes in
-    let w1 = within_then (state g.S.Store c.args.connection.now) (state g.S.Store c.delete_parts.new.connection) (state g.S.Store c.use_less.new.connection) one.opens one.within two.within in
-    let o1 : IsIntact (state g.S.Store c.use_less.new.connection) → IsOpen (state g.S.Store c.args.connection.now) → IsOpen (state g.S.Store c.use_less.new.connection) = λ intact up. two.opens intact (one.opens (two.within.follows.intact intact) up) in
-    let w2 = within_then (state g.S.Store c.args.connection.now) (state g.S.Store c.use_less.new.connection) (state g.S.Store c.keep_bytes.new.connection) o1 w1 three.within in
-    let o2 : IsIntact (state g.S.Store c.keep_bytes.new.connection) → IsOpen (state g.S.Store c.args.connection.now) → IsOpen (state g.S.Store c.keep_bytes.new.connection) = λ intact up. three.opens intact (o1 (three.within.follows.intact intact) up) in
+    let w1 = within_then (state g.S.Store g.P.Shelf c.args.connection.now) (state g.S.Store g.P.Shelf c.delete_parts.new.connection) (state g.S.Store g.P.Shelf c.use_less.new.connection) one.opens one.within two.within in
+    let o1 : IsIntact (state g.S.Store g.P.Shelf c.use_less.new.connection) → IsOpen (state g.S.Store g.P.Shelf c.args.connection.now) → IsOpen (state g.S.Store g.P.Shelf c.use_less.new.connection) = λ intact up. two.opens intact (one.opens (two.within.follows.intact intact) up) in
+    let w2 = within_then (state g.S.Store g.P.Shelf c.args.connection.now) (state g.S.Store g.P.Shelf c.use_less.new.connection) (state g.S.Store g.P.Shelf c.keep_bytes.new.connection) o1 w1 three.within in
+    let o2 : IsIntact (state g.S.Store g.P.Shelf c.keep_bytes.new.connection) → IsOpen (state g.S.Store g.P.Shelf c.args.connection.now) → IsOpen (state g.S.Store g.P.Shelf c.keep_bytes.new.connection) = λ intact up. three.opens intact (o1 (three.within.follows.intact intact) up) in
     record { within = w2; opens = o2; inside = λ clean. (returns-clause-holds g c clean).within }

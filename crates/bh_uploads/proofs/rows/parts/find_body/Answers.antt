@@ -1,13 +1,14 @@
 use Rattle.bh_rows.proofs.ScanLemmas.{first_row}
 use Rattle.bh_schema.proofs.Asking.{failed, no_value, plain}
 use Rattle.bh_schema.proofs.PartCalls.{selected}
-use Rattle.bh_schema.specs.Connections.{tables}
+use Rattle.bh_base.specs.Connections.{tables}
 use Rattle.bh_tables.proofs.PartTexts.{part_body_shown}
 use Rattle.bh_tables.specs.Shown.{is_part, shown_body}
 use Rattle.bh_uploads.specs.Rows.{part_body}
 use Rattle.sqlite.specs.Held.{state}
 use Rattle.sqlite.specs.Order.{Row}
 use Rattle.std.proofs.Common.{List, Ok, Err, ap, find, slice_get, ◌∙◌}
+use Rattle.bh_base.specs.Connections.{backing}
 use Rattle.bh_uploads.proofs.rows.parts.find_body.Goals as goal
 
 pub returns-in_err-rows : goal.returns-in_err-rows
@@ -15,8 +16,8 @@ returns-in_err-rows g c =
     let h = rw (c.to_sql.ensures, c.number.ensures, c.number-2.ensures) at c.in_err-rows.ensures in
     let old = c.args.connection.now in
     let new = c.query_all.new.self in
-    let q = selected (state g.S.Store old) (state g.S.Store new) c.requires.inside (λ (l : List Row). l) (Err c.in_err-rows.field-0.0) (part_body_shown c.args.tenant.now c.args.upload c.args.part) h.ok h.err h.survives in
-    let f = failed g.S.Store old new c.from_residual.result _ c.from_residual.ensures q in
+    let q = selected (backing g.P.Shelf old.packs) (state g.S.Store old.database) (state g.S.Store new) c.requires.inside (λ (l : List Row). l) (Err c.in_err-rows.field-0.0) (part_body_shown c.args.tenant.now c.args.upload c.args.part) h.ok h.err h.survives in
+    let f = failed g.S.Store g.P.Shelf old (record old { database = new }) c.from_residual.result _ c.from_residual.ensures q in
     record { reads = f.reads; found = no_value _ _ _ c.from_residual.ensures }
 
 pub returns : goal.returns
@@ -24,8 +25,8 @@ returns g c =
     let h = rw (c.to_sql.ensures, c.number.ensures, c.number-2.ensures) at c.in_ok-rows.ensures in
     let old = c.args.connection.now in
     let new = c.query_all.new.self in
-    let q = selected (state g.S.Store old) (state g.S.Store new) c.requires.inside (λ (l : List Row). l) (Ok c.in_ok-rows.rows.items) (part_body_shown c.args.tenant.now c.args.upload c.args.part) h.ok h.err h.survives in
+    let q = selected (backing g.P.Shelf old.packs) (state g.S.Store old.database) (state g.S.Store new) c.requires.inside (λ (l : List Row). l) (Ok c.in_ok-rows.rows.items) (part_body_shown c.args.tenant.now c.args.upload c.args.part) h.ok h.err h.survives in
     let m = is_part c.args.tenant.now c.args.upload c.args.part in
-    let a = plain g.S.Store old new c.first_of.result _ shown_body (λ p. p) part_body c.first_of.ensures.found c.first_of.ensures.trouble q (find m (tables g.S.Store old).parts)
+    let a = plain g.S.Store g.P.Shelf old (record old { database = new }) c.first_of.result _ shown_body (λ p. p) part_body c.first_of.ensures.found c.first_of.ensures.trouble q (find m (tables g.S.Store g.P.Shelf old).parts)
     (λ clean. ap (λ l. slice_get l 0) c.deref.ensures.value ∙ first_row shown_body m _ _ (q.rows clean)) in
     record { reads = a.reads; found = a.found }

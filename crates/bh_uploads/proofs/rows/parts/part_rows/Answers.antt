@@ -1,10 +1,11 @@
 use Rattle.sqlite.specs.Held.{state}
 use Rattle.bh_tables.proofs.PartTexts.{parts_listed}
 use Rattle.bh_schema.proofs.PartCalls.{sorted}
+use Rattle.bh_base.specs.Connections.{backing}
 use Rattle.bh_uploads.proofs.rows.parts.part_rows.Goals as goal
 
 pub returns : goal.returns
 returns g c =
     let h = rw (c.to_sql.ensures, c.number.ensures) at c.query_all.ensures in
-    let q = sorted (state g.S.Store c.args.connection.now) (state g.S.Store c.query_all.new.self) c.requires.inside (λ v. v.items) c.query_all.result (parts_listed c.args.tenant.now c.args.upload) h.ok h.err h.survives in
+    let q = sorted (backing g.P.Shelf c.args.connection.now.packs) (state g.S.Store c.args.connection.now.database) (state g.S.Store c.query_all.new.self) c.requires.inside (λ v. v.items) c.query_all.result (parts_listed c.args.tenant.now c.args.upload) h.ok h.err h.survives in
     record { reads = record { within = q.within; opens = q.opens; same = q.same }; rows = q.rows; trouble = q.trouble }

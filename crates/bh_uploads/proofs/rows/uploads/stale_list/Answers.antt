@@ -1,6 +1,6 @@
 use Rattle.bh_schema.proofs.Asking.{failed, no_value, all}
-use Rattle.bh_schema.proofs.Calls.{sorted}
-use Rattle.bh_schema.specs.Connections.{tables}
+use Rattle.bh_base.proofs.Calls.{sorted}
+use Rattle.bh_base.specs.Connections.{tables}
 use Rattle.bh_tables.proofs.Places.{uploads}
 use Rattle.bh_tables.proofs.UploadTexts.{stale_listed}
 use Rattle.bh_tables.specs.Typed.{UploadRow, totals_of, number, tables as tables_of}
@@ -10,6 +10,9 @@ use Rattle.sqlite.specs.Order.{Row}
 use Rattle.std.proofs.Common.{List, [], ◌∷◌, Ok, Err, ℕ, sym, ◌∙◌}
 use Rattle.std.proofs.lemmas.List.{map-id}
 use Rattle.std.proofs.lemmas.Result.{IfOk-weaker}
+use Rattle.bh_base.specs.Connections.{backing}
+use Rattle.bh_base.specs.Shown.{shown}
+use Rattle.bh_base.proofs.Apart.{uploads_apart}
 use Rattle.bh_uploads.proofs.rows.uploads.stale_list.Goals as goal
 
 pub returns-in_err-rows : goal.returns-in_err-rows
@@ -17,8 +20,8 @@ returns-in_err-rows g c =
     let h = rw (c.to_sql.ensures, c.to_sql-2.ensures, c.number.ensures) at c.in_err-rows.ensures in
     let old = c.args.connection.now in
     let new = c.query_all.new.self in
-    let q = sorted uploads (state g.S.Store old) (state g.S.Store new) c.requires.inside (λ (l : List Row). l) (Err c.in_err-rows.field-0.0) (stale_listed (totals_of (tables_of (state g.S.Store old))) c.args.tenant.now c.args.bucket.now c.args.moment) h.ok h.err h.survives in
-    let f = failed g.S.Store old new c.from_residual.result _ c.from_residual.ensures q in
+    let q = sorted uploads (λ _. uploads_apart) (backing g.P.Shelf old.packs) (state g.S.Store old.database) (state g.S.Store new) c.requires.inside (λ (l : List Row). l) (Err c.in_err-rows.field-0.0) (stale_listed (totals_of (tables_of (shown (backing g.P.Shelf old.packs) (state g.S.Store old.database)))) c.args.tenant.now c.args.bucket.now c.args.moment) h.ok h.err h.survives in
+    let f = failed g.S.Store g.P.Shelf old (record old { database = new }) c.from_residual.result _ c.from_residual.ensures q in
     record { reads = f.reads; numbers = no_value _ _ _ c.from_residual.ensures }
 
 pub returns : goal.returns
@@ -26,7 +29,7 @@ returns g c =
     let h = rw (c.to_sql.ensures, c.to_sql-2.ensures, c.number.ensures) at c.in_ok-rows.ensures in
     let old = c.args.connection.now in
     let new = c.query_all.new.self in
-    let q = sorted uploads (state g.S.Store old) (state g.S.Store new) c.requires.inside (λ (l : List Row). l) (Ok c.in_ok-rows.rows.items) (stale_listed (totals_of (tables_of (state g.S.Store old))) c.args.tenant.now c.args.bucket.now c.args.moment) h.ok h.err h.survives in
-    let a = all g.S.Store old new c.all_of.result _ (λ n. number n ∷ []) (λ (u : UploadRow). u.upload) (λ (n : ℕ). n) (λ n. n) (λ _. Unit {0}) c.all_of.ensures.read c.all_of.ensures.trouble q (begun_before c.args.tenant.now c.args.bucket.now c.args.moment (tables g.S.Store old).uploads)
+    let q = sorted uploads (λ _. uploads_apart) (backing g.P.Shelf old.packs) (state g.S.Store old.database) (state g.S.Store new) c.requires.inside (λ (l : List Row). l) (Ok c.in_ok-rows.rows.items) (stale_listed (totals_of (tables_of (shown (backing g.P.Shelf old.packs) (state g.S.Store old.database)))) c.args.tenant.now c.args.bucket.now c.args.moment) h.ok h.err h.survives in
+    let a = all g.S.Store g.P.Shelf old (record old { database = new }) c.all_of.result _ (λ n. number n ∷ []) (λ (u : UploadRow). u.upload) (λ (n : ℕ). n) (λ n. n) (λ _. Unit {0}) c.all_of.ensures.read c.all_of.ensures.trouble q (begun_before c.args.tenant.now c.args.bucket.now c.args.moment (tables g.S.Store g.P.Shelf old).uploads)
     (λ clean. c.deref.ensures.value ∙ q.rows clean) in
     record { reads = a.reads; numbers = IfOk-weaker c.all_of.result _ _ (λ list told clean. sym (map-id list.items) ∙ told clean) a.listed }

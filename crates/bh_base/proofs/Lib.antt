@@ -1,0 +1,11 @@
+pub mod Placing
+pub mod TurnLemmas
+pub mod PlaceTexts
+pub mod Stored
+pub mod Lifting
+pub mod Endings
+pub mod Statements
+pub mod Apart
+pub mod Blank
+pub mod Calls
+pub mod Alone
