@@ -27,9 +27,8 @@ use Rattle.bh_open.specs.Opening.{digest_in}
 use Rattle.bh_open.specs.declared.open.Opened.{Opened}
 use Rattle.bh_maintenance.proofs.Found.{is_clean}
 use Rattle.bh_maintenance.proofs.Moving.{limits_shown, stays_here}
-use Rattle.bh_maintenance.specs.Endings.{AreClosed}
 use Rattle.bh_maintenance.specs.Found.{IsReadyByRow}
-use Rattle.bh_maintenance.specs.Moves.{shown_by, HasCome, TellsMove, IsLike, HasOnly, HasExported, Exports, IsExport, ExportsTo, IsSavedIn, SavesMoved, IsExportedFrom}
+use Rattle.bh_maintenance.specs.Moves.{shown_by, HasCome, TellsMove, IsLike, HasOnly, HasExported, Exports, IsExport, ExportsTo, IsSavedIn, SavesMoved}
 use Rattle.bh_maintenance.specs.Printing.{IsFault, IsLine, IsRefusal}
 use Rattle.bh_maintenance.specs.declared.printed.Printed.{Printed}
 
@@ -149,9 +148,3 @@ module _ {S : Type 0} {M E : Type 0} {m : disk.Ghosts M} (g : Ghosts S) (e : dis
 
   pub exports_as : (told : Printed) → told ≡ printed → (files : Option (Files M)) (copy : Option E) → Exports g tenant host from_new printed over_files new → SavesMoved e new printed files copy → ExportsTo g tenant host from_new told m e files copy
   exports_as told is files copy it saves = subst (λ (p : Printed). ExportsTo g tenant host from_new p m e files copy) (sym is) (exports_to files copy it saves)
-
--- ---- the host that was joined with packs
-
-module _ {D M E : Type 0} {g : disk.Ghosts D} (m : disk.Ghosts M) (e : disk.Ghosts E) (tenant : Octets) (joined host : Opened (FileStore D g)) (is : joined ≡ host) (new : Held (FileStore D g)) (printed : Printed) (made : Option (Files M)) (copy : Option E) (files : Files D) where
-  pub exported_from : ExportsTo over_files tenant joined new printed m e made copy → AreClosed new files → IsExportedFrom m e tenant host printed made copy files
-  exported_from it closed = record { new = new; exports = subst (λ (x : Opened (FileStore D g)). ExportsTo over_files tenant x new printed m e made copy) is it; closed = closed }

@@ -1,15 +1,13 @@
 -- An import into the host that was opened in files.
-use Rattle.std.proofs.Common.{◌≡◌, Option, Some, None, MatchOption, inr, subst}
+use Rattle.std.proofs.Common.{Option, Some, None, MatchOption, inr}
 use Rattle.sqlite_disk.specs.declared.Disk as disk
 use Rattle.sqlite_disk.specs.declared.Files.{Files}
 use Rattle.sqlite_wal.specs.Recovery.{Image}
 use Rattle.sqlite_trees.specs.declared.store.Store.{Ghosts}
 use Rattle.sqlite_store.specs.declared.store.FileStore.{FileStore}
-use Rattle.sqlite.specs.Files.{over_files}
 use Rattle.sqlite.specs.Held.{Held}
 use Rattle.bh_open.specs.declared.open.Opened.{Opened}
-use Rattle.bh_maintenance.specs.Endings.{AreClosed}
-use Rattle.bh_maintenance.specs.Moves.{IsHostAt, IsImportedInto, ImportsTo, IsImportedOf}
+use Rattle.bh_maintenance.specs.Moves.{IsHostAt, IsImportedInto, ImportsTo}
 use Rattle.bh_maintenance.specs.declared.clocks.ClockRead.{ClockRead}
 use Rattle.bh_maintenance.specs.declared.printed.Printed.{Printed}
 
@@ -17,8 +15,3 @@ pub imports_to : (clock : ClockRead) {S D : Type 0} (h : Ghosts S) (from : Opene
     → (files : Option (Files D)) → MatchOption files ⊥ (IsImportedInto clock h from from_new to printed) → ImportsTo clock h from from_new g image printed files
 imports_to clock h from from_new g image printed to at None came = absurd came
 imports_to clock h from from_new g image printed to at (Some f) came = inr (record { to = to; at = at; came = came })
-
--- the given host was joined with packs
-module _ (clock : ClockRead) {D E : Type 0} {h : disk.Ghosts E} (joined from : Opened (FileStore E h)) (is : joined ≡ from) (new : Held (FileStore E h)) (g : disk.Ghosts D) (image : Image) (printed : Printed) (files : Option (Files D)) (given : Files E) where
-  pub imported_of : ImportsTo clock over_files joined new g image printed files → AreClosed new given → IsImportedOf clock from g image printed files given
-  imported_of it closed = record { new = new; imports = subst (λ (x : Opened (FileStore E h)). ImportsTo clock over_files x new g image printed files) is it; closed = closed }

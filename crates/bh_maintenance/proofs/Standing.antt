@@ -1,5 +1,6 @@
 -- A host at rest that is joined with packs. Since nothing is placed in them, it stands as its database does alone.
-use Rattle.std.proofs.Common.{◌≡◌, ◌≢◌, ℕ, true, false, List, [], ◌∷◌, map, Option, Some, None, Result, Ok, Err, IfOk, IfSome, is_some, refl, sym, ap, ◌∙◌, subst}
+use Rattle.std.proofs.Common.{◌≡◌, ◌≢◌, true, false, [], ◌∷◌, Option, Some, None, Result, Ok, Err, IfOk, IfSome, is_some, refl, sym, ap, ◌∙◌, subst}
+use Rattle.std.specs.Prelude.{MatchResult}
 use Rattle.std.specs.String.{string_bytes}
 use Rattle.std.specs.declared.alloc.Global.{Global}
 use Rattle.std.specs.declared.string.String.{String}
@@ -12,7 +13,7 @@ use Rattle.bh_types.specs.declared.block_digest.BlockDigest.{BlockDigest}
 use Rattle.bh_types.specs.declared.refusal.Refusal.{Refusal}
 use Rattle.bh_types.specs.declared.refusal.Refusal.TheVariants.{NoSuchTenant, TenantExists}
 use Rattle.bh_tables.specs.Schema.{Octets}
-use Rattle.bh_tables.specs.Typed.{TenantRow, Tables, tables_in, IsHost}
+use Rattle.bh_tables.specs.Typed.{tables_in, IsHost}
 use Rattle.bh_view.specs.Bodies.{IsSoundHost}
 use Rattle.bh_view.specs.View.{view, latest_of}
 use Rattle.bh_storage.specs.Calls.{Seen, IsAtRest}
@@ -21,7 +22,7 @@ use Rattle.bh_base.specs.Layer.{Standing, standing, IsStateClean, KeepsDisk, tak
 use Rattle.bh_base.specs.Shown.{Backing, named, shown}
 use Rattle.bh_base.proofs.Lifting.{shown_clean, clean_shown, shown_intact, intact_shown}
 use Rattle.bh_base.proofs.Placing.{host_filled, filled_host}
-use Rattle.bh_schema.specs.Storage.{seen_in, left_in}
+use Rattle.bh_schema.specs.Storage.{seen_in}
 use Rattle.bh_schema.proofs.Storing.{sound_host}
 use Rattle.bh_bare.proofs.Bare.{seen_bare, left_shown}
 use Rattle.bh_create.specs.Creation.{IsNewHost}
@@ -32,7 +33,6 @@ use Rattle.bh_maintenance.proofs.Moving.{settled, moves_of, named_of}
 use Rattle.bh_maintenance.specs.Found.{IsReadyBy}
 use Rattle.bh_maintenance.specs.Moves.{tenants_in, TellsName, IsOneName, HasNoName, Moves}
 use Rattle.bh_maintenance.specs.declared.printed.Printed.{Printed}
-use Rattle.std.specs.Prelude.{MatchResult}
 
 -- no packs
 abbrev without : Backing
