@@ -1,5 +1,5 @@
 -- From what an event does to what an open after a stop finds.
-use Rattle.std.proofs.Common.{◌≡◌, ◌⊎◌, inl, inr, List, Some, None, refl, sym, subst, ◌∙◌}
+use Rattle.std.proofs.Common.{◌≡◌, ◌⊎◌, inl, inr, List, [], Some, None, refl, sym, ap, subst, ◌∙◌}
 use Rattle.std.proofs.Math.Logic.{∥∥₁_map}
 use Rattle.sqlite_disk.specs.declared.Disk.{Ghosts}
 use Rattle.sqlite_store.specs.declared.store.FileStore.{FileStore}
@@ -17,11 +17,13 @@ use Rattle.bh_view.specs.Bodies.{IsSoundHost}
 use Rattle.bh_storage.specs.Calls.{Seen, IsAtRest}
 use Rattle.bh_storage.specs.declared.storage.Storage as storage
 use Rattle.bh_cache.specs.Kept.{KeptBlocks}
+use Rattle.bh_shelf.specs.Contents.{nothing}
 use Rattle.bh_shelf.specs.declared.no_shelf.NoShelf.{NoShelf}
-use Rattle.bh_base.specs.Connections.{backing, without_packs}
+use Rattle.bh_base.specs.Connections.{without_packs}
 use Rattle.bh_base.specs.Layer.{standing}
-use Rattle.bh_base.specs.Shown.{Backing, shown}
-use Rattle.bh_bare.proofs.Bare.{same_tables, left_shown as left_with_packs}
+use Rattle.bh_base.specs.Shown.{shown}
+use Rattle.bh_bare.specs.Bare.{no_packs}
+use Rattle.bh_bare.proofs.Bare.{unplaced_same, kept_bare, left_bare, left_alone}
 use Rattle.bh_schema.specs.declared.host.Host.{Host}
 use Rattle.bh_schema.specs.Storage.{IsIntact, IsOpen, seen, seen_in, beside, left, left_in}
 use Rattle.bh_schema.proofs.Storing.{sound_host}
@@ -59,21 +61,24 @@ present_back opened db is it = subst (λ (x : Tables). CameBack x opened) (prese
 sound_schema : (digest : Octets → Octets) (db : Database) → IsSoundHost digest (tables_shown db) → db.schema ≡ host_schema
 sound_schema digest db sound = (sound_host db sound.sound).schema
 
-kept_shown : (kept : KeptBlocks) (l : HostLimits) (a : Backing) (s : State) → (beside kept (seen_in l (shown a s))).kept ≡ tables_shown (standing s).kept
-unfolding seen_in beside standing
-kept_shown kept l a s = same_tables a.kept s.committed
+kept_shown : (kept : KeptBlocks) (l : HostLimits) (s : State) → (beside kept (seen_in l (shown no_packs s))).kept ≡ tables_shown (standing (shown no_packs s)).kept
+unfolding seen_in beside
+kept_shown kept l s = refl
 
 module _ {D G : Type 0} {g : Ghosts D} (host : Host (FileStore D g) NoShelf G) where
-  left_shown : (db : Database) → IsLeft host db → left over_files without_packs host (tables_shown db)
-  unfolding left_in
-  left_shown db it = left_with_packs (backing without_packs host.connection.packs) (file_state host.connection.database) (tables_shown db) (db, it.0, it.1.lists, refl)
+  left_unplaced : (db : Database) → IsLeft host db → db.trees 34 ≡ [] → left over_files without_packs host (tables_shown db)
+  left_unplaced db it none = subst (λ (d : Database). left over_files without_packs host (tables_shown d)) (unplaced_same nothing db none) (left_bare (file_state host.connection.database) db it.0 it.1.lists)
 
   module _ (digest : Octets → Octets) (all : AllLeft (IsSoundHost digest) host) where
+    left_sound : (db : Database) → IsLeft host db → IsSoundHost digest (tables_shown db)
+    unfolding left_in
+    left_sound db it = left_alone (file_state host.connection.database) (IsSoundHost digest) (λ d sound. sound_host d sound.sound) all (tables_shown db) (db, it.0, it.1.lists, refl)
+
     left_schema : (db : Database) → IsLeft host db → db.schema ≡ host_schema
-    left_schema db it = sound_schema digest db (all (tables_shown db) (left_shown db it))
+    left_schema db it = sound_schema digest db (left_sound db it)
 
     all_shown : AllShown (IsSoundHost digest) host
-    all_shown db it = subst (IsSoundHost digest) (sym (present_opens db (left_schema db it))) (all (tables_shown db) (left_shown db it))
+    all_shown db it = subst (IsSoundHost digest) (sym (present_opens db (left_schema db it))) (left_sound db it)
 
     none_older : (x : Tables) → ¬ IsOlder host x
     none_older x older = not_earlier older.db (left_schema older.db older.may) older.schema
@@ -95,13 +100,16 @@ module _ {D G : Type 0} {g : Ghosts D} (digest : Octets → Octets) (host : Host
   came_back : IsOpen over_files without_packs host → CameBack (seen over_files without_packs host).now opened
   came_back up =
       let it = ready (again.intact clean, up) in
-      let stood : tables_shown (kept_of host) ≡ (seen over_files without_packs host).now = sym (kept_shown host.cache host.limits (backing without_packs host.connection.packs) (file_state host.connection.database)) ∙ it.committed in
+      let s = file_state host.connection.database in
+      let shows = kept_shown host.cache host.limits s in
+      let kept = kept_bare s (sound_host (standing (shown no_packs s)).kept (subst (IsSoundHost digest) (sym it.committed ∙ shows) it.sound).sound) in
+      let stood : tables_shown (kept_of host) ≡ (seen over_files without_packs host).now = sym (ap tables_shown kept) ∙ sym shows ∙ it.committed in
       let schema = sound_schema digest (kept_of host) (subst (IsSoundHost digest) (sym stood) it.sound) in
       subst (λ (x : Tables). CameBack x opened) stood (present_back opened (kept_of host) schema (again.came_back clean up))
 
   merely_rests : AllLeft (IsSoundHost digest) host → ∥ IsAtRest (IsSoundHost digest) (seen_again opened) ∥₁
   merely_rests all = ∥∥₁_map (again.merely clean) (λ it.
-      (present_back opened it.0 (left_schema host digest all it.0 it.1) it.2).rest digest (all (tables_shown it.0) (left_shown host it.0 it.1)))
+      (present_back opened it.0 (left_schema host digest all it.0 it.1) it.2).rest digest (left_sound host digest all it.0 it.1))
 
   -- what is said of all that a crash may leave is said of what an open finds, or that was brought over
   found : (P : Tables → Type 0) → ((x : Tables) → left over_files without_packs host x → P x) → ∥ (P (seen_again opened).now ⊎ IsOlder host (seen_again opened).now) ∥₁
@@ -118,12 +126,12 @@ module _ {D G : Type 0} {g : Ghosts D} (digest : Octets → Octets) (host : Host
           told (inr (inl second)) = older (inr (inl second))
           told (inr (inr (inl third))) = older (inr (inr (inl third)))
           told (inr (inr (inr (inl fourth)))) = older (inr (inr (inr fourth)))
-          told (inr (inr (inr (inr fifth)))) = inl (subst P (sym (present_back opened db fifth back).tables) (says (tables_shown db) (left_shown host db may)))
+          told (inr (inr (inr (inr fifth)))) = inl (subst P (sym (present_back opened db fifth back).tables) (says (tables_shown db) (left_unplaced host db may (back.unplaced fifth))))
 
 -- ---- after an event on a storage that stands over a host
 
 module _ {D G H : Type 0} {g : Ghosts D} (IsIntactOf IsOpenOf : H → Type 0) (seen_of : H → Seen) (left_of : H → Tables → Type 0) (digest : Octets → Octets)
-    (old new : H) (host : Host (FileStore D g) NoShelf G) (opened : Opened (FileStore D g)) (over : StandsOver IsIntactOf IsOpenOf (IsSoundHost digest) seen_of left_of new host)
+    (old new : H) (host : Host (FileStore D g) NoShelf G) (opened : Opened (FileStore D g)) (over : StandsOver without_packs IsIntactOf IsOpenOf (IsSoundHost digest) seen_of left_of new host)
     (ready : storages.IsReady IsIntactOf IsOpenOf seen_of left_of digest new) (again : IsReopened host opened) (clean : IsCleanAgain opened) where
   whole : IsIntactOf new
   whole = over.intact.1 (again.intact clean)
@@ -202,7 +210,7 @@ module _ {D G H : Type 0} {g : Ghosts D} (IsIntactOf IsOpenOf : H → Type 0) (s
       }
 
 -- a host stands over itself
-itself : {D G : Type 0} {g : Ghosts D} (digest : Octets → Octets) (host : Host (FileStore D g) NoShelf G) → StandsOver (IsIntact over_files without_packs) (IsOpen over_files without_packs) (IsSoundHost digest) (seen over_files without_packs) (left over_files without_packs) host host
+itself : {D G : Type 0} {g : Ghosts D} (digest : Octets → Octets) (host : Host (FileStore D g) NoShelf G) → StandsOver without_packs (IsIntact over_files without_packs) (IsOpen over_files without_packs) (IsSoundHost digest) (seen over_files without_packs) (left over_files without_packs) host host
 itself digest host = record { intact = (λ i. i, λ i. i); opened = (λ o. o, λ o. o); leaves = λ x. (λ l. l, λ l. l); same = λ rest. refl }
 
 pub after_stop : {D G : Type 0} {g : Ghosts D} (digest : Octets → Octets) → AfterStop g G digest
@@ -219,20 +227,20 @@ after_reply digest event told ended old new opened did ready again clean =
 
 -- ---- after one on a host that is served
 
-pub after_kept_stop : {D G K : Type 0} {g : Ghosts D} {d : digester.Ghosts G} {k : size.Ghosts K} (digest : Octets → Octets) (s : storage.Ghosts (KeptHost D G K g d k)) → s.IsSoundStore ≡ IsSoundHost digest → KeptStandsOver s → AfterKeptStop digest s
+pub after_kept_stop : {D G K : Type 0} {g : Ghosts D} {d : digester.Ghosts G} {k : size.Ghosts K} (digest : Octets → Octets) (s : storage.Ghosts (KeptHost D NoShelf G K g without_packs d k)) → s.IsSoundStore ≡ IsSoundHost digest → KeptStandsOver without_packs s → AfterKeptStop digest s
 after_kept_stop digest s sound stands event told old new it opened applied stays is again clean =
     survives s.IsIntact s.IsOpen s.seen s.left digest old new it.storage.host opened
-    (subst (λ (P : Tables → Type 0). StandsOver s.IsIntact s.IsOpen P s.seen s.left new it.storage.host) sound (stands new it is))
+    (subst (λ (P : Tables → Type 0). StandsOver without_packs s.IsIntact s.IsOpen P s.seen s.left new it.storage.host) sound (stands new it is))
     (subst (λ (P : Tables → Type 0). s.IsIntact new × s.IsOpen new → IsAtRest P (s.seen new)) sound stays.ready) again clean event told applied
 
-pub after_kept_reply : {D G K : Type 0} {g : Ghosts D} {d : digester.Ghosts G} {k : size.Ghosts K} (digest : Octets → Octets) (s : storage.Ghosts (KeptHost D G K g d k)) → s.IsSoundStore ≡ IsSoundHost digest → KeptStandsOver s → AfterKeptReply digest s
+pub after_kept_reply : {D G K : Type 0} {g : Ghosts D} {d : digester.Ghosts G} {k : size.Ghosts K} (digest : Octets → Octets) (s : storage.Ghosts (KeptHost D NoShelf G K g without_packs d k)) → s.IsSoundStore ≡ IsSoundHost digest → KeptStandsOver without_packs s → AfterKeptReply digest s
 after_kept_reply digest s sound stands event told ended old new it opened did stays is again clean =
     survives_since s.IsIntact s.IsOpen s.seen s.left digest old new it.storage.host opened
-    (subst (λ (P : Tables → Type 0). StandsOver s.IsIntact s.IsOpen P s.seen s.left new it.storage.host) sound (stands new it is))
+    (subst (λ (P : Tables → Type 0). StandsOver without_packs s.IsIntact s.IsOpen P s.seen s.left new it.storage.host) sound (stands new it is))
     (subst (λ (P : Tables → Type 0). s.IsIntact new × s.IsOpen new → IsAtRest P (s.seen new)) sound stays.ready) again clean event told ended did
 
-pub after_kept_group : {D G K : Type 0} {g : Ghosts D} {d : digester.Ghosts G} {k : size.Ghosts K} (digest : Octets → Octets) (s : storage.Ghosts (KeptHost D G K g d k)) → s.IsSoundStore ≡ IsSoundHost digest → KeptStandsOver s → AfterKeptGroup digest s
+pub after_kept_group : {D G K : Type 0} {g : Ghosts D} {d : digester.Ghosts G} {k : size.Ghosts K} (digest : Octets → Octets) (s : storage.Ghosts (KeptHost D NoShelf G K g without_packs d k)) → s.IsSoundStore ≡ IsSoundHost digest → KeptStandsOver without_packs s → AfterKeptGroup digest s
 after_kept_group digest s sound stands events tolds old new it opened applied stays is again clean =
     all_survive s.IsIntact s.IsOpen s.seen s.left digest old new it.storage.host opened
-    (subst (λ (P : Tables → Type 0). StandsOver s.IsIntact s.IsOpen P s.seen s.left new it.storage.host) sound (stands new it is))
+    (subst (λ (P : Tables → Type 0). StandsOver without_packs s.IsIntact s.IsOpen P s.seen s.left new it.storage.host) sound (stands new it is))
     (subst (λ (P : Tables → Type 0). s.IsIntact new × s.IsOpen new → IsAtRest P (s.seen new)) sound stays.ready) again clean events tolds applied

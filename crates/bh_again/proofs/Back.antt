@@ -17,6 +17,7 @@ use Rattle.bh_types.specs.declared.block_digest.BlockDigest.{BlockDigest}
 use Rattle.bh_types.specs.declared.block_digest.BlockDigest.TheVariants.{Sha256, Fast}
 use Rattle.bh_model.specs.State.{Octets}
 use Rattle.bh_tables.specs.Hosts.{is_of_version, with_version, tables_opened}
+use Rattle.bh_tables.specs.Schema.{host_schema}
 use Rattle.bh_tables.specs.Typed.{HostRow, Tables, tables_in, first_tables_in}
 use Rattle.bh_tables.proofs.HostTests.{host_opens, first_opens, second_opens, third_opens, fourth_opens, opened_host}
 use Rattle.bh_view.specs.Bodies.{IsSoundHost}
@@ -34,6 +35,7 @@ use Rattle.bh_again.specs.Stops.{seen_again, IsCleanAgain, ComesBack}
 
 module _ {D : Type 0} {g : Ghosts D} (opened : Opened (FileStore D g)) (clean : IsCleanAgain opened) (db : Database)
     (schema : IsHostsSchema db.schema)
+    (unplaced : db.schema ≡ host_schema → db.trees 34 ≡ [])
     (shows : IsCleanAgain opened → IsTypedIfEarlier db → (seen_again opened).now ≡ tables_opened db)
     (rest : (digest : Octets → Octets) → IsCleanAgain opened → IsTypedIfEarlier db → IsSoundHost digest (seen_again opened).now → IsAtRest (IsSoundHost digest) (seen_again opened))
     (latest : (digest : Octets → Octets) → IsCleanAgain opened → IsTypedIfEarlier db → IsSoundHost digest (seen_again opened).now → opened.latest ≡ latest_of (seen_again opened).now)
@@ -41,6 +43,7 @@ module _ {D : Type 0} {g : Ghosts D} (opened : Opened (FileStore D g)) (clean : 
   comes : ComesBack db opened
   comes = record {
     schema = schema;
+    unplaced = unplaced;
     came_back = λ typed.
         let is = shows clean typed in
         let here : (digest : Octets → Octets) → IsSoundHost digest (tables_opened db) → IsSoundHost digest (seen_again opened).now = λ digest sound. subst (IsSoundHost digest) (sym is) sound in

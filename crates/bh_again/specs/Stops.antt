@@ -1,7 +1,7 @@
 -- What a stop leaves for the next open, and the effect of an event, or of a group of them, over a stop.
 use Rattle.bh_shelf.specs.declared.no_shelf.NoShelf.{NoShelf}
 use Rattle.bh_base.specs.Connections.{without_packs}
-use Rattle.std.specs.Prelude.{◌≡◌, ◌≢◌, List, Some}
+use Rattle.std.specs.Prelude.{◌≡◌, ◌≢◌, List, [], Some}
 use Rattle.sqlite_disk.specs.declared.Disk.{Ghosts}
 use Rattle.sqlite_store.specs.declared.store.FileStore.{FileStore}
 use Rattle.sqlite.specs.Effect.{Database, IsDatabase}
@@ -11,6 +11,7 @@ use Rattle.bh_types.specs.declared.refusal.Refusal.TheVariants as refusal
 use Rattle.bh_model.specs.State.{Octets}
 use Rattle.bh_event.specs.Events.{Arrival}
 use Rattle.bh_tables.specs.Hosts.{tables_opened}
+use Rattle.bh_tables.specs.Schema.{host_schema}
 use Rattle.bh_tables.specs.Typed.{Tables}
 use Rattle.bh_view.specs.Bodies.{IsSoundHost}
 use Rattle.bh_view.specs.View.{latest_of}
@@ -56,6 +57,8 @@ module _ {D : Type 0} {g : Ghosts D} where
   -- Rows under an earlier schema have to be typed rows
   pub record ComesBack (db : Database) (opened : Opened (FileStore D g)) : Type 0 where
     pub schema : IsHostsSchema db.schema
+    -- no block of it has its bytes in a pack
+    pub unplaced : db.schema ≡ host_schema → db.trees 34 ≡ []
     pub came_back : IsTypedIfEarlier db → CameBack (tables_opened db) opened
 
   -- the error isn't that the files have no host
@@ -180,9 +183,9 @@ StaysSound {D} g G digest = (old new : Host (FileStore D g) NoShelf G)
 -- after an event and a stop, the host beneath comes back with the tables that the kept host had
 -- before the event or after it
 abbrev pub AfterKeptStop : {D G K : Type 0} {g : Ghosts D} {d : digester.Ghosts G} {k : size.Ghosts K} → (Octets → Octets)
-    → storage.Ghosts (KeptHost D G K g d k) → Type 0
+    → storage.Ghosts (KeptHost D NoShelf G K g without_packs d k) → Type 0
 AfterKeptStop {D} {G} {K} {g} {d} {k} digest s =
-    (event : Arrival) (told : Told) (old new : KeptHost D G K g d k) (it : RecallingStorage (FileStore D g) NoShelf G)
+    (event : Arrival) (told : Told) (old new : KeptHost D NoShelf G K g without_packs d k) (it : RecallingStorage (FileStore D g) NoShelf G)
     (opened : Opened (FileStore D g))
     → IsApplied s.IsIntact s.IsOpen s.seen s.left event told old new
     → StaysAtRest s.IsIntact s.IsOpen s.IsSoundStore s.seen s.left old new
@@ -192,9 +195,10 @@ AfterKeptStop {D} {G} {K} {g} {d} {k} digest s =
 
 -- and so it does after a reply was sent and a stop
 abbrev pub AfterKeptReply : {D G K : Type 0} {g : Ghosts D} {d : digester.Ghosts G} {k : size.Ghosts K} → (Octets → Octets)
-    → storage.Ghosts (KeptHost D G K g d k) → Type 0
+    → storage.Ghosts (KeptHost D NoShelf G K g without_packs d k) → Type 0
 AfterKeptReply {D} {G} {K} {g} {d} {k} digest s =
-    (event : Arrival) (told : Told) (ended : End) (old new : KeptHost D G K g d k) (it : RecallingStorage (FileStore D g) NoShelf G)
+    (event : Arrival) (told : Told) (ended : End) (old new : KeptHost D NoShelf G K g without_packs d k)
+    (it : RecallingStorage (FileStore D g) NoShelf G)
     (opened : Opened (FileStore D g))
     → HasAnswered s.IsIntact s.IsOpen s.seen s.left event told ended old new
     → StaysAtRest s.IsIntact s.IsOpen s.IsSoundStore s.seen s.left old new
@@ -204,9 +208,10 @@ AfterKeptReply {D} {G} {K} {g} {d} {k} digest s =
 
 -- and so it does after events that were applied together and a stop
 abbrev pub AfterKeptGroup : {D G K : Type 0} {g : Ghosts D} {d : digester.Ghosts G} {k : size.Ghosts K} → (Octets → Octets)
-    → storage.Ghosts (KeptHost D G K g d k) → Type 0
+    → storage.Ghosts (KeptHost D NoShelf G K g without_packs d k) → Type 0
 AfterKeptGroup {D} {G} {K} {g} {d} {k} digest s =
-    (events : List Arrival) (tolds : List Told) (old new : KeptHost D G K g d k) (it : RecallingStorage (FileStore D g) NoShelf G)
+    (events : List Arrival) (tolds : List Told) (old new : KeptHost D NoShelf G K g without_packs d k)
+    (it : RecallingStorage (FileStore D g) NoShelf G)
     (opened : Opened (FileStore D g))
     → found.HaveApplied s.IsIntact s.IsOpen s.seen s.left events tolds old new
     → StaysAtRest s.IsIntact s.IsOpen s.IsSoundStore s.seen s.left old new

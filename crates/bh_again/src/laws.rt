@@ -6,6 +6,7 @@ ghost use Rattle.bh_again.specs.Stops.{AfterKeptGroup, AfterKeptReply, AfterKept
 
 use bh_kept::{BlockSize, KeptHost};
 use bh_schema::host::Digester;
+use bh_shelf::no_shelf::NoShelf;
 use bh_storage::storage::Storage;
 use sqlite_disk::Crash;
 
@@ -45,15 +46,15 @@ pub fn opens_sound<D: Crash, G: Digester>()
 /// The same of `after_stop`, for the host that is served: it is found with the tables that it showed
 /// before an event or after it, unless it was lost over a backup.
 pub fn after_kept_stop<'a, D: Crash + Drop, G: Digester + Drop, K: BlockSize>()
-    ensures { AfterKeptStop G.digest_of ⟦<KeptHost<'a, D, G, K> as Storage>⟧ }
+    ensures { AfterKeptStop G.digest_of ⟦<KeptHost<'a, D, NoShelf, G, K> as Storage>⟧ }
 {}
 
 /// The same of `after_reply`, for the host that is served.
 pub fn after_kept_reply<'a, D: Crash + Drop, G: Digester + Drop, K: BlockSize>()
-    ensures { AfterKeptReply G.digest_of ⟦<KeptHost<'a, D, G, K> as Storage>⟧ }
+    ensures { AfterKeptReply G.digest_of ⟦<KeptHost<'a, D, NoShelf, G, K> as Storage>⟧ }
 {}
 
 /// The same of `after_group`, for the host that is served.
 pub fn after_kept_group<'a, D: Crash + Drop, G: Digester + Drop, K: BlockSize>()
-    ensures { AfterKeptGroup G.digest_of ⟦<KeptHost<'a, D, G, K> as Storage>⟧ }
+    ensures { AfterKeptGroup G.digest_of ⟦<KeptHost<'a, D, NoShelf, G, K> as Storage>⟧ }
 {}

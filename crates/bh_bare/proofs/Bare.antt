@@ -1,109 +1,133 @@
--- Nothing is in packs yet: what a connection with packs shows is what its database shows alone.
-use Rattle.std.proofs.Common.{◌≡◌, inl, inr, cond, List, [], ◌∷◌, ◌++◌, true, true≢false, refl, sym, ap, ap₂, ◌∙◌, subst}
-use Rattle.std.specs.Coded.{coded_list}
-use base.Stored.{Gv, gnil, gnum, gcons}
-use Rattle.std.proofs.lemmas.Bool.{cases_Bool, and_parts, eqb-true}
+-- A database without packs. What it shows is what it shows alone, if nothing is placed, and also if it is a host's: a block that has a place
+-- would have no bytes, so its row would be no block's.
+use Rattle.std.proofs.Common.{◌≡◌, inl, inr, ℕ, ◌+◌, Bool, true, false, cond, List, [], ◌∷◌, map, map-id, Option, Some, None, refl, sym, ap, ap₂, ◌∙◌, subst}
+use Rattle.std.specs.List.{AllByRecursion}
+use Rattle.std.proofs.lemmas.Bool.{cases_eq, eq-eqb, ne_eqb}
 use Rattle.sqlite.specs.Effect.{Database}
 use Rattle.sqlite.specs.Order.{Row}
 use Rattle.sqlite.specs.State.{State}
 use Rattle.sqlite.specs.Tree.{Trees}
 use Rattle.sqlite_trees.specs.Objects.{catalog_tree}
+use Rattle.sqlite_trees.specs.Tree.{with_tree}
 use Rattle.sqlite_catalog.specs.Listing.{Lists}
 use Rattle.bh_types.specs.Limits.{HostLimits}
-use Rattle.bh_tables.specs.Hosts.{same, same_code, coded_row, are_rows, are_these, are_held, is_host, tables_shown}
-use Rattle.bh_tables.specs.Typed.{host_form, tenant_form, key_form, bucket_form, version_form, block_form, ref_form, upload_form, part_form, use_form, lock_form, retain_form, tally_form, garbage_form}
-use Rattle.bh_tables.specs.Typed.{Totals, totals_of, Raw, raw, Tables, tables_in, no_rows}
-use Rattle.bh_shelf.specs.Contents.{Contents}
-use Rattle.bh_base.specs.Layer.{standing, Leaves}
-use Rattle.bh_base.specs.Placed.{filled, filled_trees}
-use Rattle.bh_base.specs.Shown.{Backing, named, shown}
-use Rattle.bh_base.proofs.Placing.{unplaced}
+use Rattle.bh_rows.specs.Form.{typed}
+use Rattle.bh_tables.specs.Bodies.{block_name}
+use Rattle.bh_tables.specs.Hosts.{tables_shown}
+use Rattle.bh_tables.specs.Packs.{place_at, places_in, packs_in, is_reached}
+use Rattle.bh_tables.specs.Rows.{PlaceRow, place_form, PackRow, block_of}
+use Rattle.bh_tables.specs.Schema.{Octets}
+use Rattle.bh_tables.specs.Typed.{Totals, Tables, IsHost, IsHostBy}
+use Rattle.bh_view.specs.Bodies.{IsSoundHost}
+use Rattle.bh_storage.specs.Calls.{IsAtRest}
+use Rattle.bh_shelf.specs.Contents.{Contents, nothing}
+use Rattle.bh_base.specs.Layer.{Standing, standing, taken_back, Leaves}
+use Rattle.bh_base.specs.Placed.{sized, below, put_bytes, put_in, filled_row, filled_trees, filled}
+use Rattle.bh_base.specs.Shown.{named, shown}
+use Rattle.bh_base.proofs.Stored.{IsBlock}
 use Rattle.bh_schema.specs.Storage.{seen_in, left_in}
+use Rattle.bh_schema.specs.Storage as storage
+use Rattle.bh_schema.proofs.Storing.{sound_host}
+use Rattle.bh_bare.specs.Bare.{no_packs, IsBare}
 
-none_first : {X : Type 0} (xs ys : List X) → xs ++ ys ≡ [] → xs ≡ []
-none_first [] ys none = refl
-none_first (x ∷ xs) ys none = absurd (cc)
+-- ---- the database is as it is
 
-none_after : {X : Type 0} (xs ys : List X) → xs ++ ys ≡ [] → ys ≡ []
-none_after [] ys none = none
-none_after (x ∷ xs) ys none = absurd (cc)
+-- a tree put back as it was
+put_back : (trees : Trees) (tree : ℕ) → with_tree trees tree (trees tree) ≡ trees
+put_back trees tree = λ i. λ t. at t i
+  where
+    at : (t : ℕ) → with_tree trees tree (trees tree) t ≡ trees t
+    at t = elim (cases_eq t tree) [
+      | inl is ↦ ap (λ b. cond b (trees tree) (trees t)) (eq-eqb t tree is) ∙ ap trees (sym is)
+      | inr other ↦ ap (λ b. cond b (trees tree) (trees t)) (ne_eqb t tree other)
+    ]
 
-same_is : (a b : Gv) → same_code a b ≡ true → a ≡ b
-same_is gnil gnil h = refl
-same_is gnil (gnum n) h = absurd (true≢false (sym h))
-same_is gnil (gcons a b) h = absurd (true≢false (sym h))
-same_is (gnum m) gnil h = absurd (true≢false (sym h))
-same_is (gnum m) (gnum n) h = ap gnum (eqb-true m n h)
-same_is (gnum m) (gcons a b) h = absurd (true≢false (sym h))
-same_is (gcons a b) gnil h = absurd (true≢false (sym h))
-same_is (gcons a b) (gnum n) h = absurd (true≢false (sym h))
-same_is (gcons a b) (gcons c d) h = let parts = and_parts _ _ h in ap₂ gcons (same_is a c parts.0) (same_is b d parts.1)
-
--- a list with the code of an empty one
-empty_if : (rows : List Row) → same (coded_list coded_row) rows [] ≡ true → rows ≡ []
-empty_if rows h = (coded_list coded_row).inj rows [] (same_is _ _ h)
-
--- of the tests of a host's rows, the last
-unfilled_of : (sums : Totals) (r : Raw) → are_held sums r ≡ true → r.unfilled ≡ []
-unfilled_of sums r h =
-    let a = and_parts (are_rows host_form r.host) _ h in
-    let b = and_parts (are_rows (tenant_form sums) r.tenants) _ a.1 in
-    let c = and_parts (are_rows key_form r.keys) _ b.1 in
-    let d = and_parts (are_rows bucket_form r.buckets) _ c.1 in
-    let e = and_parts (are_rows version_form r.versions) _ d.1 in
-    let f = and_parts (are_rows block_form r.blocks) _ e.1 in
-    let g = and_parts (are_rows ref_form r.refs) _ f.1 in
-    let i = and_parts (are_rows (upload_form sums) r.uploads) _ g.1 in
-    let j = and_parts (are_rows part_form r.parts) _ i.1 in
-    let k = and_parts (are_rows use_form r.uses) _ j.1 in
-    let l = and_parts (are_these use_form r.uses sums.uses) _ k.1 in
-    let m = and_parts (are_rows lock_form r.locks) _ l.1 in
-    let n = and_parts (are_rows retain_form r.retains) _ m.1 in
-    let o = and_parts (are_rows tally_form r.tallies) _ n.1 in
-    let p = and_parts (are_these tally_form r.tallies sums.tallies) _ o.1 in
-    let q = and_parts (are_rows garbage_form r.garbage) _ p.1 in
-    let s = and_parts (are_these garbage_form r.garbage sums.garbage) _ q.1 in
-    let t = and_parts sums.measured _ s.1 in
-    empty_if r.unfilled t.1
-
-nothing_placed : (db : Database) → is_host db ≡ true → db.trees 34 ≡ []
-unfolding is_host
-nothing_placed db h = none_first (db.trees 34) _ (none_after (db.trees 32) _ (unfilled_of (totals_of (tables_in db)) (raw db.trees) (and_parts _ _ h).1))
-
--- where nothing is placed, it is as it is
-as_it_is : (packs : Contents) (db : Database) → db.trees 34 ≡ [] → tables_shown (filled packs db) ≡ tables_shown db
-as_it_is packs db none = ap (λ (t : Trees). tables_shown (record { schema = db.schema; trees = t })) (unplaced packs db.trees none)
-
-placed_same : (packs : Contents) (db : Database) → (filled packs db).trees 34 ≡ [] → db.trees 34 ≡ []
+-- with the bytes of any packs, if nothing is placed
+pub unplaced_same : (packs : Contents) (db : Database) → db.trees 34 ≡ [] → filled packs db ≡ db
 unfolding filled_trees
-placed_same packs db none = none
+unplaced_same packs db none =
+    let put : List Row → List Row = λ rows. map (filled_row (below (packs_in db.trees) packs) (typed place_form rows)) (db.trees 10) in
+    ap (λ (t : Trees). record { schema = db.schema; trees = t }) (ap (with_tree db.trees 10) (ap put none ∙ map-id (db.trees 10)) ∙ put_back db.trees 10)
 
--- it is a host's with the bytes of packs exactly if it is one without them
-pub same_tables : (packs : Contents) (db : Database) → tables_shown (filled packs db) ≡ tables_shown db
-unfolding tables_shown
-same_tables packs db = elim (cases_Bool (is_host db)) [
-  | inl is ↦ as_it_is packs db (nothing_placed db is)
-  | inr none ↦ elim (cases_Bool (is_host (filled packs db))) [
-    | inl is ↦ as_it_is packs db (placed_same packs db (nothing_placed (filled packs db) is))
-    | inr neither ↦ ap (λ b. cond b (tables_in (filled packs db)) no_rows) neither ∙ sym (ap (λ b. cond b (tables_in db) no_rows) none)
-  ]
-]
+no_block : IsBlock [] → ⊥
+no_block is = absurd (cc)
 
-module _ (a : Backing) (s : State) where
-  pub seen_bare : (l : HostLimits) → seen_in l (shown a s) ≡ seen_in l s
-  unfolding seen_in standing
-  seen_bare l = λ i. record { now = same_tables (named a s.in_transaction) s.now i; kept = same_tables a.kept s.committed i; inside = s.in_transaction; limits = l }
+module _ (packs : Contents) (none : (pack offset size : ℕ) → packs pack offset size ≡ None) (places : List PlaceRow) where
+  same_row : (place : Option PlaceRow) (r : Row) → IsBlock (put_in packs place r) → put_in packs place r ≡ r
+  same_row None r is = refl
+  same_row (Some p) r is = absurd (no_block (subst (λ o. IsBlock (put_bytes o r)) (none p.pack p.offset p.size) is))
 
-  -- so a crash leaves the same tables
-  pub left_bare : (x : Tables) → left_in (shown a s) x → left_in s x
+  same_rows : (rows : List Row) → AllByRecursion IsBlock (map (filled_row packs places) rows) → map (filled_row packs places) rows ≡ rows
+  same_rows [] all = refl
+  same_rows (r ∷ rows) all = ap₂ ◌∷◌ (same_row (place_at places (block_name (block_of r))) r all.0) (same_rows rows all.1)
+
+below_nothing : (rows : List PackRow) (pack offset size : ℕ) → below rows nothing pack offset size ≡ None
+unfolding below
+below_nothing rows pack offset size = go (is_reached rows pack (offset + size))
+  where
+    go : (t : Bool) → cond t (sized size None) None ≡ None
+    go true = refl
+    go false = refl
+
+-- with the bytes of no packs, if it is a host's then
+pub host_same : {sums : Totals} (db : Database) → IsHostBy sums (filled nothing db) → filled nothing db ≡ db
+unfolding filled_trees
+host_same db host =
+    let rows : map (filled_row (below (packs_in db.trees) nothing) (places_in db.trees)) (db.trees 10) ≡ db.trees 10 = same_rows (below (packs_in db.trees) nothing) (below_nothing (packs_in db.trees)) (places_in db.trees) (db.trees 10) host.held.blocks.each in
+    ap (λ (t : Trees). record { schema = db.schema; trees = t }) (ap (with_tree db.trees 10) rows ∙ put_back db.trees 10)
+
+-- ---- so is what stands
+
+module _ (x : Standing) where
+  -- if nothing is placed
+  pub unplaced_bare : x.now.trees 34 ≡ [] → x.kept.trees 34 ≡ [] → IsBare x
+  unplaced_bare now kept = record { now = unplaced_same nothing x.now now; kept = unplaced_same nothing x.kept kept }
+
+  -- once a transaction was rolled back, too
+  pub back_bare : IsBare x → IsBare (taken_back x)
+  back_bare bare = record { now = bare.kept; kept = bare.kept }
+
+now_filled : (inside : Bool) (db : Database) → filled (named no_packs inside) db ≡ filled nothing db
+now_filled true db = refl
+now_filled false db = refl
+
+module _ (s : State) where
+  -- if both databases are a host's without packs
+  pub host_bare : IsHost (standing (shown no_packs s)).now → IsHost (standing (shown no_packs s)).kept → IsBare (standing s)
+  unfolding standing
+  host_bare now kept = record { now = host_same s.now (subst IsHost (now_filled s.in_transaction s.now) now); kept = host_same s.committed kept }
+
+  -- the committed database alone
+  pub kept_bare : IsHost (standing (shown no_packs s)).kept → (standing (shown no_packs s)).kept ≡ (standing s).kept
+  unfolding standing
+  kept_bare host = host_same s.committed host
+
+  -- as they are once it is at rest
+  pub rest_bare : {digest : Octets → Octets} (l : HostLimits) → IsAtRest (IsSoundHost digest) (seen_in l (shown no_packs s)) → IsBare (standing s)
+  unfolding seen_in
+  rest_bare {digest} l rest = host_bare (sound_host (standing (shown no_packs s)).now rest.sound.sound)
+      (sound_host (standing (shown no_packs s)).kept (subst (IsSoundHost digest) (sym rest.committed) rest.sound).sound)
+
+  pub stands_bare : IsBare (standing s) → standing (shown no_packs s) ≡ standing s
+  unfolding standing
+  stands_bare bare =
+      let now = now_filled s.in_transaction s.now ∙ bare.now in
+      let kept = bare.kept in
+      λ i. record { now = now i; kept = kept i; inside = s.in_transaction; limit = s.step_limit }
+
+  pub seen_bare : IsBare (standing s) → (l : HostLimits) → seen_in l (shown no_packs s) ≡ seen_in l s
+  unfolding seen_in
+  seen_bare bare l = ap (storage.shown l) (stands_bare bare)
+
+  -- ---- and what a crash leaves
+
+  pub left_bare : (db : Database) → Leaves s db.trees → Lists (db.trees catalog_tree) db.schema → left_in (shown no_packs s) (tables_shown (filled nothing db))
   unfolding left_in Leaves filled_trees
-  left_bare x it =
-      let trees = it.1.0 in
-      let packs = it.1.1 in
-      let bare : Database = record { schema = it.0.schema; trees = trees } in
-      let is : it.0.trees ≡ filled_trees packs trees = it.1.4 in
-      (bare, it.1.2, subst (λ (t : Trees). Lists (t catalog_tree) it.0.schema) is it.2, it.3 ∙ ap (λ (t : Trees). tables_shown (record { schema = it.0.schema; trees = t })) is ∙ same_tables packs bare)
+  left_bare db may lists = (filled nothing db, (db.trees, nothing, may, (λ pack offset size bytes has. has), refl), lists, refl)
 
-  pub left_shown : (x : Tables) → left_in s x → left_in (shown a s) x
-  unfolding left_in Leaves filled_trees
-  left_shown x it = (filled a.stood it.0, (it.0.trees, a.stood, it.1, (λ _ _ _ _ has. has), refl), it.2, it.3 ∙ sym (same_tables a.stood it.0))
+  -- what is said of all that a crash may leave without packs, if it says that there is a host
+  pub left_alone : (P : Tables → Type 0) → ((db : Database) → P (tables_shown db) → IsHost db) → ((x : Tables) → left_in (shown no_packs s) x → P x) → (x : Tables) → left_in s x → P x
+  unfolding left_in
+  left_alone P hosts all x (db, may, lists, is) =
+      let it : P (tables_shown (filled nothing db)) = all (tables_shown (filled nothing db)) (left_bare db may lists) in
+      subst P (ap tables_shown (host_same db (hosts (filled nothing db) it)) ∙ sym is) it

@@ -1,2 +1,2 @@
-//! What a connection with packs shows, where nothing is placed in them: what its database shows alone. Lemmas, without code.
+//! What a database shows beside which there are no packs. Specs and lemmas, without code.
 #![tactic(auto)]

@@ -11,43 +11,43 @@ use Rattle.bh_base.specs.Placed.{filled_trees}
 use Rattle.bh_base.proofs.Statements.{IsApart}
 
 pub host_apart : IsApart 0
-host_apart = record { blocks = λ is. absurd (cc); places = λ is. absurd (cc) }
+host_apart = record { blocks = λ is. absurd (cc); places = λ is. absurd (cc); packs = λ is. absurd (cc) }
 
 pub tenants_apart : IsApart 1
-tenants_apart = record { blocks = λ is. absurd (cc); places = λ is. absurd (cc) }
+tenants_apart = record { blocks = λ is. absurd (cc); places = λ is. absurd (cc); packs = λ is. absurd (cc) }
 
 pub keys_apart : IsApart 3
-keys_apart = record { blocks = λ is. absurd (cc); places = λ is. absurd (cc) }
+keys_apart = record { blocks = λ is. absurd (cc); places = λ is. absurd (cc); packs = λ is. absurd (cc) }
 
 pub buckets_apart : IsApart 5
-buckets_apart = record { blocks = λ is. absurd (cc); places = λ is. absurd (cc) }
+buckets_apart = record { blocks = λ is. absurd (cc); places = λ is. absurd (cc); packs = λ is. absurd (cc) }
 
 pub versions_apart : IsApart 7
-versions_apart = record { blocks = λ is. absurd (cc); places = λ is. absurd (cc) }
+versions_apart = record { blocks = λ is. absurd (cc); places = λ is. absurd (cc); packs = λ is. absurd (cc) }
 
 pub refs_apart : IsApart 12
-refs_apart = record { blocks = λ is. absurd (cc); places = λ is. absurd (cc) }
+refs_apart = record { blocks = λ is. absurd (cc); places = λ is. absurd (cc); packs = λ is. absurd (cc) }
 
 pub uploads_apart : IsApart 16
-uploads_apart = record { blocks = λ is. absurd (cc); places = λ is. absurd (cc) }
+uploads_apart = record { blocks = λ is. absurd (cc); places = λ is. absurd (cc); packs = λ is. absurd (cc) }
 
 pub parts_apart : IsApart 18
-parts_apart = record { blocks = λ is. absurd (cc); places = λ is. absurd (cc) }
+parts_apart = record { blocks = λ is. absurd (cc); places = λ is. absurd (cc); packs = λ is. absurd (cc) }
 
 pub uses_apart : IsApart 23
-uses_apart = record { blocks = λ is. absurd (cc); places = λ is. absurd (cc) }
+uses_apart = record { blocks = λ is. absurd (cc); places = λ is. absurd (cc); packs = λ is. absurd (cc) }
 
 pub locks_apart : IsApart 26
-locks_apart = record { blocks = λ is. absurd (cc); places = λ is. absurd (cc) }
+locks_apart = record { blocks = λ is. absurd (cc); places = λ is. absurd (cc); packs = λ is. absurd (cc) }
 
 pub retains_apart : IsApart 28
-retains_apart = record { blocks = λ is. absurd (cc); places = λ is. absurd (cc) }
+retains_apart = record { blocks = λ is. absurd (cc); places = λ is. absurd (cc); packs = λ is. absurd (cc) }
 
 pub tallies_apart : IsApart 30
-tallies_apart = record { blocks = λ is. absurd (cc); places = λ is. absurd (cc) }
+tallies_apart = record { blocks = λ is. absurd (cc); places = λ is. absurd (cc); packs = λ is. absurd (cc) }
 
 pub garbage_apart : IsApart 44
-garbage_apart = record { blocks = λ is. absurd (cc); places = λ is. absurd (cc) }
+garbage_apart = record { blocks = λ is. absurd (cc); places = λ is. absurd (cc); packs = λ is. absurd (cc) }
 
 -- ---- what may be added
 

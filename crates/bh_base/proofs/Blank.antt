@@ -9,12 +9,10 @@ use Rattle.sqlite.specs.State.{State}
 use Rattle.sqlite.specs.Table.{Table}
 use Rattle.sqlite.specs.Tree.{Trees}
 use Rattle.sqlite.specs.declared.error.Error.{Error}
-use Rattle.bh_rows.specs.Form.{typed}
 use Rattle.bh_rows.specs.Means.{IsBlank, Grows}
-use Rattle.bh_tables.specs.Bodies.{block_name}
-use Rattle.bh_tables.specs.Rows.{block_of}
+use Rattle.bh_tables.specs.Packs.{places_in, packs_in}
 use Rattle.bh_shelf.specs.Contents.{Contents}
-use Rattle.bh_base.specs.Placed.{place_at, put_in, places_in, filled_trees}
+use Rattle.bh_base.specs.Placed.{below, filled_row, filled_trees}
 use Rattle.bh_base.specs.Shown.{Backing, named, shown}
 use Rattle.bh_base.proofs.Endings.{disk_clean}
 use Rattle.bh_base.proofs.Lifting.{doubtless}
@@ -28,14 +26,14 @@ module _ (packs : Contents) (trees : Trees) where
   empty_bare : (t : ℕ) → filled_trees packs trees t ≡ [] → trees t ≡ []
   unfolding filled_trees
   empty_bare t is = elim (cases_eq t 10) [
-    | inl here ↦ ap trees here ∙ unmapped (λ row. put_in packs (place_at (places_in trees) (block_name (block_of row))) row) (trees 10) (ap (filled_trees packs trees) (sym here) ∙ is)
+    | inl here ↦ ap trees here ∙ unmapped (filled_row (below (packs_in trees) packs) (places_in trees)) (trees 10) (ap (filled_trees packs trees) (sym here) ∙ is)
     | inr other ↦ sym (outside packs trees t other) ∙ is
   ]
 
   empty_shown : (t : ℕ) → trees t ≡ [] → filled_trees packs trees t ≡ []
   unfolding filled_trees
   empty_shown t is = elim (cases_eq t 10) [
-    | inl here ↦ ap (filled_trees packs trees) here ∙ ap (λ (l : List Row). map (λ row. put_in packs (place_at (places_in trees) (block_name (block_of row))) row) l) (ap trees (sym here) ∙ is)
+    | inl here ↦ ap (filled_trees packs trees) here ∙ ap (λ (l : List Row). map (filled_row (below (packs_in trees) packs) (places_in trees)) l) (ap trees (sym here) ∙ is)
     | inr other ↦ outside packs trees t other ∙ is
   ]
 

@@ -32,7 +32,7 @@ use Rattle.bh_shelf.specs.Contents.{Contents}
 use Rattle.bh_base.specs.Placed.{filled_trees}
 use Rattle.bh_base.specs.Shown.{Backing, named, shown}
 use Rattle.bh_rows.proofs.CallLemmas.{clean_before}
-use Rattle.bh_base.specs.Layer.{Standing, standing, IsIntact, IsOpen, IsStateClean, Leaves, IsInside, IsInsideBy, IsMidst, Holds, HoldsBy, KeepsDisk, LeavesNothingNew, IsStandingSettled, IsReadable, StateWithin, Unwinds}
+use Rattle.bh_base.specs.Layer.{Standing, standing, IsIntact, IsOpen, IsStateClean, Leaves, IsInside, IsInsideBy, IsMidst, Holds, HoldsBy, KeepsDisk, LeavesNothingNew, IsStandingSettled, IsReadable, IsReadableBy, StateWithin, Unwinds}
 use Rattle.bh_base.proofs.TurnLemmas.{follows, unwinds}
 
 pub ready : (old : State) → (IsStateClean old → IsInside (standing old)) → IsReady old
@@ -42,6 +42,13 @@ ready old inside clean up = (inside (record { intact = clean; is_open = up })).h
 -- a host's database in a transaction can be read
 pub reads_inside : (x : Standing) → IsInside x → IsReadable x
 reads_inside x inside = record { settled = inl inside.inside; host = inside.host }
+
+-- so can one in the midst of a write
+pub reads_by : (x : Standing) → IsReadable x → IsReadableBy x
+reads_by x reads = record { settled = reads.settled; sums = totals_of (tables_in x.now); host = reads.host }
+
+pub midst_by : (x : Standing) → IsMidst x → IsReadableBy x
+midst_by x midst = record { settled = inl midst.by.inside; sums = midst.sums; host = midst.by.host }
 
 pub readable : (old : State) → (IsStateClean old → IsReadable (standing old)) → IsReady old
 unfolding standing IsIntact IsOpen

@@ -1,6 +1,9 @@
 -- What a call does to a database, it does to that with the bytes of packs.
-use Rattle.std.proofs.Common.{◌≡◌, inl, inr, ◌⊎◌, Bool, true, false, ◌&&◌, IsTrue, Result, Ok, Err, OnErr, refl, sym, ap, ap₂, ◌∙◌, true≢false}
-use Rattle.std.proofs.lemmas.Bool.{cases_Bool}
+use Rattle.std.proofs.Common.{◌≡◌, ◌≢◌, ◌==◌, ℕ, cond, if◌then◌else◌, inl, inr, ◌⊎◌, Bool, true, false, ◌&&◌, IsTrue, Result, Ok, Err, OnErr, refl, sym, ap, ap₂, ◌∙◌, true≢false, subst}
+use Rattle.std.proofs.lemmas.Bool.{cases_Bool, cases_eq, eq-eqb, ne_eqb}
+use Rattle.sqlite_rules.specs.Lists.{Has}
+use Rattle.bh_tables.specs.Rows.{PlaceRow}
+use Rattle.bh_tables.specs.Packs.{places_in}
 use Rattle.sqlite.specs.Effect.{IsDatabase}
 use Rattle.sqlite.specs.Tree.{Trees}
 use Rattle.sqlite.specs.State.{State}
@@ -8,10 +11,10 @@ use Rattle.sqlite_trees.specs.View.{doubt}
 use Rattle.sqlite_trees.specs.Objects.{catalog_tree}
 use Rattle.sqlite_catalog.specs.Listing.{Lists}
 use Rattle.bh_base.specs.Layer.{Standing, standing, IsIntact, IsOpen, IsStateClean, Leaves, begun, committed, taken_back, KeepsDisk, LeavesNothingNew, IsStandingSettled, StateWithin, Unwinds}
-use Rattle.bh_shelf.specs.Contents.{Contents, Within}
+use Rattle.bh_shelf.specs.Contents.{Contents, Within, AreSameBut}
 use Rattle.bh_base.specs.Placed.{filled, filled_trees, IsWhole}
 use Rattle.bh_base.specs.Shown.{Backing, named, shown}
-use Rattle.bh_base.proofs.Placing.{within_then, same_trees}
+use Rattle.bh_base.proofs.Placing.{within_then, same_trees, same_filled, trees_without, gone_filled}
 
 -- ---- intact and clean
 
@@ -164,6 +167,24 @@ shown_again a b s seen kept = λ i. record {
   limit = s.step_limit;
 }
 
+-- all that rows may name is seen
+pub named_seen : (a : Backing) → Within a.kept a.seen → (inside : Bool) → Within (named a inside) a.seen
+named_seen a within true pack offset size bytes has = has
+named_seen a within false pack offset size bytes has = within pack offset size bytes has
+
+-- within a transaction they may name all of it
+pub named_inside : (a b : Backing) (s : State) → (standing (shown a s)).inside ≡ true → named b s.in_transaction ≡ b.seen
+unfolding standing
+named_inside a b s inside = ap (named b) inside
+
+-- packs that have more, within a transaction of which each place has its bytes
+pub shown_more : (a b : Backing) (s : State) → Within a.seen b.seen → b.kept ≡ a.kept → (standing (shown a s)).inside ≡ true → IsWhole (standing (shown a s)).now → standing (shown b s) ≡ standing (shown a s)
+unfolding standing
+shown_more a b s grows kept inside whole =
+    let now : filled (named b s.in_transaction) s.now ≡ filled (named a s.in_transaction) s.now =
+    ap (λ i. filled (named b i) s.now) inside ∙ sym (same_filled a.seen b.seen grows s.now (subst (λ i. IsWhole (filled (named a i) s.now)) inside whole)) ∙ ap (λ i. filled (named a i) s.now) (sym inside) in
+    λ i. record { now = now i; kept = filled (kept i) s.committed; inside = s.in_transaction; limit = s.step_limit }
+
 -- a call of packs alone
 pub alone_within : (s : State) → (IsOpen s → IsStandingSettled (standing s)) → StateWithin s s
 alone_within s settled = record {
@@ -172,6 +193,18 @@ alone_within s settled = record {
   settled = λ c. settled c.is_open;
   survives = λ up intact db h. h;
 }
+
+-- a call of packs alone, after which as much stands as before and rows may name as much that was committed
+pub packs_within : (a b : Backing) (s : State) → (IsTrue b.is_clean → IsTrue a.is_clean) → (IsTrue b.is_clean → Within a.stood b.stood) → (IsTrue b.is_clean → b.kept ≡ a.kept) → (IsStateClean (shown a s) → (standing (shown a s)).inside ≡ true) → StateWithin (shown a s) (shown b s)
+unfolding standing
+packs_within a b s was grows kept inside =
+    let follows = shown_follows a b s s was (record { clean = λ c. c; intact = λ h. h; limit = refl }) in
+    record {
+      follows = follows;
+      kept = λ c. ap (λ k. filled k s.committed) (kept (shown_clean b s c).1);
+      settled = λ c. inl (inside (follows.clean c));
+      survives = λ up. shown_leaves a b s s was grows (λ intact db h. h);
+    }
 
 -- the trees list the schema
 pub lists_shown : (a : Backing) (s : State) → IsDatabase (standing s).now → Lists ((standing (shown a s)).now.trees catalog_tree) (standing (shown a s)).now.schema
@@ -187,7 +220,7 @@ commit_leaves_shown a b old new stands grows inside whole each db it =
     let c = it.1 in
     let named_is : named a old.in_transaction ≡ a.seen = ap (named a) inside in
     let has : Within a.seen c = within_then a.seen a.stood c stands (within_then a.stood b.stood c grows it.3) in
-    let all : filled_trees a.seen old.now.trees ≡ filled_trees c old.now.trees = same_trees a.seen c has old.now.trees (rw named_is at whole) in
+    let all : filled_trees a.seen old.now.trees ≡ filled_trees c old.now.trees = same_trees a.seen c old.now.trees (rw named_is at whole) has in
     elim (each left it.2) [
       | inl before ↦ inl (left, c, before, within_then a.stood b.stood c grows it.3, it.4)
       | inr now ↦ inr (it.4 ∙ ap (filled_trees c) now ∙ sym all ∙ ap (λ (n : Contents). filled_trees n old.now.trees) (sym named_is))
@@ -198,4 +231,42 @@ pub leaves_kept : (a : Backing) (s : State) → Within a.kept a.stood → ((left
     → (db : Trees) → Leaves (shown a s) db → db ≡ (standing (shown a s)).kept.trees
 unfolding standing Leaves
 leaves_kept a s stands only whole db it =
-    it.4 ∙ ap (filled_trees it.1) (only it.0 it.2) ∙ sym (same_trees a.kept it.1 (within_then a.kept a.stood it.1 stands it.3) s.committed.trees whole)
+    it.4 ∙ ap (filled_trees it.1) (only it.0 it.2) ∙ sym (same_trees a.kept it.1 s.committed.trees whole (within_then a.kept a.stood it.1 stands it.3))
+
+-- ---- a pack is removed
+
+-- contents with those of one pack from others
+abbrev with_pack : ℕ → Contents → Contents → Contents
+with_pack pack from to n offset size = if n == pack then from n offset size else to n offset size
+
+with_here : (pack : ℕ) (from to : Contents) (n offset size : ℕ) → n ≡ pack → with_pack pack from to n offset size ≡ from n offset size
+with_here pack from to n offset size is = ap (λ t. cond t (from n offset size) (to n offset size)) (eq-eqb n pack is)
+
+with_other : (pack : ℕ) (from to : Contents) (n offset size : ℕ) → n ≢ pack → with_pack pack from to n offset size ≡ to n offset size
+with_other pack from to n offset size other = ap (λ t. cond t (from n offset size) (to n offset size)) (ne_eqb n pack other)
+
+-- where no place of what a crash may leave names it, that leaves nothing new
+pub shown_without : (pack : ℕ) (a b : Backing) (s : State) → (IsTrue b.is_clean → IsTrue a.is_clean) → (IsTrue b.is_clean → AreSameBut pack b.stood a.stood)
+    → ((left : Trees) → s.may_leave left → (p : PlaceRow) → Has (places_in left) p → p.pack ≢ pack) → LeavesNothingNew (shown a s) (shown b s)
+unfolding Leaves
+shown_without pack a b s was same none h db it =
+    let clean = (shown_intact b s h).1 in
+    let left = it.0 in
+    let c = it.1 in
+    let d = with_pack pack a.stood c in
+    let within : Within a.stood d = λ n offset size bytes has. elim (cases_eq n pack) [
+      | inl is ↦ with_here pack a.stood c n offset size is ∙ has
+      | inr other ↦ with_other pack a.stood c n offset size other ∙ it.3 n offset size bytes (same clean n other offset size ∙ has)
+    ] in
+    let alike : filled_trees c left ≡ filled_trees d left = trees_without pack c d left (λ n other offset size. sym (with_other pack a.stood c n offset size other)) (none left it.2) in
+    (left, d, it.2, within, it.4 ∙ alike)
+
+-- and rows that name nothing in it show what they showed
+pub shown_gone : (pack : ℕ) (a b : Backing) (s : State) → AreSameBut pack b.seen a.seen → AreSameBut pack b.kept a.kept → ((p : PlaceRow) → Has (places_in s.now.trees) p → p.pack ≢ pack)
+    → ((p : PlaceRow) → Has (places_in s.committed.trees) p → p.pack ≢ pack) → standing (shown b s) ≡ standing (shown a s)
+unfolding standing
+shown_gone pack a b s seen kept now committed =
+    let names : AreSameBut pack (named b s.in_transaction) (named a s.in_transaction) = elim s.in_transaction as (λ i. AreSameBut pack (named b i) (named a i)) [ true ↦ seen | false ↦ kept ] in
+    let one = gone_filled pack (named b s.in_transaction) (named a s.in_transaction) s.now names now in
+    let two = gone_filled pack b.kept a.kept s.committed kept committed in
+    λ i. record { now = one i; kept = two i; inside = s.in_transaction; limit = s.step_limit }

@@ -1,5 +1,5 @@
 -- What a text over one table does to all of a host's tables, with the bytes of packs: for each table but that of blocks and that of places.
-use Rattle.std.proofs.Common.{◌≡◌, ◌≢◌, inl, inr, ℕ, List, [], ◌∷◌, ◌++◌, map, filter, Bool, true, cond, Ok, Err, Result, OnOk, IfOk, IfErr, IsTrue, Ordering, ◌⊎◌, ◌≤◌, ◌^◌, pos, take, length, sum_by, refl, sym, ap, ap₂, ◌∙◌, subst}
+use Rattle.std.proofs.Common.{◌≡◌, ◌≢◌, inl, inr, ℕ, List, [], ◌∷◌, ◌++◌, map, filter, Bool, true, cond, Ok, Err, Result, OnOk, IfOk, IfErr, IsTrue, Ordering, ◌⊎◌, ◌≤◌, ◌^◌, pos, take, length, sum_by, refl, sym, ap, ◌∙◌, subst}
 use Rattle.std.proofs.lemmas.Bool.{cases_eq, ne_eqb}
 use Rattle.std.specs.List.{AllByRecursion}
 use Rattle.sqlite.specs.Order.{Row}
@@ -21,14 +21,14 @@ use Rattle.bh_rows.proofs.CallLemmas.{clean_before}
 use Rattle.bh_rows.proofs.TotalLemmas.{summed_fails}
 use Rattle.bh_rows.proofs.TextLemmas as text
 use Rattle.bh_tables.specs.Schema.{host_schema}
-use Rattle.bh_tables.specs.Bodies.{block_name}
-use Rattle.bh_tables.specs.Rows.{block_of}
+use Rattle.bh_tables.specs.Rows.{place_form, pack_form}
+use Rattle.bh_tables.specs.Packs.{places_in, packs_in}
 use Rattle.bh_tables.specs.Typed.{Totals, IsHostBy, IsReadyBy, tables}
 use Rattle.bh_tables.proofs.Places.{Place, Goes, orderly, turned}
 use Rattle.bh_tables.proofs.Statements.{Writes, Shows as Tells, Sums, told_as, sum_ends, if_narrow}
 use Rattle.bh_tables.proofs.Terms.{one_row, two_rows}
 use Rattle.bh_shelf.specs.Contents.{Contents}
-use Rattle.bh_base.specs.Placed.{place_form, place_at, put_in, places_in, filled_trees, filled}
+use Rattle.bh_base.specs.Placed.{below, filled_row, filled_trees, filled}
 use Rattle.bh_base.specs.Shown.{Backing, named, shown}
 use Rattle.bh_base.proofs.Lifting.{doubtless}
 use Rattle.bh_base.proofs.Stored.{stored_host}
@@ -40,17 +40,17 @@ module _ (packs : Contents) where
   -- but that of blocks, they are as they are
   pub outside : (trees : Trees) (t : ℕ) → t ≢ 10 → filled_trees packs trees t ≡ trees t
   unfolding filled_trees
-  outside trees t other = ap (λ b. cond b (map (λ row. put_in packs (place_at (places_in trees) (block_name (block_of row))) row) (trees 10)) (trees t)) (ne_eqb t 10 other)
+  outside trees t other = ap (λ b. cond b (map (filled_row (below (packs_in trees) packs) (places_in trees)) (trees 10)) (trees t)) (ne_eqb t 10 other)
 
-  -- where blocks and places are the same, so are blocks with their bytes
-  blocks_same : (old new : Trees) → new 10 ≡ old 10 → new 34 ≡ old 34 → filled_trees packs new 10 ≡ filled_trees packs old 10
+  -- where blocks, places and packs are the same, so are blocks with their bytes
+  blocks_same : (old new : Trees) → new 10 ≡ old 10 → new 34 ≡ old 34 → new 32 ≡ old 32 → filled_trees packs new 10 ≡ filled_trees packs old 10
   unfolding filled_trees
-  blocks_same old new blocks places = ap₂ (λ (l : List Row) (q : List Row). map (λ row. put_in packs (place_at (typed place_form q) (block_name (block_of row))) row) l) blocks places
+  blocks_same old new blocks places lengths = λ i. map (filled_row (below (typed pack_form (lengths i)) packs) (typed place_form (places i))) (blocks i)
 
-  module _ (tree : ℕ) (old new : Trees) (blocks : new 10 ≡ old 10) (places : new 34 ≡ old 34) where
+  module _ (tree : ℕ) (old new : Trees) (blocks : new 10 ≡ old 10) (places : new 34 ≡ old 34) (lengths : new 32 ≡ old 32) where
     same_at : (t : ℕ) → (t ≢ tree → new t ≡ old t) → t ≢ tree → filled_trees packs new t ≡ filled_trees packs old t
     same_at t same other = elim (cases_eq t 10) [
-      | inl is ↦ ap (filled_trees packs new) is ∙ blocks_same old new blocks places ∙ ap (filled_trees packs old) (sym is)
+      | inl is ↦ ap (filled_trees packs new) is ∙ blocks_same old new blocks places lengths ∙ ap (filled_trees packs old) (sym is)
       | inr others ↦ outside new t others ∙ same other ∙ sym (outside old t others)
     ]
 
@@ -60,10 +60,11 @@ module _ (packs : Contents) where
 
 -- ---- a table of which packs have nothing
 
--- it is neither that of blocks nor that of places
+-- it is neither that of blocks nor that of places or of packs
 pub record IsApart (tree : ℕ) : Type 0 where
   pub blocks : 10 ≢ tree
   pub places : 34 ≢ tree
+  pub packs : 32 ≢ tree
 
 module _ (tree : ℕ) (apart : IsApart tree) where
   pub here : (packs : Contents) (trees : Trees) → filled_trees packs trees tree ≡ trees tree
@@ -76,10 +77,11 @@ module _ (tree : ℕ) (apart : IsApart tree) where
       let packs = named a old.in_transaction in
       let blocks : l.next 10 ≡ old.now.trees 10 = l.others.1.1.1.1.1.0 apart.blocks in
       let places : l.next 34 ≡ old.now.trees 34 = l.others.1.1.1.1.1.1.1.1.1.1.1.1.1.1.0 apart.places in
+      let lengths : l.next 32 ≡ old.now.trees 32 = l.others.1.1.1.1.1.1.1.1.1.1.1.1.1.0 apart.packs in
       record {
         next = filled_trees packs l.next;
         now = ap (λ b. filled (named a b) new.now) still ∙ ap (filled packs) l.now;
-        others = others_same packs tree old.now.trees l.next blocks places host_schema.tables l.others;
+        others = others_same packs tree old.now.trees l.next blocks places lengths host_schema.tables l.others;
         held = subst (AreRows form) (sym (here packs l.next)) l.held;
         rows = ap (typed form) (here packs l.next) ∙ l.rows;
       }

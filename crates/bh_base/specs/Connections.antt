@@ -1,5 +1,5 @@
 -- A connection to a host, in the layer's terms: the state of its database with the bytes of its packs, and a call's effect on it.
-use Rattle.std.specs.Prelude.{◌≡◌, ℕ, true, None, IsTrue}
+use Rattle.std.specs.Prelude.{◌≡◌, ℕ, true, List, Some, None, IsTrue}
 use Rattle.sqlite.specs.Held.{state as database_state}
 use Rattle.sqlite.specs.State.{State}
 use Rattle.sqlite.specs.declared.error.Error.{Error}
@@ -7,11 +7,16 @@ use Rattle.sqlite_trees.specs.declared.store.Store.{Ghosts}
 use Rattle.bh_shelf.specs.declared.shelf.Shelf.{Ghosts as Shelves}
 use Rattle.bh_base.specs.declared.connection.Connection.{Connection}
 use Rattle.bh_shelf.specs.declared.no_shelf.NoShelf.{NoShelf}
-use Rattle.bh_shelf.specs.Contents.{Within, nothing, HasNothing}
-use Rattle.bh_base.specs.Shown.{Backing, shown}
+use Rattle.bh_packs.specs.declared.place.Place.{Place}
+use Rattle.bh_shelf.specs.Contents.{Contents, Within, nothing, HasNothing}
+use Rattle.bh_base.specs.Shown.{Backing, named, shown}
+use Rattle.bh_rows.specs.Form.{typed}
 use Rattle.bh_rows.specs.Means.{is_trouble}
+use Rattle.bh_tables.specs.Schema.{Octets}
+use Rattle.bh_tables.specs.Rows.{BlockRow, block_form, PlaceRow, PackRow}
+use Rattle.bh_tables.specs.Packs.{places_in, packs_in}
 use Rattle.bh_tables.specs.Typed.{Totals, totals_of, IsHost, Tables, tables_in}
-use Rattle.bh_base.specs.Layer.{Standing, standing, IsInside, IsReadable, IsInsideBy, IsMidst, Holds, HoldsBy, StateWithin}
+use Rattle.bh_base.specs.Layer.{Standing, standing, IsInside, IsReadable, IsReadableBy, IsInsideBy, IsMidst, Holds, HoldsBy, StateWithin}
 use Rattle.bh_base.specs.Layer as layer
 
 -- what its packs have
@@ -45,6 +50,24 @@ module _ {S P : Type 0} (g : Ghosts S) (h : Shelves P) where
   abbrev pub tables : Connection S P → Tables
   tables c = tables_in (stands c).now
 
+  -- its rows of places and of packs, and of blocks as they are stored
+  abbrev pub places : Connection S P → List PlaceRow
+  places c = places_in (database_state g c.database).now.trees
+
+  abbrev pub packs : Connection S P → List PackRow
+  packs c = packs_in (database_state g c.database).now.trees
+
+  abbrev pub rows_of_blocks : Connection S P → List BlockRow
+  rows_of_blocks c = typed block_form ((database_state g c.database).now.trees 10)
+
+  -- what its rows may name
+  abbrev pub contents : Connection S P → Contents
+  contents c = named (backing h c.packs) (database_state g c.database).in_transaction
+
+  -- these bytes are at a place
+  abbrev pub HasAt : Connection S P → Place → Octets → Type 0
+  HasAt c place bytes = contents c place.pack place.offset place.size ≡ Some bytes
+
   -- while it is clean, a transaction is open on a host's database
   abbrev pub InTransaction : Connection S P → Type 0
   InTransaction c = IsClean c → IsInside (stands c)
@@ -52,6 +75,10 @@ module _ {S P : Type 0} (g : Ghosts S) (h : Shelves P) where
   -- while it is clean, it has a host's database, in a transaction or as it was committed
   abbrev pub CanRead : Connection S P → Type 0
   CanRead c = IsClean c → IsReadable (stands c)
+
+  -- the same, but for sums over other rows
+  abbrev pub CanReadBy : Connection S P → Type 0
+  CanReadBy c = IsClean c → IsReadableBy (stands c)
 
   -- while it is clean, it has a host's database
   abbrev pub HasHost : Connection S P → Type 0

@@ -3,3 +3,7 @@ pub mod Layer
 pub mod Databases
 pub mod Shown
 pub mod Connections
+pub mod Calls
+pub mod Places
+pub mod Measures
+pub mod Removal

@@ -2,5 +2,7 @@
 #![tactic(auto)]
 
 pub mod connection;
+pub mod places;
+pub mod removal;
 pub mod transactions;
 pub mod trouble;

@@ -1,17 +1,18 @@
 -- From the blocks of a digest to the one that holds some bytes.
-use Rattle.std.proofs.Common.{◌≡◌, inl, inr, pos, ℕ, ◌+◌, Bool, true, false, ◌&&◌, List, [], ◌∷◌, map, filter, find, length, drop, cond, arith, Ordering, Option, Some, None, option_map, refl, sym, ap, ◌∙◌, subst, if◌then◌else◌}
+use Rattle.std.proofs.Common.{◌≡◌, inl, inr, pos, ℕ, zero, suc, ◌+◌, Bool, true, false, ◌&&◌, List, [], ◌∷◌, filter, find, length, drop, cond, arith, Option, Some, None, option_map, refl, sym, ap, ◌∙◌, subst, if◌then◌else◌}
 use Rattle.sqlite_typed.specs.Tests.{bytes_eq}
 use Rattle.bh_tables.specs.Schema.{Octets}
 use Rattle.bh_tables.specs.Typed.{BlockRow}
 use Rattle.bh_tables.specs.Shown.{has_digest, is_block, is_copy, by_ord}
 use Rattle.bh_view.specs.Blocks.{copy_in, free_ord, least}
 use Rattle.std.specs.Cmp.Derive.{both_true}
-use Rattle.std.specs.Ordering.{is_gt, int_eq}
+use Rattle.std.specs.Ordering.{int_eq}
 use Rattle.std.proofs.lemmas.Bool.{and_parts}
 use Rattle.std.proofs.lemmas.Int.{ints}
 use Rattle.sqlite_rules.specs.Lists.{Has}
+use Rattle.sqlite_rules.proofs.ListLemmas.{has_filtered}
 use Rattle.sqlite_typed.proofs.TestLemmas.{same_bytes}
-use Rattle.sqlite_keyed.specs.Lists.{insert_sorted, sort_by}
+use Rattle.sqlite_keyed.specs.Lists.{sort_by}
 use Rattle.bh_blocks.specs.Lookups.{ord_of_copy}
 use Rattle.bh_blocks.specs.Uses.{IsSize}
 
@@ -35,6 +36,18 @@ int_self n = grind (arith, ints)
 
 abbrev pub has_bytes : Octets → BlockRow → Bool
 has_bytes bytes b = bytes_eq b.bytes bytes
+
+has_dropped : {X : Type 0} (xs : List X) (i : ℕ) (x : X) (rest : List X) → drop i xs ≡ x ∷ rest → Has xs x
+has_dropped [] zero x rest is = absurd (cc)
+has_dropped [] (suc i) x rest is = absurd (cc)
+has_dropped (y ∷ xs) zero x rest is = let same : y ≡ x = cc in inl (sym same)
+has_dropped (y ∷ xs) (suc i) x rest is = inr (has_dropped xs i x rest is)
+
+-- a block of a digest, by its ordinal
+pub its_block : (digest : Octets) (blocks : List BlockRow) (b : BlockRow) (i ord : ℕ) → drop i (filter (has_digest digest) blocks) ≡ b ∷ drop (i + 1) (filter (has_digest digest) blocks) → ord ≡ b.ord → Has blocks b × (is_block (digest, ord) b ≡ true)
+its_block digest blocks b i ord left same =
+    let there = has_filtered (has_digest digest) blocks b (has_dropped (filter (has_digest digest) blocks) i b _ left) in
+    (there.0, both_true there.1 (ap (λ n. int_eq (pos b.ord) (pos n)) same ∙ int_self b.ord))
 
 -- it is looked for among those of the digest
 pub copy_among : (digest bytes : Octets) (blocks : List BlockRow) → copy_in digest bytes blocks ≡ find (has_bytes bytes) (filter (has_digest digest) blocks)
@@ -68,27 +81,6 @@ none_copied digest bytes blocks none = copy_found digest bytes blocks None (ap (
 
 pub first_free : (digest : Octets) (blocks : List BlockRow) → filter (has_digest digest) blocks ≡ [] → 0 ≡ free_ord digest blocks
 first_free digest blocks none = sym (ap (λ bs. least 0 (sort_by by_ord bs)) none)
-
--- a list that is empty in order is empty
-some_inserted : {X : Type 0} (cmp : X → X → Ordering) (new : X) (xs : List X) → insert_sorted cmp new xs ≡ [] → ⊥
-some_inserted cmp new [] = λ e. (let z = ap length e in omega (arith, z))
-some_inserted cmp new (x ∷ xs) = elim (is_gt (cmp new x)) as (λ b. cond b (x ∷ insert_sorted cmp new xs) (new ∷ x ∷ xs) ≡ [] → ⊥) [
-  | true ↦ λ e. (let z = ap length e in omega (arith, z))
-  | false ↦ λ e. (let z = ap length e in omega (arith, z))
-]
-
-none_sorted : {X : Type 0} (cmp : X → X → Ordering) (xs : List X) → sort_by cmp xs ≡ [] → xs ≡ []
-none_sorted cmp [] e = refl
-none_sorted cmp (x ∷ xs) e = absurd (some_inserted cmp x (sort_by cmp xs) e)
-
-none_mapped : {X Y : Type 0} (f : X → Y) (xs : List X) → length (map f xs) ≡ 0 → xs ≡ []
-none_mapped f [] e = refl
-none_mapped f (x ∷ xs) e = absurd (omega (arith, e))
-
--- no row is shown of the blocks of a digest: there are none
-pub none_shown : {Y : Type 0} (shown : BlockRow → Y) (digest : Octets) (blocks : List BlockRow) (rows : List Y) → length rows ≡ 0
-    → rows ≡ map shown (sort_by by_ord (filter (has_digest digest) blocks)) → filter (has_digest digest) blocks ≡ []
-none_shown shown digest blocks rows none is = none_sorted by_ord _ (none_mapped shown _ (sym (ap length is) ∙ none))
 
 -- the one block of the name under which some bytes are has these
 pub copy_sized : (digest bytes : Octets) (ord : ℕ) (blocks : List BlockRow) → Some ord ≡ ord_of_copy digest bytes blocks → IsSize (digest, ord) (length bytes) blocks

@@ -10,6 +10,7 @@ pub mod Cached
 pub mod Candidates
 pub mod Keeping
 pub mod Removing
+pub mod RowCalls
 pub mod WindowSteps
 pub mod PlanSteps
 mod Vectors

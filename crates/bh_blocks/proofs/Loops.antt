@@ -2,13 +2,10 @@
 use Rattle.std.proofs.Common.{◌≡◌, ◌≢◌, ℕ, zero, suc, ◌+◌, ◌<◌, ◌≤◌, pos, cond, List, [], ◌∷◌, map, length, get_or, slice_get, Some, drop, refl, sym, ap, ◌∙◌, subst, arith}
 use Rattle.std.specs.List.{All, AllByRecursion}
 use Rattle.sqlite.specs.Order.{Row, column}
-use Rattle.sqlite.specs.declared.types.Value.TheVariants.{Int, Blob}
-use Rattle.sqlite_typed.specs.Columns.{int_of, bytes_of}
-use Rattle.bh_tables.specs.Schema.{Octets}
+use Rattle.sqlite.specs.declared.types.Value.TheVariants.{Int}
+use Rattle.sqlite_typed.specs.Columns.{int_of}
 use Rattle.bh_tables.specs.Typed.{UseRow}
-use Rattle.bh_tables.specs.Shown.{shown_bytes}
 use Rattle.bh_tables.specs.Garbage.{shown_uses}
-use Rattle.bh_blocks.specs.Uses.{size_of}
 use Rattle.std.proofs.lemmas.Bool.{eq-eqb, ne_eqb}
 use Rattle.bh_tables.specs.Typed.{BlockRow}
 use Rattle.bh_view.specs.Blocks.{least}
@@ -59,13 +56,8 @@ only_is [] x is one = absurd (cc)
 only_is (y ∷ []) x is one = let same : y ≡ x = cc in ap (λ z. z ∷ []) same
 only_is (y ∷ z ∷ xs) x is one = absurd (omega (arith, one))
 
--- the one row of counts, and of blocks
+-- the one row of counts
 pub one_use : (us : List UseRow) (row : Row) (n : ℕ) → map shown_uses us ≡ row ∷ [] → column row 0 ≡ Int (pos n) → map (λ (u : UseRow). u.uses) us ≡ pos n ∷ []
 one_use [] row n is told = absurd (cc)
 one_use (u ∷ []) row n is told = let same : shown_uses u ≡ row = cc in ap (λ v. int_of v ∷ []) (ap (λ r. column r 0) same ∙ told)
 one_use (u ∷ v ∷ us) row n is told = absurd (cc)
-
-pub one_size : (bs : List BlockRow) (row : Row) (bytes : Octets) → map shown_bytes bs ≡ row ∷ [] → column row 0 ≡ Blob bytes → map size_of bs ≡ length bytes ∷ []
-one_size [] row bytes is told = absurd (cc)
-one_size (b ∷ []) row bytes is told = let same : shown_bytes b ≡ row = cc in ap (λ v. length (bytes_of v) ∷ []) (ap (λ r. column r 0) same ∙ told)
-one_size (b ∷ c ∷ bs) row bytes is told = absurd (cc)

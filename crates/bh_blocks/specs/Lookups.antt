@@ -1,18 +1,11 @@
 -- What the blocks of a digest imply about some bytes.
 use Rattle.std.specs.Prelude.{◌≡◌, ℕ, ◌<◌, ◌^◌, List, [], filter, Option, Some, None, option_map}
-use Rattle.sqlite_typed.specs.Tests.{bytes_eq}
 use Rattle.bh_tables.specs.Schema.{Octets}
 use Rattle.bh_tables.specs.Typed.{BlockRow}
 use Rattle.bh_tables.specs.Shown.{has_digest}
 use Rattle.bh_view.specs.Blocks.{copy_in}
 use Rattle.bh_blocks.specs.declared.blocks.Lookup.{Lookup}
 use Rattle.bh_blocks.specs.declared.blocks.Lookup.TheVariants.{Held, Clashing, Absent}
-use Rattle.bh_blocks.specs.declared.rows.Candidate.{Candidate}
-
--- a block of a digest, compared with these bytes
-pub record IsCandidate (bytes : Octets) (b : BlockRow) (found : Candidate) : Type 0 where
-  pub ord : found.ord ≡ b.ord
-  pub is_copy : found.is_copy ≡ bytes_eq b.bytes bytes
 
 -- the ordinal of the block with these bytes, if there is one
 abbrev pub ord_of_copy : Octets → Octets → List BlockRow → Option ℕ

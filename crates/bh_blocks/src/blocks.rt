@@ -2,7 +2,7 @@ ghost use Rattle.std.specs.Prelude.{◌≡◌, ◌++◌, ◌∷◌, [], ◌<◌,
 ghost use Rattle.bh_rows.specs.Means.{is_trouble};
 ghost use Rattle.bh_tables.specs.Schema.{Octets};
 ghost use Rattle.bh_tables.specs.Typed.{BlockRow, rebodied};
-ghost use Rattle.bh_tables.specs.Shown.{has_digest, shown_ord, shown_match};
+ghost use Rattle.bh_tables.specs.Shown.{has_digest, shown_ord};
 ghost use Rattle.bh_view.specs.Blocks.{least, free_ord as the_free};
 ghost use Rattle.bh_view.specs.Bodies.{body_stored};
 ghost use Rattle.bh_base.specs.Connections.{IsClean, tables, InTransaction, StaysWithin, WasOpen, StaysOpen, ChangesNothing, Becomes};
@@ -13,7 +13,7 @@ ghost use Rattle.bh_blocks.specs.Lookups.{Tells, IsSmall};
 ghost use Rattle.bh_blocks.specs.Named.{body_at, placed_at};
 
 use crate::refs::{Place, insert_ref, refer};
-use crate::rows::{candidate_rows, in_range, insert_block, ord_rows, read_candidate, read_ord};
+use crate::rows::{blocks_of, has_bytes, in_range, insert_block, ord_rows, read_ord};
 use crate::uses::{UseChange, change_uses};
 use bh_base::connection::Connection;
 use bh_cache::blocks::{BlockCache, BlockName};
@@ -32,17 +32,29 @@ pub enum Lookup {
     Absent,
 }
 
-fn lookup_in(rows: &[Row]) -> Result<Lookup, Error>
-    ensures found { IfOk result (λ lookup. (digest bytes : Octets) (blocks : List BlockRow)
-        → rows.now ≡ map (shown_match bytes) (filter (has_digest digest) blocks) → Tells digest bytes blocks lookup) }
+/// Whether a block has these bytes, given the rows of those with their digest.
+fn find_among<S: Alter, P: Shelf>(
+    connection: &mut Connection<S, P>,
+    digest: &[u8],
+    bytes: &[u8],
+    rows: &[Row],
+) -> Result<Lookup, Error>
+    requires inside { InTransaction S.Store P.Shelf connection.old }
+    requires rows { IsClean S.Store P.Shelf connection.old
+        → rows.now ≡ map shown_ord (filter (has_digest digest.now) (tables S.Store P.Shelf connection.old).blocks) }
+    ensures within { StaysWithin S.Store P.Shelf connection.old connection.new }
+    ensures opens { OnOk result (StaysOpen S.Store P.Shelf connection.old connection.new) }
+    ensures same { OnOk result (ChangesNothing S.Store P.Shelf connection.old connection.new) }
+    ensures found { IfOk result (λ lookup. IsClean S.Store P.Shelf connection.new
+        → Tells digest.now bytes.now (tables S.Store P.Shelf connection.old).blocks lookup) }
     ensures small { IfOk result IsSmall }
-    ensures trouble { IfErr result (λ e. (bytes : Octets) (bs : List BlockRow)
-        → rows.now ≡ map (shown_match bytes) bs → is_trouble e ≡ true) }
+    ensures trouble { IfErr result (IsTrouble S.Store P.Shelf connection.old connection.new) }
 {
     for row in rows {
-        let candidate = read_candidate(row)?;
-        if candidate.is_copy {
-            return Ok(Lookup::Held(candidate.ord));
+        let ord = read_ord(row)?;
+        let is_copy = has_bytes(connection, digest, ord, bytes)?;
+        if is_copy {
+            return Ok(Lookup::Held(ord));
         }
     }
     if rows.is_empty() {
@@ -52,8 +64,7 @@ fn lookup_in(rows: &[Row]) -> Result<Lookup, Error>
     }
 }
 
-/// Whether a block has these bytes, by the rows with their digest. If there is none, the store isn't
-/// given the bytes.
+/// Whether a block has these bytes, by the blocks with their digest.
 fn find_copy<S: Alter, P: Shelf>(
     connection: &mut Connection<S, P>,
     digest: &[u8],
@@ -66,11 +77,8 @@ fn find_copy<S: Alter, P: Shelf>(
     ensures small { IfOk result IsSmall }
     ensures trouble { IfErr result (IsTrouble S.Store P.Shelf connection.old connection.new) }
 {
-    if ord_rows(connection, digest)?.is_empty() {
-        return Ok(Lookup::Absent);
-    }
-    let rows = candidate_rows(connection, digest, bytes)?;
-    lookup_in(&rows)
+    let rows = blocks_of(connection, digest)?;
+    find_among(connection, digest, bytes, &rows)
 }
 
 /// Whether the first block of a digest is cached and has these bytes.

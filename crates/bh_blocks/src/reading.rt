@@ -7,7 +7,7 @@ ghost use Rattle.bh_types.specs.Ranges.{cut};
 ghost use Rattle.bh_tables.specs.Schema.{Octets};
 ghost use Rattle.bh_tables.specs.Typed.{BlockRow, RefRow, Tables};
 ghost use Rattle.bh_tables.specs.Bodies.{block_at, placed};
-ghost use Rattle.bh_tables.specs.Shown.{Name, shown_bytes, shown_ref};
+ghost use Rattle.bh_tables.specs.Shown.{Name, shown_ref};
 ghost use Rattle.bh_view.specs.Blocks.{whole};
 ghost use Rattle.bh_view.specs.Bodies.{HasBodies};
 ghost use Rattle.bh_base.specs.Connections.{IsClean, tables, CanRead, InTransaction, StaysWithin, WasOpen, StaysOpen, ChangesNothing};
@@ -19,12 +19,11 @@ ghost use Rattle.bh_blocks.specs.Windows.{seen_in};
 use crate::drafts::append;
 use crate::groups::next_place;
 use crate::refs::{BlockRef, Place, read_ref, ref_at, ref_rows};
-use crate::rows::bytes_rows;
+use crate::rows::block_bytes;
 use bh_base::connection::Connection;
 use bh_cache::blocks::{BlockCache, BlockName};
 use bh_shelf::shelf::Shelf;
 use bh_types::range::RangePlan;
-use sqlite::types::ValueRef;
 use sqlite::{Alter, Error, ErrorCode, Row};
 use std::alloc::Global;
 
@@ -91,19 +90,16 @@ fn after(window: Window, size: u64) -> Window
     }
 }
 
-/// Caches the block of a reference; its bytes are in a row.
-fn keep_row(cache: &mut BlockCache, alloc: Global, block: &BlockRef, row: &Row)
-    ensures { (b : BlockRow) → row.now ≡ shown_bytes b → (e : Name × Octets) → Contains cache.new.entries e
-        → Contains cache.old.entries e ⊎ (e ≡ (named_by block.now, b.bytes)) }
+/// Caches the block of a reference, which has these bytes.
+fn keep_bytes(cache: &mut BlockCache, alloc: Global, block: &BlockRef, bytes: &[u8])
+    ensures { (e : Name × Octets) → Contains cache.new.entries e
+        → Contains cache.old.entries e ⊎ (e ≡ (named_by block.now, bytes.now)) }
 {
     // Without a cache nothing is copied.
     if cache.tuning().cache_blocks == 0 {
         return;
     }
-    let Some(name) = BlockName::new(&block.digest, block.ord) else {
-        return;
-    };
-    if let Ok(ValueRef::Blob(bytes)) = row.get_ref(0) {
+    if let Some(name) = BlockName::new(&block.digest, block.ord) {
         cache.keep(alloc, name, bytes);
     }
 }
@@ -132,7 +128,7 @@ fn kept_part(
     Ok(Some(bytes))
 }
 
-/// The part of a block in a window. If the block is cached, no row is read; otherwise it is cached.
+/// The part of a block in a window. If the block is cached, nothing is read; otherwise it is cached.
 /// The window must have some of its bytes.
 fn read_part<S: Alter, P: Shelf>(
     connection: &mut Connection<S, P>,
@@ -157,26 +153,9 @@ fn read_part<S: Alter, P: Shelf>(
     if let Some(bytes) = kept_part(cache, alloc, block, window)? {
         return Ok(bytes);
     }
-    let rows = bytes_rows(connection, &block.digest, block.ord)?;
-    match rows.first() {
-        None => Err(Error::SqliteFailure(ErrorCode::DatabaseCorrupt)),
-        Some(row) => {
-            keep_row(cache, alloc, block, row);
-            shown_part(alloc, row, window)
-        }
-    }
-}
-
-/// The part of a row's bytes in a window. The window must have some of them.
-fn shown_part(alloc: Global, row: &Row, window: Window) -> Result<Vec<u8>, Error>
-    ensures some { IfOk result (λ bytes. 0 < length bytes.items) }
-    ensures most { IfOk result (λ bytes. length bytes.items ≤ window.left) }
-    ensures bytes { IfOk result (λ bytes. (b : BlockRow) → row.now ≡ shown_bytes b → bytes.items ≡ seen_in window b.bytes) }
-{
-    match row.get_ref(0)? {
-        ValueRef::Blob(blob) => copied(alloc, part_of(blob, window)),
-        _ => Err(Error::SqliteFailure(ErrorCode::DatabaseCorrupt)),
-    }
+    let whole = block_bytes(connection, &block.digest, block.ord)?;
+    keep_bytes(cache, alloc, block, &whole);
+    copied(alloc, part_of(&whole, window))
 }
 
 /// A copy of bytes. There must be some.

@@ -8,7 +8,7 @@ use Rattle.sqlite.specs.Tree.{Trees}
 use Rattle.sqlite_keyed.proofs.ListLemmas.{all_from_test, all_both, all_map}
 use Rattle.sqlite_typed.specs.Columns.{bytes_of, int_of}
 use Rattle.sqlite_typed.specs.Tests.{bytes_eq}
-use Rattle.bh_rows.specs.Form.{AreRows, typed}
+use Rattle.bh_rows.specs.Form.{typed}
 use Rattle.bh_tables.specs.Schema.{Octets, host_schema}
 use Rattle.bh_tables.specs.Bodies.{resolved, resolved_part, same_name}
 use Rattle.bh_tables.specs.Typed.{Totals, totals_of, tables_in, raw, unfilled_trees, AreHeld, TenantColumns, UploadColumns, VersionRow, PartRow, tenant_columns, upload_columns, tenant_form, stored_tenant_form, upload_form, stored_upload_form, block_form, ref_form, tally_form, garbage_form, version_of, part_of, bytes_used, bytes_kept}
@@ -24,7 +24,7 @@ use Rattle.bh_check.specs.Blocks.{AreUses}
 use Rattle.bh_check.specs.Garbage.{AreWeighed}
 use Rattle.bh_check.specs.Tallies.{AreTallied}
 use Rattle.bh_check.specs.declared.rows.Table.TheVariants as table
-use Rattle.bh_stored.proofs.Fitted.{hosts_are, tenants_are, keys_are, buckets_are, versions_are, blocks_are, refs_are, uploads_are, parts_are, uses_are, locks_are, retains_are, tallies_are, garbage_are, used_is, kept_is}
+use Rattle.bh_stored.proofs.Fitted.{hosts_are, tenants_are, keys_are, buckets_are, versions_are, blocks_are, refs_are, uploads_are, parts_are, uses_are, locks_are, retains_are, tallies_are, garbage_are, packs_are, places_are, used_is, kept_is}
 use Rattle.bh_check.proofs.CountsAre.{counts_are, refs_counted}
 use Rattle.bh_check.proofs.Schemas.{kept}
 use Rattle.bh_check.proofs.Weighed.{weighed_is}
@@ -111,6 +111,8 @@ module _ (edition : Edition) (digest : Octets → Octets) (trees : Trees) (c : I
     garbage = garbage_are (d 44) c.fits.garbage;
     weighed = garbage_kept edition trees c.garbage c.fits.garbage c.counts;
     measured = refl;
+    packs = packs_are (d 32) c.fits.packs;
+    places = places_are (d 34) c.fits.places;
     unfilled = none_filled d unfilled_trees c.fits.unfilled;
     counts = counts_are (block_refs d) (typed ref_form (d 12)) (refs_counted d) (d 23) (d 10) (all_from_test (is_fit use_kinds) (d 23) c.fits.uses.fit) c.counts;
   }

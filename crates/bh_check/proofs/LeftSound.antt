@@ -7,14 +7,20 @@ use Rattle.sqlite.specs.Tree.{Trees}
 use Rattle.sqlite_schema.specs.declared.schema.Schema.{Schema}
 use Rattle.sqlite_trees.specs.View.{IsClean, IsRolledBack, doubt}
 use Rattle.sqlite_trees.specs.declared.store.Store.{Ghosts}
+use Rattle.bh_shelf.specs.Contents.{Contents}
 use Rattle.bh_tables.specs.Hosts.{tables_opened}
+use Rattle.bh_tables.specs.Packs.{places_in}
 use Rattle.bh_tables.specs.Schema.{Octets, first_schema, second_schema, third_schema, fourth_schema, host_schema}
 use Rattle.bh_view.specs.Bodies.{IsSoundHost}
+use Rattle.bh_check.specs.Awaits.{HasSizes}
 use Rattle.bh_base.specs.Layer.{IsStateClean, IsIntact, IsOpen}
+use Rattle.bh_base.specs.Placed.{filled_trees, filled}
 use Rattle.bh_stored.specs.Stored.{seen}
 use Rattle.bh_stored.specs.declared.stored.Edition.{Edition}
+use Rattle.bh_stored.specs.declared.stored.Edition.TheVariants.{Fifth}
 use Rattle.bh_stored.specs.Stores.{KeepsTrees}
 use Rattle.bh_check.specs.Checked.{schema_of, edition_with, IsChecked}
+use Rattle.bh_check.proofs.FilledSound.{filled_sound}
 use Rattle.bh_check.proofs.Schemas.{told}
 use Rattle.bh_check.proofs.Sound.{makes_sound}
 
@@ -23,11 +29,9 @@ pub ok_both : {T E : Type 0} (r : Result T E) (P Q R : T → Type 0) → ((x : T
 ok_both (Ok x) P Q R f p q = f x p q
 ok_both (Err e) P Q R f p q = tt
 
-module _ {S : Type 0} (g : Ghosts S) (connection : Held S) (bare last : S) (edition : Edition) (digest : Octets → Octets) (schema : IsStateClean (state g connection) → ((state g connection).now.schema ≡ first_schema) ⊎ (((state g connection).now.schema ≡ second_schema) ⊎ (((state g connection).now.schema ≡ third_schema) ⊎ (((state g connection).now.schema ≡ fourth_schema) ⊎ ((state g connection).now.schema ≡ host_schema)))))
-    (tells : edition ≡ edition_with (length (state g connection).now.schema.tables)) (live : IsLive (state g connection))
+module _ {S : Type 0} (g : Ghosts S) (connection : Held S) (bare last : S) (edition : Edition) (schema : IsStateClean (state g connection) → (state g connection).now.schema ≡ schema_of edition) (live : IsLive (state g connection))
     (settled : IsTrue (state g connection).is_open → (state g connection).now ≡ (state g connection).committed) (undone : IsRolledBack (g.view connection.store) (g.view bare))
-    (less : doubt (g.view connection.store).is_clean ≤ doubt (g.view bare).is_clean) (keeps : KeepsTrees (g.view bare) (g.view last)) (checked : IsClean (g.view last) → IsChecked edition digest (seen edition (g.view bare).trees))
-    (clean : IsClean (g.view last)) (opened : IsTrue (g.view last).is_open) where
+    (less : doubt (g.view connection.store).is_clean ≤ doubt (g.view bare).is_clean) (keeps : KeepsTrees (g.view bare) (g.view last)) (clean : IsClean (g.view last)) (opened : IsTrue (g.view last).is_open) where
   bare_clean : IsClean (g.view bare)
   bare_clean = keeps.clean clean
 
@@ -51,13 +55,30 @@ module _ {S : Type 0} (g : Ghosts S) (connection : Held S) (bare last : S) (edit
   same_trees = (undone.undone bare_open).0 ∙ sym (ap (λ (db : Database). db.trees) (settled was_open))
 
   schema_is : (state g connection).now.schema ≡ schema_of edition
-  schema_is = told (state g connection).now.schema edition tells (schema state_clean)
+  schema_is = schema state_clean
 
   database : IsDatabase (record { schema = schema_of edition; trees = trees })
   database = subst (λ (s : Schema). IsDatabase (record { schema = s; trees = trees })) schema_is (live was_open).0
 
-  sound_tables : IsSoundHost digest (tables_opened (record { schema = schema_of edition; trees = trees }))
-  sound_tables = makes_sound edition digest trees database (subst (λ (t : Trees). IsChecked edition digest (seen edition t)) same_trees (checked clean))
+  pub judged : (digest : Octets → Octets) → (IsClean (g.view last) → IsChecked edition digest (seen edition (g.view bare).trees)) → IsStateClean (state g connection) × IsSoundHost digest (tables_opened (state g connection).now)
+  judged digest checked =
+      let sound : IsSoundHost digest (tables_opened (record { schema = schema_of edition; trees = trees })) = makes_sound edition digest trees database (subst (λ (t : Trees). IsChecked edition digest (seen edition t)) same_trees (checked clean)) in
+      (state_clean, subst (λ (s : Schema). IsSoundHost digest (tables_opened (record { schema = s; trees = trees }))) (sym schema_is) sound)
 
-  pub sound_left : IsStateClean (state g connection) × IsSoundHost digest (tables_opened (state g connection).now)
-  sound_left = (state_clean, subst (λ (s : Schema). IsSoundHost digest (tables_opened (record { schema = s; trees = trees }))) (sym schema_is) sound_tables)
+  -- with the bytes of packs
+  pub judged_with : edition ≡ Fifth → (digest : Octets → Octets) (packs : Contents) → (IsClean (g.view last) → IsDatabase (record { schema = host_schema; trees = (g.view bare).trees }) → HasSizes packs (places_in (g.view bare).trees) → IsChecked Fifth digest (filled_trees packs (g.view bare).trees))
+      → HasSizes packs (places_in (state g connection).now.trees) → IsStateClean (state g connection) × IsSoundHost digest (tables_opened (filled packs (state g connection).now))
+  judged_with fifth digest packs checked sizes =
+      let is : (state g connection).now.schema ≡ host_schema = schema_is ∙ ap schema_of fifth in
+      let whole : IsDatabase (record { schema = host_schema; trees = trees }) = subst (λ (e : Edition). IsDatabase (record { schema = schema_of e; trees = trees })) fifth database in
+      let all : IsDatabase (record { schema = host_schema; trees = trees }) → HasSizes packs (places_in trees) → IsChecked Fifth digest (filled_trees packs trees) =
+      subst (λ (t : Trees). IsDatabase (record { schema = host_schema; trees = t }) → HasSizes packs (places_in t) → IsChecked Fifth digest (filled_trees packs t)) same_trees (checked clean) in
+      (state_clean, subst (λ (s : Schema). IsSoundHost digest (tables_opened (record { schema = s; trees = filled_trees packs trees }))) (sym is) (filled_sound trees whole digest packs (all whole sizes)))
+
+pub sound_left : {S : Type 0} (g : Ghosts S) (connection : Held S) (bare last : S) (edition : Edition) (digest : Octets → Octets) → (IsStateClean (state g connection) → ((state g connection).now.schema ≡ first_schema) ⊎ (((state g connection).now.schema ≡ second_schema) ⊎ (((state g connection).now.schema ≡ third_schema) ⊎ (((state g connection).now.schema ≡ fourth_schema) ⊎ ((state g connection).now.schema ≡ host_schema)))))
+    → edition ≡ edition_with (length (state g connection).now.schema.tables) → IsLive (state g connection)
+    → (IsTrue (state g connection).is_open → (state g connection).now ≡ (state g connection).committed) → IsRolledBack (g.view connection.store) (g.view bare)
+    → doubt (g.view connection.store).is_clean ≤ doubt (g.view bare).is_clean → KeepsTrees (g.view bare) (g.view last) → (IsClean (g.view last) → IsChecked edition digest (seen edition (g.view bare).trees))
+    → IsClean (g.view last) → IsTrue (g.view last).is_open → IsStateClean (state g connection) × IsSoundHost digest (tables_opened (state g connection).now)
+sound_left g connection bare last edition digest schema tells live settled undone less keeps checked clean opened =
+    judged g connection bare last edition (λ was. told (state g connection).now.schema edition tells (schema was)) live settled undone less keeps clean opened digest checked

@@ -17,6 +17,9 @@ mod CountsAre
 mod UnusedSums
 mod Weighed
 mod HostIs
+mod AwaitsLemmas
+mod FilledRows
+mod PackRows
 mod Schemas
 mod OneLemmas
 mod Parents
@@ -26,4 +29,5 @@ mod SoundOwned
 mod BucketNames
 mod SoundLocks
 mod Sound
+mod FilledSound
 mod LeftSound

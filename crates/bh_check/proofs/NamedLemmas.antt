@@ -19,7 +19,7 @@ use Rattle.bh_check.proofs.OnceLemmas.{one_more}
 -- ---- blocks
 
 -- a row of a name that no other has is the first one of it
-sole : {T : Type 0} (m : T → Bool) (rows : List T) (i : ℕ) (row : T) → i < length rows → row ≡ get_or rows i row → m row ≡ true → length (filter m rows) ≤ 1 → first (filter m rows) ≡ Some row
+pub sole : {T : Type 0} (m : T → Bool) (rows : List T) (i : ℕ) (row : T) → i < length rows → row ≡ get_or rows i row → m row ≡ true → length (filter m rows) ≤ 1 → first (filter m rows) ≡ Some row
 sole m [] i row low is on few = absurd (omega (arith, low))
 sole m (r ∷ rows) zero row low is on few = ap (λ b. first (cond b (r ∷ filter m rows) (filter m rows))) (ap m (sym is) ∙ on) ∙ ap Some (sym is)
 sole {T} m (r ∷ rows) (suc i) row low is on few = elim (cases_Bool (m r)) [

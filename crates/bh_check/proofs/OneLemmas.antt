@@ -23,14 +23,14 @@ use Rattle.bh_stored.specs.declared.stored.Edition.{Edition}
 use Rattle.bh_stored.specs.declared.stored.Edition.TheVariants.{First, Second, Third, Fourth, Fifth}
 use Rattle.bh_check.proofs.Schemas.{over}
 
-same_texts : (a b t : Octets) → bytes_eq a t ≡ true → bytes_eq b t ≡ true → bytes_eq a b ≡ true
+pub same_texts : (a b t : Octets) → bytes_eq a t ≡ true → bytes_eq b t ≡ true → bytes_eq a b ≡ true
 same_texts a b t h k = (bytes_Decides a b).1 ((bytes_Decides a t).0 h ∙ sym ((bytes_Decides b t).0 k))
 
-same_numbers : (a b n : ℕ) → int_eq (pos a) (pos n) ≡ true → int_eq (pos b) (pos n) ≡ true → int_eq (pos a) (pos b) ≡ true
+pub same_numbers : (a b n : ℕ) → int_eq (pos a) (pos n) ≡ true → int_eq (pos b) (pos n) ≡ true → int_eq (pos a) (pos b) ≡ true
 same_numbers a b n h k = (signed_Decides (pos a) (pos b)).1 ((signed_Decides (pos a) (pos n)).0 h ∙ sym ((signed_Decides (pos b) (pos n)).0 k))
 
 -- rows of which one is found are one, and else none
-at_most_one : {T : Type 0} (m : T → Bool) (xs : List T) → ((x : T) → find m xs ≡ Some x → filter m xs ≡ x ∷ []) → length (filter m xs) ≤ 1
+pub at_most_one : {T : Type 0} (m : T → Bool) (xs : List T) → ((x : T) → find m xs ≡ Some x → filter m xs ≡ x ∷ []) → length (filter m xs) ≤ 1
 at_most_one {T} m xs one = go (find m xs) refl
   where
     some_none : {x : T} → Some x ≡ None → ⊥

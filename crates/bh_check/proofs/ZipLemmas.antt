@@ -1,5 +1,5 @@
 -- A walk over two lists of one length.
-use Rattle.std.proofs.Common.{arith, ◌≡◌, ℕ, zero, suc, ◌+◌, ◌<◌, List, [], ◌∷◌, length, take, get_or, refl, sym, ap, ◌∙◌, subst, subst₂}
+use Rattle.std.proofs.Common.{arith, ◌≡◌, ℕ, zero, suc, ◌+◌, ◌<◌, List, [], ◌∷◌, ◌++◌, length, take, get_or, refl, sym, ap, ◌∙◌, subst, subst₂}
 use Rattle.std.specs.List.{AllZip}
 
 module _ {A B : Type 0} (R : A → B → Type 0) where
@@ -23,3 +23,24 @@ module _ {A B : Type 0} (R : A → B → Type 0) where
   zip_end (a ∷ xs) [] (suc i) high past h = absurd h
   zip_end (a ∷ xs) (b ∷ ys) zero high past h = absurd (high (omega arith))
   zip_end (a ∷ xs) (b ∷ ys) (suc i) high past h = (h.0, zip_end xs ys i (λ low. high (omega (arith, low))) (λ low. past (omega (arith, low))) h.1)
+
+  -- a list that is made item by item
+  pub zip_made : (xs : List A) (ys : List B) (i : ℕ) (x : A) (y : B) → i < length xs → x ≡ get_or xs i x → AllZip R (take i xs) ys → R x y → AllZip R (take (i + 1) xs) (ys ++ y ∷ [])
+  zip_made xs ys i x y low is so_far holds = subst (λ n. AllZip R (take n xs) (ys ++ y ∷ [])) (one i) (go xs ys i low is so_far)
+    where
+      one : (n : ℕ) → suc n ≡ n + 1
+      one n = omega arith
+
+      go : (xs : List A) (ys : List B) (i : ℕ) → i < length xs → x ≡ get_or xs i x → AllZip R (take i xs) ys → AllZip R (take (suc i) xs) (ys ++ y ∷ [])
+      go [] ys i low is h = absurd (omega (arith, low))
+      go (a ∷ xs) [] zero low is h = (subst (λ z. R z y) is holds, tt)
+      go (a ∷ xs) (b ∷ ys) zero low is h = absurd h
+      go (a ∷ xs) [] (suc i) low is h = absurd h
+      go (a ∷ xs) (b ∷ ys) (suc i) low is h = (h.0, go xs ys i (omega (arith, low)) is h.1)
+
+  pub made_end : (xs : List A) (ys : List B) (i : ℕ) → (i < length xs → ⊥) → AllZip R (take i xs) ys → AllZip R xs ys
+  made_end [] ys zero high h = h
+  made_end [] ys (suc i) high h = h
+  made_end (a ∷ xs) ys zero high h = absurd (high (omega arith))
+  made_end (a ∷ xs) [] (suc i) high h = absurd h
+  made_end (a ∷ xs) (b ∷ ys) (suc i) high h = (h.0, made_end xs ys i (λ low. high (omega (arith, low))) h.1)

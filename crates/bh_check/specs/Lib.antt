@@ -6,3 +6,5 @@ pub mod Placed
 pub mod Tallies
 pub mod Garbage
 pub mod Checked
+pub mod Awaits
+pub mod Filled

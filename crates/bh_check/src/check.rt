@@ -2,25 +2,32 @@
 
 ghost use Rattle.std.specs.Prelude.{◌≡◌, ◌⊎◌, None, OnOk, IfOk, IsTrue};
 ghost use Rattle.std.specs.List.{AllByRecursion};
+ghost use Rattle.sqlite.specs.Effect.{IsDatabase};
 ghost use Rattle.sqlite.specs.Tree.{Trees};
 ghost use Rattle.sqlite.specs.Held.{state};
 ghost use Rattle.sqlite_trees.specs.View.{IsClean};
 ghost use Rattle.bh_tables.specs.Hosts.{tables_opened};
+ghost use Rattle.bh_tables.specs.Packs.{places_in};
 ghost use Rattle.bh_tables.specs.Schema.{Octets, first_schema, second_schema, third_schema, fourth_schema, host_schema};
 ghost use Rattle.bh_view.specs.Bodies.{IsSoundHost};
+ghost use Rattle.bh_check.specs.Awaits.{HasSizes};
 ghost use Rattle.bh_base.specs.Layer.{IsStateClean};
+ghost use Rattle.bh_base.specs.Placed.{filled_trees, filled};
 ghost use Rattle.bh_stored.specs.Fits.{AreAllFit};
 ghost use Rattle.bh_stored.specs.Stored.{seen, AreStoredIn};
 ghost use Rattle.bh_stored.specs.Stores.{KeepsTrees};
+ghost use Rattle.bh_stored.specs.declared.stored.Edition.TheVariants.{Fifth};
 ghost use Rattle.bh_check.specs.Blocks.{HasDigest, AreOnce, AreUses};
 ghost use Rattle.bh_check.specs.Checked.{version_of, edition_with, IsHostRowIn, AreRowsHeld, AreDatesHeld, AreBodiesHeld};
 ghost use Rattle.bh_check.specs.Checked.{AreBytesHeld, IsChecked};
+ghost use Rattle.bh_check.specs.Filled.{ReadsPacks};
 ghost use Rattle.bh_check.specs.Garbage.{IsGarbage, AreWeighed};
 ghost use Rattle.bh_check.specs.Holds.{block_refs, AreMeasures, AreTotals, Holds};
 ghost use Rattle.bh_check.specs.Tallies.{AreTalliesOf, AreTallied};
 
 use crate::blocks::first_again;
 use crate::checksums::{Places, first_missummed};
+use crate::filled::fill;
 use crate::flaw::{Flaw, Stop};
 use crate::garbage::{has_bytes, unused_bytes};
 use crate::groups::first_misnamed_in;
@@ -32,6 +39,7 @@ use crate::totals::Totals;
 use crate::uses::first_miscounted;
 use crate::watch::{Stage, Watch};
 use bh_schema::host::Digester;
+use bh_shelf::shelf::Shelf;
 use bh_stored::cells::number_in;
 use bh_stored::stored::{Edition, Stored};
 use sqlite::{Alter, Connection};
@@ -270,6 +278,14 @@ fn check_counts(
     check_garbage(stored, edition)
 }
 
+/// Checks that no block has its bytes in a pack.
+fn check_unplaced(stored: &Stored) -> Result<(), Stop> {
+    match stored.places.first() {
+        None => Ok(()),
+        Some(row) => Err(Stop::Flaw(Flaw::Placed(number_in(row, 0)))),
+    }
+}
+
 /// All rows that were read.
 fn check_stored<D: Digester, W: Watch>(
     alloc: Global,
@@ -303,6 +319,7 @@ fn check_rows<S: Store, D: Digester, W: Watch>(
 {
     let stored = Stored::read(alloc, store, edition)?;
     watch.at(Stage::Rows(stored.refs.len()));
+    check_unplaced(&stored)?;
     check_stored(alloc, &stored, edition, digester, watch)?;
     Ok(())
 }
@@ -325,6 +342,50 @@ pub fn check_store<S: Store, D: Digester, W: Watch>(
         Ok(()) => Ok(None),
         Err(Stop::Flaw(flaw)) => Ok(Some(flaw)),
         Err(Stop::Store(error)) => Err(error),
+    }
+}
+
+/// All rows of a store with the database of a host of the present version, whose blocks may have their bytes in packs.
+fn check_filled<S: Store, P: Shelf, D: Digester, W: Watch>(
+    alloc: Global,
+    store: &mut S,
+    packs: &mut P,
+    digester: &D,
+    watch: &mut W,
+) -> Result<(), Stop>
+    ensures keeps { OnOk result (KeepsTrees (S.view store.old) (S.view store.new)) }
+    ensures reads { ReadsPacks P.Shelf packs.old packs.new }
+    ensures checked { OnOk result (IsClean (S.view store.new) → IsTrue (P.Shelf.is_clean packs.new)
+        → IsDatabase (record { schema = host_schema; trees = (S.view store.old).trees })
+        → HasSizes (P.Shelf.seen packs.old) (places_in (S.view store.old).trees)
+        → IsChecked Fifth D.digest_of (filled_trees (P.Shelf.seen packs.old) (S.view store.old).trees)) }
+{
+    let stored = Stored::read(alloc, store, Edition::Fifth)?;
+    watch.at(Stage::Rows(stored.refs.len()));
+    let filled = fill(alloc, packs, stored)?;
+    check_stored(alloc, &filled, Edition::Fifth, digester, watch)?;
+    Ok(())
+}
+
+/// As `check_store`, for a host of the present version and its packs.
+pub fn check_store_with<S: Store, P: Shelf, D: Digester, W: Watch>(
+    alloc: Global,
+    store: &mut S,
+    packs: &mut P,
+    digester: &D,
+    watch: &mut W,
+) -> Result<Option<Flaw>, StoreError>
+    ensures keeps { IfOk result (λ found. found ≡ None → KeepsTrees (S.view store.old) (S.view store.new)) }
+    ensures reads { ReadsPacks P.Shelf packs.old packs.new }
+    ensures checked { IfOk result (λ found. found ≡ None → IsClean (S.view store.new) → IsTrue (P.Shelf.is_clean packs.new)
+        → IsDatabase (record { schema = host_schema; trees = (S.view store.old).trees })
+        → HasSizes (P.Shelf.seen packs.old) (places_in (S.view store.old).trees)
+        → IsChecked Fifth D.digest_of (filled_trees (P.Shelf.seen packs.old) (S.view store.old).trees)) }
+{
+    match check_filled(alloc, store, packs, digester, watch) {
+        Ok(()) => Ok(None),
+        Err(Stop::Flaw(first)) => Ok(Some(first)),
+        Err(Stop::Store(cause)) => Err(cause),
     }
 }
 
@@ -354,5 +415,35 @@ pub fn check_connection<S: Alter + Drop, D: Digester, W: Watch>(
     watch.at(Stage::Reading(tables));
     let edition = edition_with(tables);
     let found = check_store(alloc, &mut store, edition, digester, watch);
+    (found, store)
+}
+
+/// Checks the committed database of a connection to a host of the present version, and the bytes that
+/// its packs have, and returns the store. A transaction that is open is an error. Nothing is written.
+///
+/// It reads all that packs have of blocks, and tells nothing of what no place names.
+pub fn check_with_packs<S: Alter + Drop, P: Shelf, D: Digester, W: Watch>(
+    alloc: Global,
+    connection: Connection<S>,
+    packs: &mut P,
+    digester: &D,
+    watch: &mut W,
+) -> (Result<Option<Flaw>, StoreError>, S)
+    requires schema { IsStateClean (state S.Store connection) → (state S.Store connection).now.schema ≡ host_schema }
+    ensures reads { ReadsPacks P.Shelf packs.old packs.new }
+    ensures sound { IfOk result.0 (λ found. found ≡ None → IsClean (S.Store.view result.1) → IsTrue (S.Store.view result.1).is_open
+        → IsTrue (P.Shelf.is_clean packs.new)
+        → HasSizes (P.Shelf.seen packs.old) (places_in (state S.Store connection).now.trees)
+        → IsStateClean (state S.Store connection)
+        × IsSoundHost D.digest_of (tables_opened (filled (P.Shelf.seen packs.old) (state S.Store connection).now))) }
+{
+    let tables = connection.schema().tables.len();
+    let is_settled = connection.is_autocommit();
+    let mut store = connection.into_store();
+    if !is_settled {
+        return (Err(StoreError::Broken), store);
+    }
+    watch.at(Stage::Reading(tables));
+    let found = check_store_with(alloc, &mut store, packs, digester, watch);
     (found, store)
 }

@@ -44,7 +44,7 @@ impl Places {
 }
 
 /// Whether a row's first two columns are these.
-fn is_of(row: &Row, text: &[u8], number: u64) -> bool
+pub(crate) fn is_of(row: &Row, text: &[u8], number: u64) -> bool
     ensures { result ≡ same_name (first_two row.now) (text.now, number) }
 {
     bytes_in(row, 1) == text && number_in(row, 2) == number

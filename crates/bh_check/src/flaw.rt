@@ -17,6 +17,10 @@ pub enum Flaw {
     Row(Table, u64),
     /// A reference isn't at the place after the earlier ones of its body.
     Place(u64),
+    /// A place ends past its pack's length, its block has bytes in its row, or no packs were given.
+    Placed(u64),
+    /// A pack hasn't got the bytes of a place.
+    Unread(u64),
     /// A part's checksum isn't that of its bytes.
     Checksum(u64),
     /// A block's digest isn't that of its bytes.
@@ -127,6 +131,11 @@ impl fmt::Display for Flaw {
             Flaw::Host => f.write_str("host: not one row of this version, with values in range"),
             Flaw::Row(table, row) => write!(f, "{}, row {row}", demand_of(*table)),
             Flaw::Place(row) => write!(f, "refs: not at the next place of its body, row {row}"),
+            Flaw::Placed(row) => write!(
+                f,
+                "placed: past the length of its pack, of a block with bytes in its row, or without packs, row {row}"
+            ),
+            Flaw::Unread(row) => write!(f, "placed: a pack hasn't got these bytes, row {row}"),
             Flaw::Checksum(row) => write!(
                 f,
                 "parts: another checksum than that of its bytes, row {row}"

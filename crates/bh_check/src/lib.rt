@@ -5,6 +5,7 @@ pub mod blocks;
 pub mod buckets;
 pub mod check;
 pub mod checksums;
+pub mod filled;
 pub mod flaw;
 pub mod garbage;
 pub mod groups;

@@ -18,11 +18,11 @@ use Rattle.bh_schema.specs.declared.host.Digester as digester
 use Rattle.bh_kept.specs.declared.host.BlockSize as size
 use Rattle.bh_kept.specs.declared.host.KeptHost.{KeptHost}
 
-pub rests_kept : {D G K : Type 0} {g : Ghosts D} {d : digester.Ghosts G} {k : size.Ghosts K} (digest : Octets → Octets) (first : KeptHost D G K g d k) (host : HostStorage (FileStore D g) NoShelf G) → first.storage ≡ Some (record { storage = host; memo = nothing })
+pub rests_kept : {D G K : Type 0} {g : Ghosts D} {d : digester.Ghosts G} {k : size.Ghosts K} (digest : Octets → Octets) (first : KeptHost D NoShelf G K g without_packs d k) (host : HostStorage (FileStore D g) NoShelf G) → first.storage ≡ Some (record { storage = host; memo = nothing })
     → (storage.IsClean over_files without_packs host.host → IsAtRest (IsSoundHost digest) (storage.seen over_files without_packs host.host))
-    → Clean (λ h. kept.IsIntact h.storage) (λ h. kept.IsOpen h.storage) first → IsAtRest (IsSoundHost digest) (kept.seen first.limits first.storage)
+    → Clean (λ h. kept.IsIntact without_packs h.storage) (λ h. kept.IsOpen without_packs h.storage) first → IsAtRest (IsSoundHost digest) (kept.seen without_packs first.limits first.storage)
 rests_kept {D} {G} {g} digest first host is rest clean =
-    let P : Option (RecallingStorage (FileStore D g) NoShelf G) → Type 0 = λ o. kept.IsIntact o × kept.IsOpen o → IsAtRest (IsSoundHost digest) (kept.seen first.limits o) in
+    let P : Option (RecallingStorage (FileStore D g) NoShelf G) → Type 0 = λ o. kept.IsIntact without_packs o × kept.IsOpen without_packs o → IsAtRest (IsSoundHost digest) (kept.seen without_packs first.limits o) in
     subst P (sym is) (λ (up : storage.IsClean over_files without_packs host.host). subst (IsAtRest (IsSoundHost digest)) (sym (nothing_recalled (storage.seen over_files without_packs host.host))) (rest up)) clean
 
 -- what is left of a value that is there

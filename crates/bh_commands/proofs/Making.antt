@@ -22,20 +22,13 @@ use Rattle.sqlite.specs.Files.{file_state}
 use Rattle.sqlite.specs.Held.{Held}
 use Rattle.sqlite.specs.Schema.{Schema}
 use Rattle.sqlite.specs.State.{State, IsLive}
-use Rattle.bh_types.specs.Limits.{HostLimits}
-use Rattle.bh_types.specs.declared.block_digest.BlockDigest.{BlockDigest}
 use Rattle.bh_tables.specs.Schema.{no_schema}
-use Rattle.bh_view.specs.Bodies.{IsSoundHost}
-use Rattle.bh_view.specs.View.{view, latest_of}
-use Rattle.bh_storage.specs.Calls.{Seen, IsAtRest}
-use Rattle.bh_shelf.specs.Contents.{Contents, nothing}
-use Rattle.bh_base.specs.Layer.{Standing, standing, IsOpen, IsStateClean, KeepsDisk, taken_back}
+use Rattle.bh_shelf.specs.Contents.{Contents}
+use Rattle.bh_base.specs.Layer.{Standing, standing, IsOpen, IsStateClean, taken_back}
 use Rattle.bh_base.specs.Placed.{filled, filled_trees}
 use Rattle.bh_base.specs.Shown.{Backing, named, shown}
-use Rattle.bh_base.proofs.Lifting.{shown_intact, intact_shown, shown_clean, clean_shown}
-use Rattle.bh_base.proofs.Placing.{unplaced}
-use Rattle.bh_create.specs.Creation.{IsNewHost}
-use Rattle.bh_bare.proofs.Bare.{seen_bare, left_shown}
+use Rattle.bh_bare.specs.Bare.{no_packs}
+use Rattle.bh_bare.proofs.Bare.{unplaced_same}
 
 -- ---- the files of a database without a table
 
@@ -97,17 +90,7 @@ nothing_placed c live is up =
     none_in (pool.state below).is_clean (pool.state below).page_size (schema_of c.store) (pool.usable below) (version_now below c.store.saved)
     (no_objects ((file_state c).now.trees catalog_tree) (file_state c).now.schema (live up).0.lists is)
 
--- no packs
-abbrev pub no_packs : Backing
-no_packs = record { seen = nothing; stood = nothing; kept = nothing; is_clean = true }
-
 -- ---- what stands of it
-
-abbrev database : Schema → Trees → Database
-database schema trees = record { schema = schema; trees = trees }
-
-as_it_is : (packs : Contents) (db : Database) → db.trees 34 ≡ [] → filled packs db ≡ db
-as_it_is packs db none = ap (database db.schema) (unplaced packs db.trees none)
 
 placed_same : (packs : Contents) (db : Database) → (filled packs db).trees 34 ≡ [] → db.trees 34 ≡ []
 unfolding filled_trees
@@ -115,41 +98,18 @@ placed_same packs db none = none
 
 -- the same with the bytes of packs, so the same
 same_bare : (packs : Contents) (db was : Database) → was.trees 34 ≡ [] → filled packs db ≡ was → db ≡ was
-same_bare packs db was none is = sym (as_it_is packs db (placed_same packs db (ap (λ (d : Database). d.trees 34) is ∙ none))) ∙ is
+same_bare packs db was none is = sym (unplaced_same packs db (placed_same packs db (ap (λ (d : Database). d.trees 34) is ∙ none))) ∙ is
 
 -- a database of which nothing is placed is taken back
-pub back_bare : (a b : Backing) (old new : State) → old.now.trees 34 ≡ [] → old.now ≡ old.committed → standing (shown b new) ≡ taken_back (standing (shown a old)) → standing new ≡ taken_back (standing old)
+back_bare : (a b : Backing) (old new : State) → old.now.trees 34 ≡ [] → old.now ≡ old.committed → standing (shown b new) ≡ taken_back (standing (shown a old)) → standing new ≡ taken_back (standing old)
 unfolding standing
 back_bare a b old new none settled is =
     let bare : old.committed.trees 34 ≡ [] = sym (ap (λ (d : Database). d.trees 34) settled) ∙ none in
-    let now = same_bare (named b new.in_transaction) new.now old.committed bare (ap (λ (x : Standing). x.now) is ∙ as_it_is a.kept old.committed bare) in
-    let kept = same_bare b.kept new.committed old.committed bare (ap (λ (x : Standing). x.kept) is ∙ as_it_is a.kept old.committed bare) in
+    let now = same_bare (named b new.in_transaction) new.now old.committed bare (ap (λ (x : Standing). x.now) is ∙ unplaced_same a.kept old.committed bare) in
+    let kept = same_bare b.kept new.committed old.committed bare (ap (λ (x : Standing). x.kept) is ∙ unplaced_same a.kept old.committed bare) in
     let inside = ap (λ (x : Standing). x.inside) is in
     let limit = ap (λ (x : Standing). x.limit) is in
     λ i. record { now = now i; kept = kept i; inside = inside i; limit = limit i }
-
--- ---- and of its disk
-
-module _ (a b : Backing) (old new : State) (clean : IsTrue b.is_clean) where
-  pub keeps_bare : KeepsDisk (shown a old) (shown b new) → KeepsDisk old new
-  unfolding standing
-  keeps_bare h = record {
-    clean = λ c. (shown_clean a old (h.clean (clean_shown b new c clean))).0;
-    intact = λ c. (shown_intact a old (h.intact (intact_shown b new c clean))).0;
-    limit = h.limit;
-  }
-
--- a new host
-pub new_bare : (limits : HostLimits) (digest : BlockDigest) (a : Backing) (s : State) → IsNewHost limits digest (shown a s) → IsNewHost limits digest s
-new_bare limits digest a s it =
-    let same = seen_bare a s limits in
-    record {
-      rest = λ named. subst (IsAtRest (IsSoundHost named)) same (it.rest named);
-      tables = ap (λ (x : Seen). x.now) (sym same) ∙ it.tables;
-      latest = ap (λ (x : Seen). latest_of x.now) (sym same) ∙ it.latest;
-      vacant = λ tenant. ap (λ (x : Seen). view x.now tenant) (sym same) ∙ it.vacant tenant;
-      left = λ x left. it.left x (left_shown a s x left);
-    }
 
 -- where no host was made, what was committed stands
 pub back_made : {D : Type 0} {g : Ghosts D} (c : Held (FileStore D g)) (new : State) → IsLive (file_state c) → (IsTrue (file_state c).is_open → (file_state c).now ≡ (file_state c).committed) → (file_state c).now.schema ≡ no_schema → IsStateClean (file_state c)

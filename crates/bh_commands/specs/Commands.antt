@@ -1,12 +1,13 @@
 -- Work on a host, and its printed text.
-use Rattle.std.specs.Prelude.{◌≡◌, ℕ, List, Option, is_some, option_and_then}
+use Rattle.std.specs.Prelude.{◌≡◌, ℕ, false, List, Option, is_some, option_and_then}
 use Rattle.bh_event.specs.Events.{Arrival}
 use Rattle.bh_event.specs.Orders.{arrival_at, message_of}
 use Rattle.bh_tables.specs.Typed.{Tables}
 use Rattle.bh_storage.specs.Calls.{Seen, Clean, IsAtRest}
 use Rattle.bh_host.specs.Runs.{Told}
-use Rattle.bh_connection.specs.Connections.{IsApplied}
+use Rattle.bh_connection.specs.Connections.{IsApplied, IsTakenBack}
 use Rattle.bh_connection.specs.Listening.{WasVisited}
+use Rattle.bh_connection.specs.Operators.{is_sweep}
 use Rattle.bh_connection.specs.Visits.{RanFor}
 use Rattle.bh_maintenance.specs.Printing.{IsLine, IsNothing}
 use Rattle.bh_maintenance.specs.declared.printed.Printed.{Printed}
@@ -41,6 +42,15 @@ module _ {H : Type 0} (IsIntact IsOpen : H → Type 0) (seen : H → Seen) (left
     pub line : IsLine told.1 printed
     pub kept : printed.status ≡ 0 → IsIntact new → (x : Tables) → left new x → x ≡ (seen new).now
 
+  -- so it was, and after a sweep packs may have gone of which nothing is named: no table shows that, and a crash leaves
+  -- nothing new
+  pub record HasObeyed (event : Arrival) (old new : H) (printed : Printed) : Type 0 where
+    pub mid : H
+    pub told : IsTold event old mid printed
+    pub intact : IsIntact new → IsIntact mid
+    pub back : IsTakenBack IsIntact IsOpen seen left mid new
+    pub others : is_sweep event.message ≡ false → new ≡ mid
+
   -- requests were applied in turn, and orders if there is a port for operators, and no other event;
   -- nothing is printed
   pub record HasServed (serving : Serving) (old new : H) (printed : Printed) : Type 0 where
@@ -50,5 +60,5 @@ module _ {H : Type 0} (IsIntact IsOpen : H → Type 0) (seen : H → Seen) (left
 
   -- the work was done at a reading; connections use the machine's clock
   abbrev pub HasDone : Work → ℕ → H → H → Printed → Type 0
-  HasDone (work.Order order) reading old new printed = IsTold (arrival_at reading (message_of order)) old new printed
+  HasDone (work.Order order) reading old new printed = HasObeyed (arrival_at reading (message_of order)) old new printed
   HasDone (work.Serve serving) reading old new printed = HasServed serving old new printed

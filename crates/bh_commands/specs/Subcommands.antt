@@ -94,14 +94,14 @@ module _ {D : Type 0} {g : disk.Ghosts D} where
   -- them
   pub record IsWorkedOn {G K : Type 0} (block : size.Ghosts K) (digest : Octets → Octets) (work : Work) (reading : ℕ)
       (host : HostStorage (FileStore D g) NoShelf G) (new : Held (FileStore D g)) (printed : Printed) : Type 0 where
-    pub first : KeptHost D G K g (record { digest_of = digest }) block
-    pub last : KeptHost D G K g (record { digest_of = digest }) block
+    pub first : KeptHost D NoShelf G K g without_packs (record { digest_of = digest }) block
+    pub last : KeptHost D NoShelf G K g without_packs (record { digest_of = digest }) block
     pub left_host : RecallingStorage (FileStore D g) NoShelf G
     pub begun : first.storage ≡ Some (record { storage = host; memo = nothing })
-    pub stays : StaysReady (λ h. kept.IsIntact h.storage) (λ h. kept.IsOpen h.storage) (IsSoundHost digest)
-        (λ h. kept.seen h.limits h.storage) first last
-    pub done : HasDone (λ h. kept.IsIntact h.storage) (λ h. kept.IsOpen h.storage) (λ h. kept.seen h.limits h.storage)
-        (λ h. kept.left h.storage) work reading first last printed
+    pub stays : StaysReady (λ h. kept.IsIntact without_packs h.storage) (λ h. kept.IsOpen without_packs h.storage) (IsSoundHost digest)
+        (λ h. kept.seen without_packs h.limits h.storage) first last
+    pub done : HasDone (λ h. kept.IsIntact without_packs h.storage) (λ h. kept.IsOpen without_packs h.storage)
+        (λ h. kept.seen without_packs h.limits h.storage) (λ h. kept.left without_packs h.storage) work reading first last printed
     pub ended : last.storage ≡ Some left_host
     pub left : new ≡ left_host.storage.host.connection.database
 

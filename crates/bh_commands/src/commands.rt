@@ -5,10 +5,10 @@ ghost use Rattle.bh_event.specs.Orders.{arrival_at, message_of};
 ghost use Rattle.bh_storage.specs.Calls.{Clean, IsAtRest};
 ghost use Rattle.bh_host.specs.Replies.{reply_bytes};
 ghost use Rattle.bh_maintenance.specs.Printing.{IsLine};
-ghost use Rattle.bh_commands.specs.Commands.{IsTold, HasDone, HasServed, StaysReady};
+ghost use Rattle.bh_commands.specs.Commands.{IsTold, HasDone, HasObeyed, HasServed, StaysReady};
 
 use crate::asked::{Serving, Work};
-use bh_connection::{BackUp, MachineClock};
+use bh_connection::{BackUp, MachineClock, drop_after, is_sweep};
 use bh_event::order::HostOrder;
 use bh_host::{Reply, apply};
 use bh_maintenance::fault::Fault;
@@ -41,6 +41,24 @@ pub fn apply_order<H: Storage>(
     let event = order.at(reading);
     let told = apply(alloc, routes, host, &event);
     let printed = printed_of(alloc, &told.reply)?;
+    Ok(printed)
+}
+
+/// The same, and after a sweep packs of which nothing is named any more are removed.
+fn obey<H: BackUp>(
+    alloc: Global,
+    routes: &Routes,
+    host: &mut H,
+    reading: u64,
+    order: HostOrder,
+) -> Result<Printed, AllocError>
+    requires { Clean H.IsIntact H.IsOpen host.old → IsAtRest H.IsSoundStore (H.seen host.old) }
+    ensures stays { StaysReady H.IsIntact H.IsOpen H.IsSoundStore H.seen host.old host.new }
+    ensures obeyed { IfOk result (HasObeyed H.IsIntact H.IsOpen H.seen H.left (arrival_at reading (message_of order)) host.old host.new) }
+{
+    let sweeps = is_sweep(&order);
+    let printed = apply_order(alloc, routes, host, reading, order)?;
+    drop_after(host, sweeps);
     Ok(printed)
 }
 
@@ -82,7 +100,7 @@ fn do_routed<H: BackUp>(
     ensures done { IfOk result (HasDone H.IsIntact H.IsOpen H.seen H.left asked reading host.old host.new) }
 {
     match asked {
-        Work::Order(order) => Ok(apply_order(rt.alloc(), routes, host, reading, order)?),
+        Work::Order(order) => Ok(obey(rt.alloc(), routes, host, reading, order)?),
         Work::Serve(serving) => Ok(serve(rt, routes, host, serving)?),
     }
 }

@@ -127,7 +127,7 @@ fn work_on<D: Disk + Drop, G: Digester + Drop, K: BlockSize>(
     ensures { IfOk result (λ done. IsWorkedOn K.BlockSize G.digest_of asked reading (record { host = host })
         done.connection done.printed) }
 {
-    let mut kept = KeptHost::<'_, D, G, K>::new(rt, host);
+    let mut kept = KeptHost::<'_, D, NoShelf, G, K>::new(rt, host);
     let printed = do_work(rt, &mut kept, reading, asked)?;
     match kept.into_connection() {
         Some(connection) => Ok(Done {

@@ -15,7 +15,7 @@ use Rattle.bh_connection.specs.Each as each
 use Rattle.bh_connection.specs.Each.{Row, EachCame, IsGoing}
 use Rattle.bh_connection.specs.Groups.{Call, Accepted, Opened, Closed, AllJoin, HasJoined, IsGroup, begins_with, calls_of, closes_with, closing, joining, joins_with}
 use Rattle.bh_connection.specs.Listening.{AllOpen, SomeShut, is_shut}
-use Rattle.bh_connection.specs.Visits.{Visit, OfClient, AllCame, AllAdmitted, NoneStops, event_of, told_of}
+use Rattle.bh_connection.specs.Visits.{Visit, OfClient, AllCame, AllAdmitted, NoneStops, sweeps, event_of, told_of}
 use Rattle.bh_connection.specs.declared.each.Arrival.{Arrival}
 use Rattle.bh_connection.specs.declared.served.Served.{Served}
 
@@ -33,6 +33,10 @@ all_admitted operated (row ∷ rows) = (tt, all_admitted operated rows)
 pub none_stop : (rows : List Row) → NoneStops (clients rows)
 none_stop [] = tt
 none_stop (row ∷ rows) = (refl, none_stop rows)
+
+pub none_sweep : (rows : List Row) → list_any sweeps (clients rows) ≡ false
+none_sweep [] = refl
+none_sweep (row ∷ rows) = none_sweep rows
 
 pub events_of : (rows : List Row) → filter_map event_of (clients rows) ≡ filter_map each.event_of rows
 events_of [] = refl

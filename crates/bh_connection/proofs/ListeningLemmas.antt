@@ -1,5 +1,5 @@
 -- Visits after visits.
-use Rattle.std.proofs.Common.{◌≡◌, ◌<◌, ◌≤◌, ◌+◌, ℕ, Bool, true, false, List, [], ◌∷◌, ◌++◌, map, length, refl, sym, ap, subst, ◌∙◌, Option, Some, None, Result, Ok, Err, append-nil, append_assoc, length-append, inl, inr, arith}
+use Rattle.std.proofs.Common.{◌≡◌, ◌<◌, ◌≤◌, ◌+◌, ℕ, Bool, true, false, List, [], ◌∷◌, ◌++◌, map, length, refl, sym, ap, subst, ◌∙◌, Option, Some, None, Result, Ok, Err, append-nil, append_assoc, length-append, inl, inr, arith, ◌||◌}
 use Rattle.std.specs.Prelude.{All, IsErr, MatchResult, filter_map, option_map}
 use Rattle.std.specs.List.{flat_map, cons_option, list_any}
 use Rattle.std.proofs.lemmas.List.{length-map}
@@ -25,10 +25,10 @@ use Rattle.bh_connection.specs.declared.group.Grouped.{Grouped}
 use Rattle.bh_connection.specs.declared.served.Served.{Served}
 use Rattle.bh_connection.specs.declared.served.Visited.{Visited}
 use Rattle.bh_connection.specs.Operators.{Heard, CutOff, NotHeard, NoOrder, Obeyed, Copied, Stopping, Notes, Obeys, is_stopping}
-use Rattle.bh_connection.specs.Visits.{Visit, OfClient, OfOperator, CameBy, AllCame, IsAdmitted, AllAdmitted, DidBy, NotedBy, NoneStops, RanFor, event_of, told_of, event_heard, told_heard, is_stop}
+use Rattle.bh_connection.specs.Visits.{Visit, OfClient, OfOperator, CameBy, AllCame, IsAdmitted, AllAdmitted, DidBy, NotedBy, NoneStops, RanFor, event_of, told_of, event_heard, told_heard, is_stop, sweeps}
 use Rattle.bh_connection.specs.Listening.{AllOpen, DidGroup, HasListened, HasServedAll, HasStopped, IsServed, Serves, VisitedAs, WereCounted, is_shut, trouble_of}
 use Rattle.bh_connection.proofs.EachLemmas.{ran_stays, ran_applied, ran_back, ran_with, run_alone, ran_no_request}
-use Rattle.bh_connection.proofs.GroupLemmas.{clients, all_came, all_admitted, none_stop, events_of, tolds_of, all_open, some_shut, calls_in, calls_are, is_group}
+use Rattle.bh_connection.proofs.GroupLemmas.{clients, all_came, all_admitted, none_stop, none_sweep, events_of, tolds_of, all_open, some_shut, calls_in, calls_are, is_group}
 
 -- ---- groups after groups
 
@@ -143,6 +143,13 @@ module _ {H C : Type 0} (IsIntact IsOpen : H → Type 0) (seen : H → Seen) (le
       alone = λ intact. run_alone IsIntact IsOpen seen left (filter_map event_of visits) (filter_map told_of visits) old new (ran intact);
     }
 
+    -- twice nothing changed
+    pub back_then : (old mid new : H) → (IsIntact new → IsIntact mid) → IsTakenBack IsIntact IsOpen seen left old mid → IsTakenBack IsIntact IsOpen seen left mid new → IsTakenBack IsIntact IsOpen seen left old new
+    back_then old mid new still first second = record {
+      same = λ intact up. let (was, same) = second.same intact up in let (before, first_same) = first.same (still intact) was in (before, same ∙ first_same);
+      survives = λ intact x leaves. first.survives (still intact) x (second.survives intact x leaves);
+    }
+
     -- visits, and a look that changed nothing
     pub served_still : (visits : List Visit) (old mid new : H) → (IsIntact new → IsIntact mid) → IsTakenBack IsIntact IsOpen seen left mid new → HasServedAll IsIntact IsOpen seen left secret visits old mid
         → HasServedAll IsIntact IsOpen seen left secret visits old new
@@ -174,11 +181,15 @@ module _ {H C : Type 0} (IsIntact IsOpen : H → Type 0) (seen : H → Seen) (le
 
     -- ---- a group of one
 
+    or_none : (b : Bool) → (b || false) ≡ b
+    or_none true = refl
+    or_none false = refl
+
     one_served : (operated : Bool) (a b : Option (List Call)) (visit : Visit) (grouped : Grouped) (old new : H) → IsGroup (visit ∷ []) → IsAdmitted operated visit → Logs a b (calls_of (visit ∷ []))
         → CameBy secret (seen old).limits visit → DidBy IsIntact IsOpen seen left shows visit old new → NotedBy visit
-        → grouped.count ≡ 1 → is_stop visit ≡ grouped.stops → grouped.is_shut ≡ is_shut (trouble_of visit)
+        → grouped.count ≡ 1 → is_stop visit ≡ grouped.stops → grouped.sweeps ≡ sweeps visit → grouped.is_shut ≡ is_shut (trouble_of visit)
         → Serves IsIntact IsOpen seen left shows secret operated a b grouped old new
-    one_served operated a b visit grouped old new group admitted calls came did noted count stops shut = (
+    one_served operated a b visit grouped old new group admitted calls came did noted count stops swept shut = (
       visit ∷ [],
       record {
         is = group;
@@ -190,6 +201,7 @@ module _ {H C : Type 0} (IsIntact IsOpen : H → Type 0) (seen : H → Seen) (le
         count = count;
         stopped = λ is. (record { before = []; last = visit; all = refl; going = tt; why = stops ∙ is }, (stop_is_open visit noted (stops ∙ is), tt));
         going = λ is. (stops ∙ is, tt);
+        swept = swept ∙ sym (or_none (sweeps visit));
         shut = λ is. inl (sym shut ∙ is);
         opened = λ is. (sym shut ∙ is, tt);
       },
@@ -198,15 +210,15 @@ module _ {H C : Type 0} (IsIntact IsOpen : H → Type 0) (seen : H → Seen) (le
     pub one_is_served : (operated : Bool) (a b c : Option (List Call)) (caller : Caller) (before after : Ends) (visited : Visited) (grouped : Grouped) (old new : H)
         → (caller ≡ Operator → operated ≡ true) → Logs a b (begins_with caller before) → Logs b c (Closed after visited.served ∷ [])
         → VisitedAs IsIntact IsOpen seen left shows secret caller before after visited old new
-        → grouped.count ≡ 1 → grouped.stops ≡ visited.stops → grouped.is_shut ≡ is_shut visited.served.trouble
+        → grouped.count ≡ 1 → grouped.stops ≡ visited.stops → grouped.sweeps ≡ visited.sweeps → grouped.is_shut ≡ is_shut visited.served.trouble
         → Serves IsIntact IsOpen seen left shows secret operated a c grouped old new
-    one_is_served operated a b c Request before after visited grouped old new admitted began closed (came, going) count stops shut =
+    one_is_served operated a b c Request before after visited grouped old new admitted began closed (came, going, still) count stops swept shut =
         one_served operated a c (OfClient (record { before = before; after = after; served = visited.served; outcome = came.outcome })) grouped old new
-        (tt, omega arith) tt (logs_then a b c (begins_with Request before) (Closed after visited.served ∷ []) began closed) came.came came.did tt count (sym (stops ∙ going)) shut
-    one_is_served operated a b c Operator before after visited grouped old new admitted began closed came count stops shut =
+        (tt, omega arith) tt (logs_then a b c (begins_with Request before) (Closed after visited.served ∷ []) began closed) came.came came.did tt count (sym (stops ∙ going)) (swept ∙ still) shut
+    one_is_served operated a b c Operator before after visited grouped old new admitted began closed came count stops swept shut =
         one_served operated a c (OfOperator (record { before = before; after = after; served = visited.served; heard = came.heard })) grouped old new
         refl (admitted refl) (logs_then a b c (begins_with Operator before) (Closed after visited.served ∷ []) began closed) came.hears came.obeys came.notes count
-        (sym (stops ∙ came.told)) shut
+        (sym (stops ∙ came.told)) (swept ∙ came.swept) shut
 
     -- ---- a group of clients
 
@@ -218,9 +230,9 @@ module _ {H C : Type 0} (IsIntact IsOpen : H → Type 0) (seen : H → Seen) (le
     pub several_served : (operated : Bool) (a b : Option (List Call)) (befores afters : List Ends) (serveds : List Served) (reading : ℕ) (grouped : Grouped) (old new : H)
         → HasServed IsIntact IsOpen seen left befores afters serveds old new → 1 < length befores → length befores ≤ 64 → All (λ (e : Ends). e.reading ≡ reading) befores
         → Logs a b (calls_in befores afters serveds)
-        → grouped.count ≡ length befores → grouped.stops ≡ false → grouped.is_shut ≡ list_any (λ (s : Served). is_shut s.trouble) serveds
+        → grouped.count ≡ length befores → grouped.stops ≡ false → grouped.sweeps ≡ false → grouped.is_shut ≡ list_any (λ (s : Served). is_shut s.trouble) serveds
         → Serves IsIntact IsOpen seen left shows secret operated a b grouped old new
-    several_served operated a b befores afters serveds reading grouped old new (rows, is) some few at calls count stops shut =
+    several_served operated a b befores afters serveds reading grouped old new (rows, is) some few at calls count stops swept shut =
         let P : List Event → List Told → Type 0 = λ es ts. RanOn IsOpen seen left es ts old new in
         let G : List Event → List Told → Type 0 = λ es ts. RunsGoOn IsOpen seen left es ts old new in
         let many : length (clients rows) ≡ length befores = length-map rows (λ (row : Row). OfClient row) ∙ sym (length-map rows (λ (row : Row). row.before)) ∙ ap (λ (l : List Ends). length l) is.befores in
@@ -239,6 +251,7 @@ module _ {H C : Type 0} (IsIntact IsOpen : H → Type 0) (seen : H → Seen) (le
             count = count ∙ sym many;
             stopped = λ yes. absurd (false≢true (sym stops ∙ yes));
             going = λ _. none_stop rows;
+            swept = swept ∙ sym (none_sweep rows);
             shut = λ yes. some_shut rows (sym shuts ∙ yes);
             opened = λ no. all_open rows (sym shuts ∙ no);
           },

@@ -18,7 +18,7 @@ use Rattle.bh_event.specs.Orders.{Instruction, ToDo, ToCopy, ToStop}
 use Rattle.bh_link.specs.Lines.{TookPart}
 use Rattle.bh_connection.specs.Backups.{IsBackedUp}
 use Rattle.bh_connection.specs.Connections.{Ends, EndsAs, IsApplied}
-use Rattle.bh_connection.specs.Operators.{bad_line, line_text, stop_text, CutOff, NotHeard, NoOrder, Obeyed, Copied, Stopping, IsReplied, TookOrder, WasOrdered, is_done_here}
+use Rattle.bh_connection.specs.Operators.{bad_line, line_text, stop_text, CutOff, NotHeard, NoOrder, Obeyed, Copied, Stopping, IsReplied, TookOrder, WasOrdered, is_done_here, is_sweep}
 use Rattle.bh_connection.specs.declared.served.End.TheVariants.{ReadFailed}
 use Rattle.bh_connection.specs.declared.served.Served.{Served}
 
@@ -68,14 +68,14 @@ gives_as a b taken was failed is given = let P : Bool → Type 0 = λ f. Gives a
 
 module _ {H C : Type 0} (IsIntact IsOpen : H → Type 0) (seen : H → Seen) (left : H → Tables → Type 0) (shows : C → Tables → Type 0) (secret : Option (List ℕ)) where
   -- an order was applied
-  pub obeyed : (before after : Ends) (served : Served) (stops : Bool) (taken reply : List ℕ) (order : Option Instruction) (event : Event) (stamp : Option ℕ) (old new : H)
+  pub obeyed : (before after : Ends) (served : Served) (stops sweeps : Bool) (taken reply : List ℕ) (order : Option Instruction) (event : Event) (stamp : Option ℕ) (old new : H)
       → event.reading ≡ before.reading → Some (ToDo event.message) ≡ order → TookOrder secret before.left after.left taken order → Gives before.gave after.gave taken false → after.reader_failed ≡ false
       → IsApplied IsIntact IsOpen seen left event (stamp, reply) old new
       → served.stamp ≡ stamp → Appends before.held after.held (take served.sent (line_text reply))
       → Takes before.took after.took (take served.sent (line_text reply)) after.writer_failed
       → EndsAs served.ended served.sent (line_text reply) after.writer_failed → is_some served.trouble ≡ is_wanting event.reading stamp
-      → stops ≡ false → WasOrdered IsIntact IsOpen seen left shows secret before after served stops old new
-  obeyed before after served stops taken reply order event stamp old new at asks took gave going did is out took_out ended noted flag = record {
+      → stops ≡ false → sweeps ≡ is_sweep event.message → WasOrdered IsIntact IsOpen seen left shows secret before after served stops sweeps old new
+  obeyed before after served stops sweeps taken reply order event stamp old new at asks took gave going did is out took_out ended noted flag swept = record {
     heard = Obeyed event (stamp, reply);
     hears = (
       at,
@@ -87,18 +87,19 @@ module _ {H C : Type 0} (IsIntact IsOpen : H → Type 0) (seen : H → Seen) (le
     );
     notes = noted;
     told = flag;
+    swept = swept;
     obeys = did;
   }
 
   -- a copy was ordered
-  pub copied : (before after : Ends) (served : Served) (stops : Bool) (taken reply to : List ℕ) (old new : H)
+  pub copied : (before after : Ends) (served : Served) (stops sweeps : Bool) (taken reply to : List ℕ) (old new : H)
       → TookOrder secret before.left after.left taken (Some (ToCopy to)) → Gives before.gave after.gave taken false → after.reader_failed ≡ false
       → IsBackedUp IsIntact IsOpen seen left shows reply old new
       → served.stamp ≡ None → Appends before.held after.held (take served.sent (line_text reply))
       → Takes before.took after.took (take served.sent (line_text reply)) after.writer_failed
       → EndsAs served.ended served.sent (line_text reply) after.writer_failed → served.trouble ≡ None
-      → stops ≡ false → WasOrdered IsIntact IsOpen seen left shows secret before after served stops old new
-  copied before after served stops taken reply to old new took gave going did is out took_out ended noted flag = record {
+      → stops ≡ false → sweeps ≡ false → WasOrdered IsIntact IsOpen seen left shows secret before after served stops sweeps old new
+  copied before after served stops sweeps taken reply to old new took gave going did is out took_out ended noted flag swept = record {
     heard = Copied to reply;
     hears = record {
       taken = taken;
@@ -107,17 +108,18 @@ module _ {H C : Type 0} (IsIntact IsOpen : H → Type 0) (seen : H → Seen) (le
     };
     notes = noted;
     told = flag;
+    swept = swept;
     obeys = did;
   }
 
   -- a stop was ordered
-  pub stopping : (before after : Ends) (served : Served) (stops : Bool) (taken : List ℕ) (old new : H)
+  pub stopping : (before after : Ends) (served : Served) (stops sweeps : Bool) (taken : List ℕ) (old new : H)
       → TookOrder secret before.left after.left taken (Some ToStop) → Gives before.gave after.gave taken false → after.reader_failed ≡ false → new ≡ old
       → served.stamp ≡ None → Appends before.held after.held (take served.sent (line_text stop_text))
       → Takes before.took after.took (take served.sent (line_text stop_text)) after.writer_failed
       → EndsAs served.ended served.sent (line_text stop_text) after.writer_failed → served.trouble ≡ None
-      → stops ≡ true → WasOrdered IsIntact IsOpen seen left shows secret before after served stops old new
-  stopping before after served stops taken old new took gave going same is out took_out ended noted flag = record {
+      → stops ≡ true → sweeps ≡ false → WasOrdered IsIntact IsOpen seen left shows secret before after served stops sweeps old new
+  stopping before after served stops sweeps taken old new took gave going same is out took_out ended noted flag swept = record {
     heard = Stopping;
     hears = record {
       taken = taken;
@@ -126,41 +128,42 @@ module _ {H C : Type 0} (IsIntact IsOpen : H → Type 0) (seen : H → Seen) (le
     };
     notes = noted;
     told = flag;
+    swept = swept;
     obeys = same;
   }
 
   -- nothing was ordered that is done here
-  pub not_ordered : (before after : Ends) (served : Served) (stops : Bool) (taken reply : List ℕ) (order : Option Instruction) (old new : H)
+  pub not_ordered : (before after : Ends) (served : Served) (stops sweeps : Bool) (taken reply : List ℕ) (order : Option Instruction) (old new : H)
       → is_done_here order ≡ false → TookOrder secret before.left after.left taken order → Gives before.gave after.gave taken false → after.reader_failed ≡ false → new ≡ old → reply ≡ bad_line
       → served.stamp ≡ None → Appends before.held after.held (take served.sent (line_text reply))
       → Takes before.took after.took (take served.sent (line_text reply)) after.writer_failed
       → EndsAs served.ended served.sent (line_text reply) after.writer_failed → served.trouble ≡ None
-      → stops ≡ false → WasOrdered IsIntact IsOpen seen left shows secret before after served stops old new
-  not_ordered before after served stops taken reply order old new elsewhere took gave going same text is out took_out ended noted flag =
+      → stops ≡ false → sweeps ≡ false → WasOrdered IsIntact IsOpen seen left shows secret before after served stops sweeps old new
+  not_ordered before after served stops sweeps taken reply order old new elsewhere took gave going same text is out took_out ended noted flag swept =
       let P : List ℕ → Type 0 = λ r. IsReplied before after served taken (None, r) in
       let replied : P reply = record { consumed = took.consumed; short = took.short; stamp = is; out = out; ended = ended; gave = gave; took = took_out; reader = going } in
-      record { heard = NoOrder; hears = (order, elsewhere, record { taken = taken; replied = subst P text replied; is = took.is }); notes = noted; told = flag; obeys = same }
+      record { heard = NoOrder; hears = (order, elsewhere, record { taken = taken; replied = subst P text replied; is = took.is }); notes = noted; told = flag; swept = swept; obeys = same }
 
   -- memory was wanting before it was known what is ordered
-  pub not_heard : (before after : Ends) (served : Served) (stops : Bool) (taken reply : List ℕ) (old new : H)
+  pub not_heard : (before after : Ends) (served : Served) (stops sweeps : Bool) (taken reply : List ℕ) (old new : H)
       → TookPart before.left after.left taken → Gives before.gave after.gave taken after.reader_failed → after.reader_failed ≡ false → new ≡ old → reply ≡ wanting_text Operator
       → served.stamp ≡ None → Appends before.held after.held (take served.sent (line_text reply))
       → Takes before.took after.took (take served.sent (line_text reply)) after.writer_failed
       → EndsAs served.ended served.sent (line_text reply) after.writer_failed → served.trouble ≡ Some Memory
-      → stops ≡ false → WasOrdered IsIntact IsOpen seen left shows secret before after served stops old new
-  not_heard before after served stops taken reply old new took given going same text is out took_out ended noted flag =
+      → stops ≡ false → sweeps ≡ false → WasOrdered IsIntact IsOpen seen left shows secret before after served stops sweeps old new
+  not_heard before after served stops sweeps taken reply old new took given going same text is out took_out ended noted flag swept =
       let gave : Gives before.gave after.gave taken false = gives_as before.gave after.gave taken after.reader_failed false going given in
       let P : List ℕ → Type 0 = λ r. IsReplied before after served taken (None, r) in
       let replied : P reply = record { consumed = took.consumed; short = took.short; stamp = is; out = out; ended = ended; gave = gave; took = took_out; reader = going } in
-      record { heard = NotHeard; hears = (taken, subst P text replied); notes = noted; told = flag; obeys = same }
+      record { heard = NotHeard; hears = (taken, subst P text replied); notes = noted; told = flag; swept = swept; obeys = same }
 
   -- the reader failed
-  pub cut_off : (before after : Ends) (served : Served) (stops : Bool) (taken : List ℕ) (old new : H)
+  pub cut_off : (before after : Ends) (served : Served) (stops sweeps : Bool) (taken : List ℕ) (old new : H)
       → TookPart before.left after.left taken → Gives before.gave after.gave taken after.reader_failed → after.reader_failed ≡ true → after.writer_failed ≡ false
       → after.held ≡ before.held → after.took ≡ before.took → new ≡ old
       → served.ended ≡ ReadFailed → served.stamp ≡ None → served.sent ≡ 0 → served.trouble ≡ None
-      → stops ≡ false → WasOrdered IsIntact IsOpen seen left shows secret before after served stops old new
-  cut_off before after served stops taken old new took given failed going kept untaken same ended stamp sent noted flag =
+      → stops ≡ false → sweeps ≡ false → WasOrdered IsIntact IsOpen seen left shows secret before after served stops sweeps old new
+  cut_off before after served stops sweeps taken old new took given failed going kept untaken same ended stamp sent noted flag swept =
       let gave : Gives before.gave after.gave taken true = gives_as before.gave after.gave taken after.reader_failed true failed given in
       let K : Option (List ℕ) → Type 0 = λ h. Keeps before.held h in
       record {
@@ -180,6 +183,7 @@ module _ {H C : Type 0} (IsIntact IsOpen : H → Type 0) (seen : H → Seen) (le
         };
         notes = noted;
         told = flag;
+        swept = swept;
         obeys = same;
       }
     where

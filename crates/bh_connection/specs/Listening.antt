@@ -1,7 +1,7 @@
 -- The visits of an acceptor, in groups that are served together.
 use Rattle.std.specs.Prelude.{◌≡◌, ◌⊎◌, ◌<◌, ◌≤◌, ℕ, Bool, true, false, List, [], ◌∷◌, ◌++◌, length, filter_map, All, Option, Some, Result}
 use Rattle.std.specs.Prelude.{MatchResult, option_map, option_and_then}
-use Rattle.std.specs.List.{flat_map}
+use Rattle.std.specs.List.{flat_map, list_any}
 use Rattle.bh_tables.specs.Typed.{Tables}
 use Rattle.bh_storage.specs.Calls.{Seen}
 use Rattle.bh_storage.specs.declared.error.Trouble.{Trouble}
@@ -16,7 +16,7 @@ use Rattle.bh_connection.specs.Each.{RunsGoOn}
 use Rattle.bh_connection.specs.Operators.{WasOrdered}
 use Rattle.bh_connection.specs.Groups.{Call, IsFault, IsGroup, calls_of, in_groups}
 use Rattle.bh_connection.specs.Visits.{Visit, OfClient, OfOperator, AllCame, AllAdmitted, DidBy}
-use Rattle.bh_connection.specs.Visits.{NoneStops, is_stop, event_of, told_of}
+use Rattle.bh_connection.specs.Visits.{NoneStops, is_stop, sweeps, event_of, told_of}
 use Rattle.bh_connection.specs.declared.group.Grouped.{Grouped}
 use Rattle.bh_connection.specs.declared.listener.Ports.{Ports}
 use Rattle.bh_connection.specs.declared.served.Visited.{Visited}
@@ -72,12 +72,12 @@ WereEnough count visits = ((length visits ≡ count) × NoneStops visits) ⊎ ((
 
 module _ {H C : Type 0} (IsIntact IsOpen : H → Type 0) (seen : H → Seen) (left : H → Tables → Type 0) (shows : C → Tables → Type 0)
     (secret : Option (List ℕ)) where
-  -- one was served by its caller's kind; a client's is no stop
+  -- one was served by its caller's kind; a client's is no stop and no sweep
   abbrev pub VisitedAs : Caller → Ends → Ends → Visited → H → H → Type 0
   VisitedAs Request before after visited old new =
-      CameTo IsIntact IsOpen seen left before after visited.served old new × (visited.stops ≡ false)
+      CameTo IsIntact IsOpen seen left before after visited.served old new × (visited.stops ≡ false) × (visited.sweeps ≡ false)
   VisitedAs Operator before after visited old new =
-      WasOrdered IsIntact IsOpen seen left shows secret before after visited.served visited.stops old new
+      WasOrdered IsIntact IsOpen seen left shows secret before after visited.served visited.stops visited.sweeps old new
 
 -- ---- visits in turn
 
@@ -132,6 +132,7 @@ module _ {H C : Type 0} (IsIntact IsOpen : H → Type 0) (seen : H → Seen) (le
     pub count : grouped.count ≡ length group
     pub stopped : grouped.stops ≡ true → HasStopped group × AllOpen group
     pub going : grouped.stops ≡ false → NoneStops group
+    pub swept : grouped.sweeps ≡ list_any sweeps group
     pub shut : grouped.is_shut ≡ true → SomeShut group
     pub opened : grouped.is_shut ≡ false → AllOpen group
 

@@ -2,7 +2,7 @@
 use Rattle.std.specs.Prelude.{◌≡◌, ◌≤◌, ℕ, Bool, true, false, List, [], ◌∷◌, ◌++◌, codes, is_some, length, take, Option, Some, None}
 use Rattle.std.specs.Prelude.{option_and_then}
 use Rattle.std.specs.Io.KnownBytes.{Appends, Consumes, Keeps}
-use Rattle.bh_event.specs.Events.{Arrival as Event}
+use Rattle.bh_event.specs.Events.{Arrival as Event, Message, Requested, Ordered, SweepOrdered, ReportOrdered, TenantsOrdered}
 use Rattle.bh_tables.specs.Typed.{Tables}
 use Rattle.bh_storage.specs.Calls.{Seen}
 use Rattle.bh_storage.specs.declared.error.Trouble.{Trouble}
@@ -72,6 +72,23 @@ is_stopping NoOrder = false
 is_stopping (Obeyed event told) = false
 is_stopping (Copied to reply) = false
 is_stopping Stopping = true
+
+-- what is ordered is a sweep
+abbrev pub is_sweep : Message → Bool
+is_sweep (Requested bytes) = false
+is_sweep (Ordered order) = false
+is_sweep (SweepOrdered limit) = true
+is_sweep ReportOrdered = false
+is_sweep TenantsOrdered = false
+
+-- whether a sweep was carried out, or tried
+abbrev pub is_sweeping : Heard → Bool
+is_sweeping CutOff = false
+is_sweeping NotHeard = false
+is_sweeping NoOrder = false
+is_sweeping (Obeyed event told) = is_sweep event.message
+is_sweeping (Copied to reply) = false
+is_sweeping Stopping = false
 
 -- ---- its ends
 
@@ -143,12 +160,13 @@ Obeys IsIntact IsOpen seen left shows (Obeyed event told) old new = IsApplied Is
 Obeys IsIntact IsOpen seen left shows (Copied to reply) old new = IsBackedUp IsIntact IsOpen seen left shows reply old new
 Obeys IsIntact IsOpen seen left shows Stopping old new = new ≡ old
 
--- `stops` tells whether serving is to end
+-- `stops` tells whether serving is to end, and `sweeps` whether a sweep was ordered
 pub record WasOrdered {H C : Type 0} (IsIntact IsOpen : H → Type 0) (seen : H → Seen) (left : H → Tables → Type 0)
-    (shows : C → Tables → Type 0) (secret : Option (List ℕ)) (before after : Ends) (served : Served) (stops : Bool)
+    (shows : C → Tables → Type 0) (secret : Option (List ℕ)) (before after : Ends) (served : Served) (stops sweeps : Bool)
     (old new : H) : Type 0 where
   pub heard : Heard
   pub hears : Hears secret before after served heard
   pub notes : Notes heard served.trouble
   pub told : stops ≡ is_stopping heard
+  pub swept : sweeps ≡ is_sweeping heard
   pub obeys : Obeys IsIntact IsOpen seen left shows heard old new

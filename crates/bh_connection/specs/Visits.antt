@@ -9,6 +9,7 @@ use Rattle.bh_connection.specs.Connections.{Ends, Came, Did}
 use Rattle.bh_connection.specs.Each as each
 use Rattle.bh_connection.specs.Each.{Row, RanSome}
 use Rattle.bh_connection.specs.Operators.{Heard, CutOff, NotHeard, NoOrder, Obeyed, Copied, Stopping, Hears, Notes, Obeys, is_stopping}
+use Rattle.bh_connection.specs.Operators.{is_sweeping}
 use Rattle.bh_connection.specs.declared.doors.Operators.{Operators}
 use Rattle.bh_connection.specs.declared.served.Served.{Served}
 
@@ -67,7 +68,12 @@ abbrev pub is_stop : Visit → Bool
 is_stop (OfClient row) = false
 is_stop (OfOperator row) = is_stopping row.heard
 
--- none of these is such a line
+-- one whose order is to sweep
+abbrev pub sweeps : Visit → Bool
+sweeps (OfClient row) = false
+sweeps (OfOperator row) = is_sweeping row.heard
+
+-- none of these is a line to stop
 abbrev pub NoneStops : List Visit → Type 0
 NoneStops [] = Unit {0}
 NoneStops (visit ∷ visits) = (is_stop visit ≡ false) × NoneStops visits

@@ -22,7 +22,8 @@ pub struct CacheUses {
     pub misses: u64,
 }
 
-/// A storage that can be copied to a new file, and tells how many bytes nobody needs.
+/// A storage that can be copied to a new file, and tells how many bytes nobody needs. Its packs are files
+/// beside its tables.
 pub trait BackUp: Storage {
     /// A copy.
     type Copy: Drop;
@@ -58,6 +59,16 @@ pub trait BackUp: Storage {
         ensures limits { (Self.seen self.new).limits ≡ (Self.seen self.old).limits }
         ensures lost { lost self.new ≡ lost self.old }
         ensures counted { IfSome result (λ n. Clean Self.IsIntact Self.IsOpen self.new → n ≡ unneeded_of (Self.seen self.old).now) };
+
+    /// Removes packs of which no byte is named any more, as after a sweep, and returns how many. No
+    /// table shows it. `None` if memory or the store failed: the cause is on standard error.
+    fn drop_packs(&mut self) -> Option<u64>
+        requires { Clean Self.IsIntact Self.IsOpen self.old → IsAtRest Self.IsSoundStore (Self.seen self.old) }
+        ensures intact { Self.IsIntact self.new → Self.IsIntact self.old }
+        ensures stays { IsTakenBack Self.IsIntact Self.IsOpen Self.seen Self.left self.old self.new }
+        ensures ready { Clean Self.IsIntact Self.IsOpen self.new → IsAtRest Self.IsSoundStore (Self.seen self.new) }
+        ensures limits { (Self.seen self.new).limits ≡ (Self.seen self.old).limits }
+        ensures lost { lost self.new ≡ lost self.old };
 }
 
 /// Copies a storage, and returns the reply.

@@ -38,6 +38,8 @@ pub(crate) struct Grouped {
     pub(crate) count: u64,
     /// Whether it was an operator's line whose order is to stop.
     pub(crate) stops: bool,
+    /// Whether it was one whose order is to sweep.
+    pub(crate) sweeps: bool,
     /// Whether the store was found shut for one of them.
     pub(crate) is_shut: bool,
 }
@@ -187,6 +189,7 @@ fn serve_one<H: BackUp, A: Acceptor>(
     Grouped {
         count: 1,
         stops: visited.stops,
+        sweeps: visited.sweeps,
         is_shut: is_shut(visited.served.trouble),
     }
 }
@@ -261,6 +264,7 @@ fn serve_several<H: BackUp, A: Acceptor>(
     Grouped {
         count: serveds.len() as u64,
         stops: false,
+        sweeps: false,
         is_shut: any_shut(serveds.as_slice()),
     }
 }

@@ -1,4 +1,4 @@
-ghost use Rattle.std.specs.Prelude.{◌≡◌, is_some, option_map};
+ghost use Rattle.std.specs.Prelude.{◌≡◌, false, is_some, option_map};
 ghost use Rattle.bh_storage.specs.Calls.{Clean, IsAtRest};
 ghost use Rattle.bh_host.specs.Resting.{StaysAtRest};
 ghost use Rattle.bh_connection.specs.Connections.{IsTakenBack};
@@ -163,7 +163,8 @@ pub fn serve_listener<E: Eprint + AllocGlobal, H: BackUp, C: Clock>(
 /// are whole at the same moment and share a transaction. A client's is served as a request, an
 /// operator's as a line, which begins with the secret if there is one. The clock is read after the
 /// first accept of a group, and its connections are closed before the next accept. Before each group
-/// the acceptor is told how many bytes nobody needs, if it wants to know. A fault of an
+/// the acceptor is told how many bytes nobody needs, if it wants to know, and after a sweep packs of which
+/// nothing is named are removed. A fault of an
 /// accept or of the clock ends it, and nothing is done after it. So does a backup over which the
 /// host is lost, once it was answered, and the first group with a reply for which the store is
 /// found shut: whoever opens the host again has all that was acknowledged. An operator's stop ends
@@ -184,10 +185,12 @@ pub fn serve_from<H: BackUp, A: Acceptor>(
         (A.operated acceptor.old) H.lost (A.calls acceptor.old) (A.calls acceptor.new) count result host.old host.new }
 {
     let mut served: u64 = 0;
+    let mut swept = false;
     'groups: while served < count {
-        tell_count(host, acceptor);
+        prepare(host, acceptor, swept);
         let group = serve_group(alloc, routes, host, acceptor, secret, count - served)?;
         served += group.count;
+        swept = group.sweeps;
         if group.stops {
             return Ok(());
         }
@@ -199,6 +202,34 @@ pub fn serve_from<H: BackUp, A: Acceptor>(
         }
     }
     Ok(())
+}
+
+/// Done before each group. Packs that a sweep may have left without a byte that is named are removed, and the
+/// acceptor is told what [`tell_count`] tells.
+fn prepare<H: BackUp, A: Acceptor>(host: &mut H, acceptor: &mut A, swept: bool)
+    requires { Clean H.IsIntact H.IsOpen host.old → IsAtRest H.IsSoundStore (H.seen host.old) }
+    ensures rest { StaysAtRest H.IsIntact H.IsOpen H.IsSoundStore H.seen H.left host.old host.new }
+    ensures stays { IsTakenBack H.IsIntact H.IsOpen H.seen H.left host.old host.new }
+    ensures lost { H.lost host.new ≡ H.lost host.old }
+    ensures calls { A.calls acceptor.new ≡ A.calls acceptor.old }
+    ensures operated { A.operated acceptor.new ≡ A.operated acceptor.old }
+{
+    drop_after(host, swept);
+    tell_count(host, acceptor);
+}
+
+/// After a sweep, removes packs of which nothing is named any more. A row that couldn't be deleted is tried
+/// again after the next one.
+pub fn drop_after<H: BackUp>(host: &mut H, swept: bool)
+    requires { Clean H.IsIntact H.IsOpen host.old → IsAtRest H.IsSoundStore (H.seen host.old) }
+    ensures rest { StaysAtRest H.IsIntact H.IsOpen H.IsSoundStore H.seen H.left host.old host.new }
+    ensures stays { IsTakenBack H.IsIntact H.IsOpen H.seen H.left host.old host.new }
+    ensures lost { H.lost host.new ≡ H.lost host.old }
+    ensures still { swept ≡ false → host.new ≡ host.old }
+{
+    if swept {
+        let _ = host.drop_packs();
+    }
 }
 
 /// Tells an acceptor how the cache was used, and how many bytes nobody needs if it wants to know. It

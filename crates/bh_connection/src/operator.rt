@@ -2,18 +2,19 @@ ghost use Rattle.std.specs.Prelude.{◌≡◌, ◌≤◌, ◌<◌, ◌+◌, ◌�
 ghost use Rattle.std.specs.Io.KnownBytes.{Appends};
 ghost use Rattle.bh_storage.specs.Calls.{Clean, IsAtRest};
 ghost use Rattle.bh_tables.specs.Typed.{Tables};
-ghost use Rattle.bh_event.specs.Orders.{instruction_of};
+ghost use Rattle.bh_event.specs.Orders.{instruction_of, message_of};
 ghost use Rattle.bh_http.specs.Transfers.{Gives, Takes};
 ghost use Rattle.bh_host.specs.Resting.{StaysAtRest};
 ghost use Rattle.bh_connection.specs.Connections.{ends_of, EndsAs};
 ghost use Rattle.bh_link.specs.Lines.{TookPart};
 ghost use Rattle.bh_link.specs.Taking.{is_fault};
 ghost use Rattle.bh_connection.specs.Operators.{line_text, TookOrder, WasOrdered};
+ghost use Rattle.bh_connection.specs.Operators as spec;
 
 use crate::backup::{BackUp, backup_reply};
 use crate::served::{End, Served, Visited};
 use bh_event::operator::order_of_line;
-use bh_event::order::Order;
+use bh_event::order::{HostOrder, Order};
 use bh_host::{Caller, Reply, apply};
 use bh_link::ends::{Sink, Source};
 use bh_link::line::take_line;
@@ -79,21 +80,22 @@ pub fn serve_line<H: BackUp, R: Source, W: Sink>(
     ensures ordered { WasOrdered H.IsIntact H.IsOpen H.seen H.left H.shows (option_map (λ s. s.now) secret.entry)
         (ends_of R.remaining R.transfers W.contents W.transfers reading reader.old writer.old)
         (ends_of R.remaining R.transfers W.contents W.transfers reading reader.new writer.new) result.served result.stops
-        host.old host.new }
+        result.sweeps host.old host.new }
     ensures untouched { result.served.ended ≡ End.ReadFailed → host.new ≡ host.old }
     ensures acknowledged { IfSome result.served.stamp (λ _. H.IsIntact host.new
         → (x : Tables) → H.left host.new x → x ≡ (H.seen host.new).now) }
 {
     match take_order(alloc, secret, reader) {
         Ok(Some(Order::Host(order))) => {
+            let sweeps = is_sweep(&order);
             let event = order.at(reading);
             let told = apply(alloc, routes, host, &event);
-            Visited::going_on(answer_line(
-                writer,
-                told.stamp,
-                told.reply.bytes(),
-                told.reply.trouble(),
-            ))
+            let reply = &told.reply;
+            Visited {
+                served: answer_line(writer, told.stamp, reply.bytes(), reply.trouble()),
+                stops: false,
+                sweeps,
+            }
         }
         Ok(Some(Order::Backup { to })) => {
             let reply = backup_reply(host, to.as_str());
@@ -102,6 +104,7 @@ pub fn serve_line<H: BackUp, R: Source, W: Sink>(
         Ok(Some(Order::Stop)) => Visited {
             served: answer_line(writer, None, STOP, None),
             stops: true,
+            sweeps: false,
         },
         Ok(Some(Order::Server(_))) => {
             Visited::going_on(answer_line(writer, None, BAD_LINE, None))
@@ -118,6 +121,13 @@ pub fn serve_line<H: BackUp, R: Source, W: Sink>(
             trouble: None,
         }),
     }
+}
+
+/// Whether an order is to sweep.
+pub fn is_sweep(order: &HostOrder) -> bool
+    ensures { result ≡ spec.is_sweep (message_of order.now) }
+{
+    matches!(order, HostOrder::Sweep { .. })
 }
 
 /// Writes a reply and a line feed.

@@ -1,6 +1,5 @@
 -- A call on a host that is kept is one on it.
-use Rattle.bh_shelf.specs.declared.no_shelf.NoShelf.{NoShelf}
-use Rattle.bh_base.specs.Connections.{without_packs}
+use Rattle.bh_shelf.specs.declared.shelf.Shelf.{Ghosts as Shelves}
 use Rattle.std.proofs.Common.{◌≡◌, ℕ, Option, Some, IfSome, Result, OnOk, sym, subst}
 use Rattle.sqlite_disk.specs.declared.Disk.{Ghosts}
 use Rattle.sqlite_store.specs.declared.store.FileStore.{FileStore}
@@ -25,50 +24,50 @@ use Rattle.bh_kept.specs.declared.host.BlockSize as size
 use Rattle.bh_kept.specs.declared.host.KeptHost.{KeptHost}
 
 -- the host before a call and after it, and what it holds
-module _ {D G K : Type 0} {g : Ghosts D} {d : digester.Ghosts G} {k : size.Ghosts K} (old new : KeptHost D G K g d k) (a b : RecallingStorage (FileStore D g) NoShelf G) (was : old.storage ≡ Some a) (is : new.storage ≡ Some b) where
-  both_kept : (P : Option (RecallingStorage (FileStore D g) NoShelf G) → Option (RecallingStorage (FileStore D g) NoShelf G) → Type 0) → P (Some a) (Some b) → P old.storage new.storage
-  both_kept P h = subst (λ o. P o new.storage) (sym was) (subst (λ n. P (Some a) n) (sym is) h)
+module _ {D P G K : Type 0} {g : Ghosts D} {p : Shelves P} {d : digester.Ghosts G} {k : size.Ghosts K} (old new : KeptHost D P G K g p d k) (a b : RecallingStorage (FileStore D g) P G) (was : old.storage ≡ Some a) (is : new.storage ≡ Some b) where
+  both_kept : (Q : Option (RecallingStorage (FileStore D g) P G) → Option (RecallingStorage (FileStore D g) P G) → Type 0) → Q (Some a) (Some b) → Q old.storage new.storage
+  both_kept Q h = subst (λ o. Q o new.storage) (sym was) (subst (λ n. Q (Some a) n) (sym is) h)
 
-  pub within_kept : Within (λ (h : RecallingStorage (FileStore D g) NoShelf G). storage.IsIntact over_files without_packs h.storage.host) (λ h. storage.IsOpen over_files without_packs h.storage.host) (λ h. recalling.seen over_files without_packs h) (λ h. storage.left over_files without_packs h.storage.host) a b
-      → Within (λ (h : KeptHost D G K g d k). kept.IsIntact h.storage) (λ h. kept.IsOpen h.storage) (λ h. kept.seen h.limits h.storage) (λ h. kept.left h.storage) old new
+  pub within_kept : Within (λ (h : RecallingStorage (FileStore D g) P G). storage.IsIntact over_files p h.storage.host) (λ h. storage.IsOpen over_files p h.storage.host) (λ h. recalling.seen over_files p h) (λ h. storage.left over_files p h.storage.host) a b
+      → Within (λ (h : KeptHost D P G K g p d k). kept.IsIntact p h.storage) (λ h. kept.IsOpen p h.storage) (λ h. kept.seen p h.limits h.storage) (λ h. kept.left p h.storage) old new
   within_kept w = record {
-    intact = both_kept (λ o n. kept.IsIntact n → kept.IsIntact o) w.intact;
-    opened = both_kept (λ o n. kept.IsIntact n → kept.IsOpen n → kept.IsOpen o) w.opened;
-    survives = both_kept (λ o n. kept.IsOpen o → kept.IsIntact n → (x : Tables) → kept.left n x → kept.left o x) w.survives;
-    kept = both_kept (λ o n. kept.IsIntact n × kept.IsOpen n → (kept.seen new.limits n).kept ≡ (kept.seen old.limits o).kept) w.kept;
-    limits = both_kept (λ o n. (kept.seen new.limits n).limits ≡ (kept.seen old.limits o).limits) w.limits;
+    intact = both_kept (λ o n. kept.IsIntact p n → kept.IsIntact p o) w.intact;
+    opened = both_kept (λ o n. kept.IsIntact p n → kept.IsOpen p n → kept.IsOpen p o) w.opened;
+    survives = both_kept (λ o n. kept.IsOpen p o → kept.IsIntact p n → (x : Tables) → kept.left p n x → kept.left p o x) w.survives;
+    kept = both_kept (λ o n. kept.IsIntact p n × kept.IsOpen p n → (kept.seen p new.limits n).kept ≡ (kept.seen p old.limits o).kept) w.kept;
+    limits = both_kept (λ o n. (kept.seen p new.limits n).limits ≡ (kept.seen p old.limits o).limits) w.limits;
   }
 
   pub at_work_kept : (IsSound : Tables → Type 0) (Done : Type 0 → Type 0)
-      → StaysAtWork (λ (h : RecallingStorage (FileStore D g) NoShelf G). storage.IsIntact over_files without_packs h.storage.host) (λ h. storage.IsOpen over_files without_packs h.storage.host) IsSound (λ h. recalling.seen over_files without_packs h) (λ h. storage.left over_files without_packs h.storage.host) Done a b
-      → StaysAtWork (λ (h : KeptHost D G K g d k). kept.IsIntact h.storage) (λ h. kept.IsOpen h.storage) IsSound (λ h. kept.seen h.limits h.storage) (λ h. kept.left h.storage) Done old new
+      → StaysAtWork (λ (h : RecallingStorage (FileStore D g) P G). storage.IsIntact over_files p h.storage.host) (λ h. storage.IsOpen over_files p h.storage.host) IsSound (λ h. recalling.seen over_files p h) (λ h. storage.left over_files p h.storage.host) Done a b
+      → StaysAtWork (λ (h : KeptHost D P G K g p d k). kept.IsIntact p h.storage) (λ h. kept.IsOpen p h.storage) IsSound (λ h. kept.seen p h.limits h.storage) (λ h. kept.left p h.storage) Done old new
   at_work_kept IsSound Done s = record {
     within = within_kept s.within;
-    opens = both_kept (λ o n. Done (kept.IsOpen o → kept.IsIntact n → kept.IsOpen n)) s.opens;
-    working = both_kept (λ o n. Done (kept.IsIntact n × kept.IsOpen n → IsWorking IsSound (kept.seen new.limits n))) s.working;
+    opens = both_kept (λ o n. Done (kept.IsOpen p o → kept.IsIntact p n → kept.IsOpen p n)) s.opens;
+    working = both_kept (λ o n. Done (kept.IsIntact p n × kept.IsOpen p n → IsWorking IsSound (kept.seen p new.limits n))) s.working;
   }
 
-  pub back_kept : IsTakenBack (λ (h : RecallingStorage (FileStore D g) NoShelf G). storage.IsIntact over_files without_packs h.storage.host) (λ h. storage.IsOpen over_files without_packs h.storage.host) (λ h. recalling.seen over_files without_packs h) (λ h. storage.left over_files without_packs h.storage.host) a b
-      → IsTakenBack (λ (h : KeptHost D G K g d k). kept.IsIntact h.storage) (λ h. kept.IsOpen h.storage) (λ h. kept.seen h.limits h.storage) (λ h. kept.left h.storage) old new
+  pub back_kept : IsTakenBack (λ (h : RecallingStorage (FileStore D g) P G). storage.IsIntact over_files p h.storage.host) (λ h. storage.IsOpen over_files p h.storage.host) (λ h. recalling.seen over_files p h) (λ h. storage.left over_files p h.storage.host) a b
+      → IsTakenBack (λ (h : KeptHost D P G K g p d k). kept.IsIntact p h.storage) (λ h. kept.IsOpen p h.storage) (λ h. kept.seen p h.limits h.storage) (λ h. kept.left p h.storage) old new
   back_kept t = record {
-    same = both_kept (λ o n. kept.IsIntact n → kept.IsOpen n → kept.IsOpen o × ((kept.seen new.limits n).now ≡ (kept.seen old.limits o).now)) t.same;
-    survives = both_kept (λ o n. kept.IsIntact n → (x : Tables) → kept.left n x → kept.left o x) t.survives;
+    same = both_kept (λ o n. kept.IsIntact p n → kept.IsOpen p n → kept.IsOpen p o × ((kept.seen p new.limits n).now ≡ (kept.seen p old.limits o).now)) t.same;
+    survives = both_kept (λ o n. kept.IsIntact p n → (x : Tables) → kept.left p n x → kept.left p o x) t.survives;
   }
 
   -- what it says of the tables before it and after it
-  pub says_kept : (Says : Tables → Tables → Type 0) → (storage.IsIntact over_files without_packs b.storage.host × storage.IsOpen over_files without_packs b.storage.host → Says (recalling.seen over_files without_packs a).now (recalling.seen over_files without_packs b).now)
-      → kept.IsIntact new.storage × kept.IsOpen new.storage → Says (kept.seen old.limits old.storage).now (kept.seen new.limits new.storage).now
-  says_kept Says h = both_kept (λ o n. kept.IsIntact n × kept.IsOpen n → Says (kept.seen old.limits o).now (kept.seen new.limits n).now) h
+  pub says_kept : (Says : Tables → Tables → Type 0) → (storage.IsIntact over_files p b.storage.host × storage.IsOpen over_files p b.storage.host → Says (recalling.seen over_files p a).now (recalling.seen over_files p b).now)
+      → kept.IsIntact p new.storage × kept.IsOpen p new.storage → Says (kept.seen p old.limits old.storage).now (kept.seen p new.limits new.storage).now
+  says_kept Says h = both_kept (λ o n. kept.IsIntact p n × kept.IsOpen p n → Says (kept.seen p old.limits o).now (kept.seen p new.limits n).now) h
 
-module _ {D G K : Type 0} {g : Ghosts D} {d : digester.Ghosts G} {k : size.Ghosts K} (old : KeptHost D G K g d k) (a b : RecallingStorage (FileStore D g) NoShelf G) (was : old.storage ≡ Some a) where
-  pub opens_kept : {X E : Type 0} (result : Result X E) (B : Type 0) → OnOk result (storage.IsOpen over_files without_packs a.storage.host → B) → OnOk result (kept.IsOpen old.storage → B)
-  opens_kept result B h = subst (λ o. OnOk result (kept.IsOpen o → B)) (sym was) h
+module _ {D P G K : Type 0} {g : Ghosts D} {p : Shelves P} {d : digester.Ghosts G} {k : size.Ghosts K} (old : KeptHost D P G K g p d k) (a b : RecallingStorage (FileStore D g) P G) (was : old.storage ≡ Some a) where
+  pub opens_kept : {X E : Type 0} (result : Result X E) (B : Type 0) → OnOk result (storage.IsOpen over_files p a.storage.host → B) → OnOk result (kept.IsOpen p old.storage → B)
+  opens_kept result B h = subst (λ o. OnOk result (kept.IsOpen p o → B)) (sym was) h
 
   pub cuts_kept : {X E : Type 0} (digest : Octets → Octets) (size : ℕ) (operation : Operation) (before after : Coming) (result : Result (Outcome X E) (StepError E))
-      → CutsBody over_files without_packs digest size operation before after a.storage.host.connection b.storage.host.connection result → Cuts digest size operation before after old.storage (Some b) result
+      → CutsBody over_files p digest size operation before after a.storage.host.connection b.storage.host.connection result → Cuts p digest size operation before after old.storage (Some b) result
   cuts_kept digest size operation before after result h =
-      subst (λ o. IfSome o (λ (a : RecallingStorage (FileStore D g) NoShelf G). CutsBody over_files without_packs digest size operation before after a.storage.host.connection b.storage.host.connection result)) (sym was) h
+      subst (λ o. IfSome o (λ (a : RecallingStorage (FileStore D g) P G). CutsBody over_files p digest size operation before after a.storage.host.connection b.storage.host.connection result)) (sym was) h
 
 -- a host that was closed and opened again with its settings has them
-pub tuned_kept : {D G : Type 0} {g : Ghosts D} (was : Option (RecallingStorage (FileStore D g) NoShelf G)) (a : RecallingStorage (FileStore D g) NoShelf G) (tuning : HostTuning) → was ≡ Some a → tuning ≡ a.storage.host.cache.tuning → IfSome was (λ it. tuning ≡ it.storage.host.cache.tuning)
-tuned_kept {D} {G} {g} was a tuning is same = subst (λ o. IfSome o (λ (it : RecallingStorage (FileStore D g) NoShelf G). tuning ≡ it.storage.host.cache.tuning)) (sym is) same
+pub tuned_kept : {D P G : Type 0} {g : Ghosts D} (was : Option (RecallingStorage (FileStore D g) P G)) (a : RecallingStorage (FileStore D g) P G) (tuning : HostTuning) → was ≡ Some a → tuning ≡ a.storage.host.cache.tuning → IfSome was (λ it. tuning ≡ it.storage.host.cache.tuning)
+tuned_kept {D} {P} {G} {g} was a tuning is same = subst (λ o. IfSome o (λ (it : RecallingStorage (FileStore D g) P G). tuning ≡ it.storage.host.cache.tuning)) (sym is) same

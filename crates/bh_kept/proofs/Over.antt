@@ -1,6 +1,5 @@
 -- What a storage shows and leaves of the host beneath it.
-use Rattle.bh_shelf.specs.declared.no_shelf.NoShelf.{NoShelf}
-use Rattle.bh_base.specs.Connections.{without_packs}
+use Rattle.bh_shelf.specs.declared.shelf.Shelf.{Ghosts as Shelves}
 use Rattle.std.proofs.Common.{◌≡◌, Option, Some, sym, subst}
 use Rattle.std.specs.Prelude.{◌↔◌}
 use Rattle.sqlite_disk.specs.declared.Disk.{Ghosts}
@@ -21,19 +20,19 @@ use Rattle.bh_kept.specs.Over.{StandsOver}
 use Rattle.bh_kept.specs.declared.host.BlockSize as size
 use Rattle.bh_kept.specs.declared.host.KeptHost.{KeptHost}
 
-module _ {D G : Type 0} {g : Ghosts D} (digest : Octets → Octets) (it : RecallingStorage (FileStore D g) NoShelf G) where
-  same_recalled : IsAtRest (IsSoundHost digest) (recalling.seen over_files without_packs it) → recalling.seen over_files without_packs it ≡ host.seen over_files without_packs it.storage.host
-  same_recalled rest = rests_alone it.memo (host.seen over_files without_packs it.storage.host) rest
+module _ {D P G : Type 0} {g : Ghosts D} (p : Shelves P) (digest : Octets → Octets) (it : RecallingStorage (FileStore D g) P G) where
+  same_recalled : IsAtRest (IsSoundHost digest) (recalling.seen over_files p it) → recalling.seen over_files p it ≡ host.seen over_files p it.storage.host
+  same_recalled rest = rests_alone it.memo (host.seen over_files p it.storage.host) rest
 
-  pub recalling_over : StandsOver (λ (r : RecallingStorage (FileStore D g) NoShelf G). host.IsIntact over_files without_packs r.storage.host) (λ r. host.IsOpen over_files without_packs r.storage.host) (IsSoundHost digest) (recalling.seen over_files without_packs)
-      (λ r. host.left over_files without_packs r.storage.host) it it.storage.host
+  pub recalling_over : StandsOver p (λ (r : RecallingStorage (FileStore D g) P G). host.IsIntact over_files p r.storage.host) (λ r. host.IsOpen over_files p r.storage.host) (IsSoundHost digest) (recalling.seen over_files p)
+      (λ r. host.left over_files p r.storage.host) it it.storage.host
   recalling_over = record { intact = (λ i. i, λ i. i); opened = (λ o. o, λ o. o); leaves = λ x. (λ l. l, λ l. l); same = same_recalled }
 
-  pub kept_over : {K : Type 0} {d : digester.Ghosts G} {k : size.Ghosts K} (h : KeptHost D G K g d k) → h.storage ≡ Some it
-      → StandsOver (λ (o : KeptHost D G K g d k). kept.IsIntact o.storage) (λ o. kept.IsOpen o.storage) (IsSoundHost digest) (λ o. kept.seen o.limits o.storage) (λ o. kept.left o.storage) h it.storage.host
+  pub kept_over : {K : Type 0} {d : digester.Ghosts G} {k : size.Ghosts K} (h : KeptHost D P G K g p d k) → h.storage ≡ Some it
+      → StandsOver p (λ (o : KeptHost D P G K g p d k). kept.IsIntact p o.storage) (λ o. kept.IsOpen p o.storage) (IsSoundHost digest) (λ o. kept.seen p o.limits o.storage) (λ o. kept.left p o.storage) h it.storage.host
   kept_over h is = record {
-    intact = subst (λ o. kept.IsIntact o ↔ host.IsIntact over_files without_packs it.storage.host) (sym is) (λ i. i, λ i. i);
-    opened = subst (λ o. kept.IsOpen o ↔ host.IsOpen over_files without_packs it.storage.host) (sym is) (λ o. o, λ o. o);
-    leaves = λ x. subst (λ o. kept.left o x ↔ host.left over_files without_packs it.storage.host x) (sym is) (λ l. l, λ l. l);
-    same = subst (λ o. IsAtRest (IsSoundHost digest) (kept.seen h.limits o) → kept.seen h.limits o ≡ host.seen over_files without_packs it.storage.host) (sym is) same_recalled;
+    intact = subst (λ o. kept.IsIntact p o ↔ host.IsIntact over_files p it.storage.host) (sym is) (λ i. i, λ i. i);
+    opened = subst (λ o. kept.IsOpen p o ↔ host.IsOpen over_files p it.storage.host) (sym is) (λ o. o, λ o. o);
+    leaves = λ x. subst (λ o. kept.left p o x ↔ host.left over_files p it.storage.host x) (sym is) (λ l. l, λ l. l);
+    same = subst (λ o. IsAtRest (IsSoundHost digest) (kept.seen p h.limits o) → kept.seen p h.limits o ≡ host.seen over_files p it.storage.host) (sym is) same_recalled;
   }

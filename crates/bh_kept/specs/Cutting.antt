@@ -1,6 +1,5 @@
 -- How a host that may have been lost cuts bodies into blocks.
-use Rattle.bh_shelf.specs.declared.no_shelf.NoShelf.{NoShelf}
-use Rattle.bh_base.specs.Connections.{without_packs}
+use Rattle.bh_shelf.specs.declared.shelf.Shelf.{Ghosts as Shelves}
 use Rattle.std.specs.Prelude.{◌≡◌, ℕ, Option, Result, IfSome}
 use Rattle.sqlite_disk.specs.declared.Disk as disk
 use Rattle.sqlite_store.specs.declared.store.FileStore.{FileStore}
@@ -13,16 +12,16 @@ use Rattle.bh_storage.specs.declared.error.StepError.{StepError}
 use Rattle.bh_dispatch.specs.Stored.{CutsBody}
 use Rattle.bh_dispatch.specs.declared.recalling.RecallingStorage.{RecallingStorage}
 
-module _ {D G : Type 0} {g : disk.Ghosts D} where
+module _ {D P G : Type 0} {g : disk.Ghosts D} where
   -- a call on a host that isn't lost cuts an object and a part into blocks of a size
-  abbrev pub Cuts : {X E : Type 0} → (Octets → Octets) → ℕ → Operation → Coming → Coming
-      → Option (RecallingStorage (FileStore D g) NoShelf G)
-      → Option (RecallingStorage (FileStore D g) NoShelf G) → Result (Outcome X E) (StepError E) → Type 0
-  Cuts digest size operation before after old new result =
-      IfSome old (λ a. IfSome new (λ b. CutsBody over_files without_packs digest size operation before after a.storage.host.connection
+  abbrev pub Cuts : {X E : Type 0} → Shelves P → (Octets → Octets) → ℕ → Operation → Coming → Coming
+      → Option (RecallingStorage (FileStore D g) P G)
+      → Option (RecallingStorage (FileStore D g) P G) → Result (Outcome X E) (StepError E) → Type 0
+  Cuts p digest size operation before after old new result =
+      IfSome old (λ a. IfSome new (λ b. CutsBody over_files p digest size operation before after a.storage.host.connection
       b.storage.host.connection result))
 
   -- a host that isn't lost keeps its settings
-  abbrev pub KeepsTuning : Option (RecallingStorage (FileStore D g) NoShelf G) → Option (RecallingStorage (FileStore D g) NoShelf G)
+  abbrev pub KeepsTuning : Option (RecallingStorage (FileStore D g) P G) → Option (RecallingStorage (FileStore D g) P G)
       → Type 0
   KeepsTuning old new = IfSome old (λ a. IfSome new (λ b. b.storage.host.cache.tuning ≡ a.storage.host.cache.tuning))

@@ -1,16 +1,20 @@
-//! Closes a connection's files, copies them, and reopens them.
+//! Closes a connection's files, copies them and its packs, and reopens them.
 
-ghost use Rattle.std.specs.Prelude.{◌≡◌, IfSome, IsTrue};
-ghost use Rattle.sqlite.specs.Files.{file_state};
+ghost use Rattle.std.specs.Prelude.{◌≡◌, Some, IfSome, IsTrue};
+ghost use Rattle.sqlite.specs.Files.{file_state, over_files};
 ghost use Rattle.sqlite.specs.Held.{state};
 ghost use Rattle.sqlite.specs.State.{HasCleanDisk, IsLive};
 ghost use Rattle.sqlite_wal.specs.Reads.{AreClean, IsClean, OnlyReads};
 ghost use Rattle.bh_backup.specs.Copies.{HasAlone, IsFileOf};
+ghost use Rattle.bh_base.specs.Connections.{IsIntact, backing};
 ghost use Rattle.bh_kept.specs.Closings.{IsHeldIn, IsOpenAgain};
+ghost use Rattle.bh_kept.specs.Copies.{AreAsBefore, HaveAll, IsCopyOf, IsReopened};
 
 use crate::closing::{Unclosed, close};
 use bh_backup::save_files;
+use bh_base::connection::Connection as Joined;
 use bh_file::{HostFile, open_database};
+use bh_shelf::copied::CopyShelf;
 use sqlite::{Alter, Connection, FileStore, Files, Wary};
 use sqlite_disk::Disk;
 use std::fmt;
@@ -31,6 +35,13 @@ struct ClosedHost<D: Disk + Drop> {
 pub struct CopiedHost<D: Disk + Drop> {
     pub copy: Option<CopyFile>,
     pub connection: Option<Connection<FileStore<D>>>,
+}
+
+/// A copy of a host: a file of its database, and the packs that this names bytes of.
+#[derive(Drop)]
+pub struct HostCopy<P: Drop> {
+    pub file: CopyFile,
+    pub packs: P,
 }
 
 /// Prints a backup's outcome on standard error. If that can't be written, it is lost.
@@ -126,6 +137,56 @@ pub fn copy_and_open<D: Disk + Drop>(
             }
         }
     }
+}
+
+/// Copies packs to stand beside a copied file, if that was made and they can be copied.
+fn with_packs<P: CopyShelf>(
+    rt: &HostRuntime,
+    file: Option<CopyFile>,
+    packs: &mut P,
+    to: &str,
+) -> Option<HostCopy<P::Copy>>
+    ensures stay { IsTrue (P.is_clean packs.new) → AreAsBefore (backing P.Shelf packs.old) (backing P.Shelf packs.new) }
+    ensures file { IfSome result (λ copy. file ≡ Some copy.file) }
+    ensures has_all { IfSome result (λ copy. IsTrue (P.is_clean packs.new) → HaveAll P.Shelf P.Copy.Shelf packs.old copy.packs) }
+{
+    let file = file?;
+    match packs.copy_to(to) {
+        Ok(copied) => Some(HostCopy {
+            file,
+            packs: copied,
+        }),
+        Err(trouble) => {
+            tell(
+                rt,
+                to,
+                "unable to copy the host's packs, and so to create",
+                &trouble,
+            );
+            None
+        }
+    }
+}
+
+/// Copies a host's database file and its packs, if possible, and reopens the connection. No result if
+/// it can't be reopened: the cause is on standard error.
+pub(crate) fn copy_host<D: Disk + Drop, P: CopyShelf + Drop>(
+    rt: &HostRuntime,
+    connection: Joined<FileStore<D>, P>,
+    to: &str,
+) -> Option<(Option<HostCopy<P::Copy>>, Joined<FileStore<D>, P>)>
+    ensures again { IfSome result (λ it. IsIntact over_files P.Shelf it.1 → IsReopened P.Shelf connection it.1) }
+    ensures copied { IfSome result (λ it. IfSome it.0 (λ copy. IsIntact over_files P.Shelf it.1
+        → IsCopyOf P.Shelf ⟦<HostFile<Wary> as Disk>⟧ P.Copy.Shelf connection copy.file copy.packs)) }
+{
+    let Joined {
+        database,
+        mut packs,
+    } = connection;
+    let CopiedHost { copy, connection } = copy_and_open(rt, database, to);
+    let database = connection?;
+    let copy = with_packs(rt, copy, &mut packs, to);
+    Some((copy, Joined { database, packs }))
 }
 
 /// Until a fault shuts a connection, its databases have their schemas.

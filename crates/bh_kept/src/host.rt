@@ -6,7 +6,7 @@ ghost use Rattle.bh_memo.specs.Facts.{nothing};
 use bh_base::connection::Connection as Joined;
 use bh_dispatch::recalling::RecallingStorage;
 use bh_schema::host::{Digester, Host};
-use bh_shelf::no_shelf::NoShelf;
+use bh_shelf::shelf::Shelf;
 use bh_types::limits::Limits;
 use sqlite::{Connection, FileStore};
 use sqlite_disk::Disk;
@@ -25,10 +25,10 @@ impl BlockSize for Brand {
 /// A host in files. A backup closes them; if the host can't be reopened then, it is lost. All bodies
 /// are cut into blocks of the size of `K`.
 #[derive(Drop)]
-pub struct KeptHost<'a, D: Disk + Drop, G: Digester + Drop, K: BlockSize> {
+pub struct KeptHost<'a, D: Disk + Drop, P: Shelf + Drop, G: Digester + Drop, K: BlockSize> {
     pub(crate) rt: &'a HostRuntime,
     /// The host, until it is lost.
-    pub storage: Option<RecallingStorage<FileStore<D>, NoShelf, G>>,
+    pub storage: Option<RecallingStorage<FileStore<D>, P, G>>,
     /// The limits that it was created with.
     pub limits: Limits,
     pub(crate) block_size: u64,
@@ -37,9 +37,15 @@ pub struct KeptHost<'a, D: Disk + Drop, G: Digester + Drop, K: BlockSize> {
     ghost size_positive: { 1 ≤ block_size },
 }
 
-impl<'a, D: Disk + Drop, G: Digester + Drop, K: BlockSize> KeptHost<'a, D, G, K> {
+impl<'a, D, P, G, K> KeptHost<'a, D, P, G, K>
+where
+    D: Disk + Drop,
+    P: Shelf + Drop,
+    G: Digester + Drop,
+    K: BlockSize,
+{
     /// A host that is in its files, with the block size of its settings.
-    pub fn new(rt: &'a HostRuntime, host: Host<FileStore<D>, NoShelf, G>) -> KeptHost<'a, D, G, K>
+    pub fn new(rt: &'a HostRuntime, host: Host<FileStore<D>, P, G>) -> KeptHost<'a, D, P, G, K>
         requires { host.cache.tuning.block_size ≡ K.size }
         ensures { result.storage ≡ Some (record { storage = record { host = host }; memo = nothing }) }
     {

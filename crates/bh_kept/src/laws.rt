@@ -6,14 +6,14 @@ ghost use Rattle.bh_kept.specs.Over.{RecallingStandsOver, KeptStandsOver};
 use crate::host::{BlockSize, KeptHost};
 use bh_dispatch::recalling::RecallingStorage;
 use bh_schema::host::Digester;
-use bh_shelf::no_shelf::NoShelf;
+use bh_shelf::shelf::Shelf;
 use bh_storage::storage::Storage;
 use sqlite::FileStore;
 use sqlite_disk::Disk;
 
 /// A storage that remembers facts and one that is served stand over their host: a crash leaves of
 /// them what it may leave of the host, and at rest they show what the host shows.
-pub fn stands_over<'a, D: Disk + Drop, G: Digester + Drop, K: BlockSize>()
-    ensures recalling { RecallingStandsOver ⟦<RecallingStorage<FileStore<D>, NoShelf, G> as Storage>⟧ }
-    ensures kept { KeptStandsOver ⟦<KeptHost<'a, D, G, K> as Storage>⟧ }
+pub fn stands_over<'a, D: Disk + Drop, P: Shelf + Drop, G: Digester + Drop, K: BlockSize>()
+    ensures recalling { RecallingStandsOver P.Shelf ⟦<RecallingStorage<FileStore<D>, P, G> as Storage>⟧ }
+    ensures kept { KeptStandsOver P.Shelf ⟦<KeptHost<'a, D, P, G, K> as Storage>⟧ }
 {}

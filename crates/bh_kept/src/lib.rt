@@ -5,10 +5,11 @@
 mod closing;
 mod copying;
 mod counting;
+mod freeing;
 mod host;
 pub mod laws;
 mod storage;
 
 pub use closing::{Unclosed, close};
-pub use copying::{CopiedHost, copy_and_open};
+pub use copying::{CopiedHost, HostCopy, copy_and_open};
 pub use host::{BlockSize, KeptHost};

@@ -9,10 +9,10 @@ ghost use Rattle.bh_connection.specs.Connections.{IsTakenBack};
 ghost use Rattle.bh_kept.specs.Kept as kept;
 ghost use Rattle.bh_kept.specs.Cutting.{Cuts, KeepsTuning};
 
-use crate::copying::{CopiedHost, CopyFile, copy_and_open};
+use crate::copying::{HostCopy, copy_host};
 use crate::counting::count;
+use crate::freeing::drop_idle;
 use crate::host::{BlockSize, KeptHost};
-use bh_base::connection::Connection as Joined;
 use bh_cache::blocks::BlockCache;
 use bh_connection::{BackUp, CacheUses};
 use bh_dispatch::recalling::RecallingStorage;
@@ -23,6 +23,8 @@ use bh_http::body::Body;
 use bh_memo::memo::Memo;
 use bh_operation::operation::Operation;
 use bh_schema::host::{Digester, Host};
+use bh_shelf::copied::CopyShelf;
+use bh_shelf::shelf::Shelf;
 use bh_storage::answer::{CommandAnswer, Offer};
 use bh_storage::error::{Outcome, StepError, Trouble};
 use bh_storage::plan::Plan;
@@ -39,16 +41,17 @@ use sqlite_disk::Disk;
 use std::alloc::Global;
 
 /// Each call is the host's. After the host was lost, each call fails as if the store had failed.
-impl<'a, D: Disk + Drop, G: Digester + Drop, K: BlockSize> Storage for KeptHost<'a, D, G, K> {
-    ghost seen = { λ h. kept.seen h.limits h.storage };
+impl<'a, D: Disk + Drop, P: Shelf + Drop, G: Digester + Drop, K: BlockSize> Storage
+    for KeptHost<'a, D, P, G, K> {
+    ghost seen = { λ h. kept.seen P.Shelf h.limits h.storage };
 
-    ghost IsIntact = { λ h. kept.IsIntact h.storage };
+    ghost IsIntact = { λ h. kept.IsIntact P.Shelf h.storage };
 
-    ghost IsOpen = { λ h. kept.IsOpen h.storage };
+    ghost IsOpen = { λ h. kept.IsOpen P.Shelf h.storage };
 
     ghost IsSoundStore = { IsSoundHost G.digest_of };
 
-    ghost left = { λ h. kept.left h.storage };
+    ghost left = { λ h. kept.left P.Shelf h.storage };
 
     fn limits(&self) -> Limits {
         match &self.storage {
@@ -113,19 +116,21 @@ impl<'a, D: Disk + Drop, G: Digester + Drop, K: BlockSize> Storage for KeptHost<
         body: &mut B,
     ) -> Result<Outcome<Offer, Rejection>, StepError<Rejection>>
         requires going { (B.coming body.old).broken ≡ None }
-        requires working { Clean (λ h. kept.IsIntact h.storage) (λ h. kept.IsOpen h.storage) self.old
-            → IsWorking (IsSoundHost G.digest_of) (kept.seen self.old.limits self.old.storage) }
-        requires early { Clean (λ h. kept.IsIntact h.storage) (λ h. kept.IsOpen h.storage) self.old
-            → at ≤ latest_of (kept.seen self.old.limits self.old.storage).now }
-        ensures goes_on { StaysAtWork (λ h. kept.IsIntact h.storage) (λ h. kept.IsOpen h.storage) (IsSoundHost G.digest_of)
-            (λ h. kept.seen h.limits h.storage) (λ h. kept.left h.storage) (UnlessSpoilt result) self.old self.new }
-        ensures operates { Operates (offer_view (kept.seen self.new.limits self.new.storage).now) tenant.now
-            (λ given. operated (kept.seen self.old.limits self.old.storage).limits at given operation.now)
-            (Clean (λ h. kept.IsIntact h.storage) (λ h. kept.IsOpen h.storage) self.new) (B.coming body.old) (B.coming body.new)
-            (kept.seen self.old.limits self.old.storage).now (kept.seen self.new.limits self.new.storage).now result }
-        ensures measured { IfPlanned result (λ found. Clean (λ h. kept.IsIntact h.storage) (λ h. kept.IsOpen h.storage) self.new
-            → IsMeasured (kept.seen self.new.limits self.new.storage).now found) }
-        ensures cuts { Cuts G.digest_of K.size operation.now (B.coming body.old) (B.coming body.new)
+        requires working { Clean (λ h. kept.IsIntact P.Shelf h.storage) (λ h. kept.IsOpen P.Shelf h.storage) self.old
+            → IsWorking (IsSoundHost G.digest_of) (kept.seen P.Shelf self.old.limits self.old.storage) }
+        requires early { Clean (λ h. kept.IsIntact P.Shelf h.storage) (λ h. kept.IsOpen P.Shelf h.storage) self.old
+            → at ≤ latest_of (kept.seen P.Shelf self.old.limits self.old.storage).now }
+        ensures goes_on { StaysAtWork (λ h. kept.IsIntact P.Shelf h.storage) (λ h. kept.IsOpen P.Shelf h.storage) (IsSoundHost G.digest_of)
+            (λ h. kept.seen P.Shelf h.limits h.storage) (λ h. kept.left P.Shelf h.storage) (UnlessSpoilt result) self.old self.new }
+        ensures operates { Operates (offer_view (kept.seen P.Shelf self.new.limits self.new.storage).now) tenant.now
+            (λ given. operated (kept.seen P.Shelf self.old.limits self.old.storage).limits at given operation.now)
+            (Clean (λ h. kept.IsIntact P.Shelf h.storage) (λ h. kept.IsOpen P.Shelf h.storage) self.new)
+            (B.coming body.old) (B.coming body.new)
+            (kept.seen P.Shelf self.old.limits self.old.storage).now (kept.seen P.Shelf self.new.limits self.new.storage).now result }
+        ensures measured { IfPlanned result (λ found.
+            Clean (λ h. kept.IsIntact P.Shelf h.storage) (λ h. kept.IsOpen P.Shelf h.storage) self.new
+            → IsMeasured (kept.seen P.Shelf self.new.limits self.new.storage).now found) }
+        ensures cuts { Cuts P.Shelf G.digest_of K.size operation.now (B.coming body.old) (B.coming body.new)
             self.old.storage self.new.storage result }
     {
         let size = self.block_size;
@@ -176,10 +181,11 @@ impl<'a, D: Disk + Drop, G: Digester + Drop, K: BlockSize> Storage for KeptHost<
     }
 }
 
-impl<'a, D: Disk + Drop, G: Digester + Drop, K: BlockSize> BackUp for KeptHost<'a, D, G, K> {
-    type Copy = CopyFile;
+impl<'a, D: Disk + Drop, P: CopyShelf + Drop, G: Digester + Drop, K: BlockSize> BackUp
+    for KeptHost<'a, D, P, G, K> {
+    type Copy = HostCopy<P::Copy>;
 
-    ghost shows = { kept.Shows ⟦<HostFile<Wary> as Disk>⟧ };
+    ghost shows = { λ copy. kept.Shows ⟦<HostFile<Wary> as Disk>⟧ P.Copy.Shelf copy.file copy.packs };
 
     ghost lost = { λ h. kept.is_lost h.storage };
 
@@ -198,17 +204,19 @@ impl<'a, D: Disk + Drop, G: Digester + Drop, K: BlockSize> BackUp for KeptHost<'
         }
     }
 
-    fn back_up(&mut self, to: &str) -> Option<CopyFile>
-        requires { Clean (λ h. kept.IsIntact h.storage) (λ h. kept.IsOpen h.storage) self.old
-            → IsAtRest (IsSoundHost G.digest_of) (kept.seen self.old.limits self.old.storage) }
-        ensures intact { kept.IsIntact self.new.storage → kept.IsIntact self.old.storage }
-        ensures stays { IsTakenBack (λ h. kept.IsIntact h.storage) (λ h. kept.IsOpen h.storage) (λ h. kept.seen h.limits h.storage)
-            (λ h. kept.left h.storage) self.old self.new }
-        ensures ready { Clean (λ h. kept.IsIntact h.storage) (λ h. kept.IsOpen h.storage) self.new
-            → IsAtRest (IsSoundHost G.digest_of) (kept.seen self.new.limits self.new.storage) }
-        ensures limits { (kept.seen self.new.limits self.new.storage).limits ≡ (kept.seen self.old.limits self.old.storage).limits }
-        ensures copied { IfSome result (λ copy. kept.IsIntact self.new.storage
-            → kept.Shows ⟦<HostFile<Wary> as Disk>⟧ copy (kept.seen self.old.limits self.old.storage).now) }
+    fn back_up(&mut self, to: &str) -> Option<HostCopy<P::Copy>>
+        requires { Clean (λ h. kept.IsIntact P.Shelf h.storage) (λ h. kept.IsOpen P.Shelf h.storage) self.old
+            → IsAtRest (IsSoundHost G.digest_of) (kept.seen P.Shelf self.old.limits self.old.storage) }
+        ensures intact { kept.IsIntact P.Shelf self.new.storage → kept.IsIntact P.Shelf self.old.storage }
+        ensures stays { IsTakenBack (λ h. kept.IsIntact P.Shelf h.storage) (λ h. kept.IsOpen P.Shelf h.storage)
+            (λ h. kept.seen P.Shelf h.limits h.storage) (λ h. kept.left P.Shelf h.storage) self.old self.new }
+        ensures ready { Clean (λ h. kept.IsIntact P.Shelf h.storage) (λ h. kept.IsOpen P.Shelf h.storage) self.new
+            → IsAtRest (IsSoundHost G.digest_of) (kept.seen P.Shelf self.new.limits self.new.storage) }
+        ensures limits { (kept.seen P.Shelf self.new.limits self.new.storage).limits
+            ≡ (kept.seen P.Shelf self.old.limits self.old.storage).limits }
+        ensures copied { IfSome result (λ copy. kept.IsIntact P.Shelf self.new.storage
+            → kept.Shows ⟦<HostFile<Wary> as Disk>⟧ P.Copy.Shelf copy.file copy.packs
+            (kept.seen P.Shelf self.old.limits self.old.storage).now) }
         ensures tuned { KeepsTuning self.old.storage self.new.storage }
     {
         let RecallingStorage { storage, memo: _ } = self.storage.take()?;
@@ -220,15 +228,11 @@ impl<'a, D: Disk + Drop, G: Digester + Drop, K: BlockSize> BackUp for KeptHost<'
             cache,
         } = host;
         self.limits = limits;
-        let Joined { database, packs } = connection;
-        let CopiedHost { copy, connection } = copy_and_open(self.rt, database, to);
+        let (copy, connection) = copy_host(self.rt, connection, to)?;
         self.storage = Some(RecallingStorage {
             storage: HostStorage {
                 host: Host {
-                    connection: Joined {
-                        database: connection?,
-                        packs,
-                    },
+                    connection,
                     digester,
                     limits,
                     cache: BlockCache::new(cache.tuning()),
@@ -242,6 +246,13 @@ impl<'a, D: Disk + Drop, G: Digester + Drop, K: BlockSize> BackUp for KeptHost<'
     fn unneeded(&mut self) -> Option<u64> {
         match &mut self.storage {
             Some(it) => count(&mut it.storage.host.connection),
+            None => None,
+        }
+    }
+
+    fn drop_packs(&mut self) -> Option<u64> {
+        match &mut self.storage {
+            Some(it) => drop_idle(self.rt, &mut it.storage.host.connection),
             None => None,
         }
     }

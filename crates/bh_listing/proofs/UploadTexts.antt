@@ -21,7 +21,7 @@ use Rattle.bh_rows.specs.Texts.{IsReadyAt, SortedText}
 use Rattle.bh_rows.proofs.ScanLemmas.{then_assoc}
 use Rattle.bh_rows.proofs.TextLemmas as text
 use Rattle.bh_tables.specs.Schema.{Octets, host_schema}
-use Rattle.bh_tables.specs.Typed.{Totals, totals_of, UploadRow, upload_form, number, IsReady, tables}
+use Rattle.bh_tables.specs.Typed.{Totals, UploadRow, upload_form, number, IsReadyBy, tables}
 use Rattle.bh_tables.specs.Shown.{by_key}
 use Rattle.bh_tables.proofs.Places.{uploads}
 use Rattle.bh_tables.proofs.Terms.{is}
@@ -57,17 +57,14 @@ module _ (tenant bucket from upto : Octets) (count : ℕ) where
     orders = λ a b. then_key (value_cmp-Blob a.1.okey b.1.okey) (then_key (value_cmp-Int (pos a.1.upload) (pos b.1.upload)) (last_key (value_cmp-Int a.0 b.0))) ∙ sym (then_assoc (bytes_cmp a.1.okey b.1.okey) (int_cmp (pos a.1.upload) (pos b.1.upload)) (int_cmp a.0 b.0));
   }
 
-  pub listed_shown : (old new : State) → IsReady old → {X : Type 0} (rows_in : X → List Row) (result : Result X Error) → (HasCleanDisk new → IfOk result (λ x. Shown listed_text params old new (rows_in x)))
+  pub listed_shown : {sums : Totals} (old new : State) → IsReadyBy sums old → {X : Type 0} (rows_in : X → List Row) (result : Result X Error) → (HasCleanDisk new → IfOk result (λ x. Shown listed_text params old new (rows_in x)))
       → (HasCleanDisk new → IfErr result (FailsToQuery listed_text params old new)) → Survives old new (CommitsShowing listed_text params old)
       → Shows old new rows_in (λ t. map shown_listed (listed_rows tenant bucket from upto count t.uploads)) result
-  listed_shown old new ready rows_in result ok err survives = record {
+  listed_shown {sums} old new ready rows_in result ok err survives = record {
     asks = text.sorted_asks (upload_form sums) host_schema 16 old new ready_at listed_text params passes shown_listed by_key (col 0 4) (listed sums) rows_in result ok err survives;
     rows = λ clean. go result (text.select_sorted (upload_form sums) host_schema 16 old new ready_at listed_text params passes shown_listed by_key (col 0 4) (listed sums) rows_in result ok survives clean);
   }
     where
-      sums : Totals
-      sums = totals_of (tables old)
-
       ready_at : IsReadyAt (upload_form sums) host_schema 16 old
       ready_at clean up = let h = ready clean up in (h.schema, h.held.uploads)
 
@@ -98,17 +95,14 @@ module _ (tenant bucket okey : Octets) (n count : ℕ) where
     orders = λ a b. then_key (value_cmp-Blob a.1.okey b.1.okey) (then_key (value_cmp-Int (pos a.1.upload) (pos b.1.upload)) (last_key (value_cmp-Int a.0 b.0))) ∙ sym (then_assoc (bytes_cmp a.1.okey b.1.okey) (int_cmp (pos a.1.upload) (pos b.1.upload)) (int_cmp a.0 b.0));
   }
 
-  pub later_shown : (old new : State) → IsReady old → {X : Type 0} (rows_in : X → List Row) (result : Result X Error) → (HasCleanDisk new → IfOk result (λ x. Shown later_text later_params old new (rows_in x)))
+  pub later_shown : {sums : Totals} (old new : State) → IsReadyBy sums old → {X : Type 0} (rows_in : X → List Row) (result : Result X Error) → (HasCleanDisk new → IfOk result (λ x. Shown later_text later_params old new (rows_in x)))
       → (HasCleanDisk new → IfErr result (FailsToQuery later_text later_params old new)) → Survives old new (CommitsShowing later_text later_params old)
       → Shows old new rows_in (λ t. map shown_listed (later_rows tenant bucket okey n count t.uploads)) result
-  later_shown old new ready rows_in result ok err survives = record {
+  later_shown {sums} old new ready rows_in result ok err survives = record {
     asks = text.sorted_asks (upload_form sums) host_schema 16 old new ready_at later_text later_params is_later shown_listed by_key (col 0 4) (later sums) rows_in result ok err survives;
     rows = λ clean. go result (text.select_sorted (upload_form sums) host_schema 16 old new ready_at later_text later_params is_later shown_listed by_key (col 0 4) (later sums) rows_in result ok survives clean);
   }
     where
-      sums : Totals
-      sums = totals_of (tables old)
-
       ready_at : IsReadyAt (upload_form sums) host_schema 16 old
       ready_at clean up = let h = ready clean up in (h.schema, h.held.uploads)
 

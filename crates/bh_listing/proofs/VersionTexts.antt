@@ -3,6 +3,7 @@ use Rattle.std.proofs.Common.{◌≡◌, ℕ, Bool, pos, codes, List, [], ◌∷
 use Rattle.sqlite.specs.declared.types.Value.TheVariants.{Text, Blob}
 use Rattle.sqlite.specs.declared.error.Error.{Error}
 use Rattle.sqlite.specs.Order.{Row}
+use Rattle.sqlite.specs.Effect.{Database}
 use Rattle.sqlite.specs.Collation.TheVariants.{Binary}
 use Rattle.sqlite.specs.Term.{col, op2}
 use Rattle.sqlite.specs.Listing.{understood}
@@ -21,15 +22,17 @@ use Rattle.bh_rows.specs.Texts.{IsReadyAt, SortedText}
 use Rattle.bh_rows.proofs.ScanLemmas.{then_assoc}
 use Rattle.bh_rows.proofs.TextLemmas as text
 use Rattle.bh_tables.specs.Schema.{Octets, host_schema}
-use Rattle.bh_tables.specs.Typed.{totals_of, VersionColumns, version_form, number, IsReady, tables}
+use Rattle.bh_tables.specs.Typed.{Totals, VersionColumns, version_form, number, IsReadyBy, tables, tables_in}
 use Rattle.bh_tables.specs.Bodies.{bare}
 use Rattle.bh_tables.proofs.Places.{versions}
 use Rattle.bh_tables.proofs.ResolvedLemmas.{seen_sorted}
 use Rattle.bh_tables.proofs.Terms.{is}
 use Rattle.bh_tables.proofs.Statements.{Shows}
+use Rattle.bh_shelf.specs.Contents.{Contents}
+use Rattle.bh_base.specs.Placed.{filled}
 use Rattle.bh_listing.specs.Rows.{version_order, is_listed, listed_rows}
 use Rattle.bh_listing.specs.Versions.{is_older_of, shown_numbered, older_rows}
-use Rattle.bh_listing.proofs.RowLemmas.{take_map}
+use Rattle.bh_listing.proofs.RowLemmas.{take_map, first_alike}
 
 abbrev numbered_text : Octets
 numbered_text = codes "SELECT okey, seq, id, marker, stamp, size, sum FROM versions WHERE tenant = ?1 AND bucket = ?2 AND okey >= ?3 AND okey < ?4 ORDER BY okey, seq DESC, rowid LIMIT ?5"
@@ -65,10 +68,10 @@ module _ (tenant bucket from upto : Octets) (count : ℕ) where
     orders = λ a b. then_key (value_cmp-Blob a.1.okey b.1.okey) (then_key (value_cmp-Int (pos b.1.seq) (pos a.1.seq)) (last_key (value_cmp-Int a.0 b.0))) ∙ sym (then_assoc (bytes_cmp a.1.okey b.1.okey) (int_cmp (pos b.1.seq) (pos a.1.seq)) (int_cmp a.0 b.0));
   }
 
-  pub numbered_shown : (old new : State) → IsReady old → {X : Type 0} (rows_in : X → List Row) (result : Result X Error) → (HasCleanDisk new → IfOk result (λ x. Shown numbered_text params old new (rows_in x)))
+  pub numbered_shown : {sums : Totals} (old new : State) → IsReadyBy sums old → {X : Type 0} (rows_in : X → List Row) (result : Result X Error) → (HasCleanDisk new → IfOk result (λ x. Shown numbered_text params old new (rows_in x)))
       → (HasCleanDisk new → IfErr result (FailsToQuery numbered_text params old new)) → Survives old new (CommitsShowing numbered_text params old)
       → Shows old new rows_in (λ t. map shown_numbered (listed_rows tenant bucket from upto count t.versions)) result
-  numbered_shown old new ready rows_in result ok err survives = record {
+  numbered_shown {sums} old new ready rows_in result ok err survives = record {
     asks = text.sorted_asks version_form host_schema 7 old new ready_at numbered_text params passes shows_it before (col 0 4) numbered rows_in result ok err survives;
     rows = λ clean. go result (text.select_sorted version_form host_schema 7 old new ready_at numbered_text params passes shows_it before (col 0 4) numbered rows_in result ok survives clean);
   }
@@ -78,8 +81,12 @@ module _ (tenant bucket from upto : Octets) (count : ℕ) where
 
       go : (r : Result _ Error) → IfOk r (λ x. rows_in x ≡ take count (map shows_it (sort_by before (filter passes (typed version_form (old.now.trees 7))))))
           → IfOk r (λ x. rows_in x ≡ map shown_numbered (listed_rows tenant bucket from upto count (tables old).versions))
-      go (Ok x) h = h ∙ ap (λ cs. take count (map shows_it (sort_by before (filter passes cs)))) ((versions (totals_of (tables old))).rows_are old.now) ∙ ap (take count) (seen_sorted passes (tables old).versions shows_it before) ∙ take_map shown_numbered count (sort_by version_order (filter (is_listed tenant bucket from upto) (tables old).versions))
+      go (Ok x) h = h ∙ ap (λ cs. take count (map shows_it (sort_by before (filter passes cs)))) ((versions sums).rows_are old.now) ∙ ap (take count) (seen_sorted passes (tables old).versions shows_it before) ∙ take_map shown_numbered count (sort_by version_order (filter (is_listed tenant bucket from upto) (tables old).versions))
       go (Err e) h = tt
+
+  -- they are the same with the bytes of packs and without
+  pub numbered_alike : (packs : Contents) (db : Database) → map shown_numbered (listed_rows tenant bucket from upto count (tables_in db).versions) ≡ map shown_numbered (listed_rows tenant bucket from upto count (tables_in (filled packs db)).versions)
+  numbered_alike = first_alike passes shows_it before count
 
 module _ (tenant bucket okey : Octets) (seq count : ℕ) where
   abbrev older_params : Row
@@ -103,10 +110,10 @@ module _ (tenant bucket okey : Octets) (seq count : ℕ) where
     orders = λ a b. then_key (value_cmp-Blob a.1.okey b.1.okey) (then_key (value_cmp-Int (pos b.1.seq) (pos a.1.seq)) (last_key (value_cmp-Int a.0 b.0))) ∙ sym (then_assoc (bytes_cmp a.1.okey b.1.okey) (int_cmp (pos b.1.seq) (pos a.1.seq)) (int_cmp a.0 b.0));
   }
 
-  pub older_shown : (old new : State) → IsReady old → {X : Type 0} (rows_in : X → List Row) (result : Result X Error) → (HasCleanDisk new → IfOk result (λ x. Shown older_text older_params old new (rows_in x)))
+  pub older_shown : {sums : Totals} (old new : State) → IsReadyBy sums old → {X : Type 0} (rows_in : X → List Row) (result : Result X Error) → (HasCleanDisk new → IfOk result (λ x. Shown older_text older_params old new (rows_in x)))
       → (HasCleanDisk new → IfErr result (FailsToQuery older_text older_params old new)) → Survives old new (CommitsShowing older_text older_params old)
       → Shows old new rows_in (λ t. map shown_numbered (older_rows tenant bucket okey seq count t.versions)) result
-  older_shown old new ready rows_in result ok err survives = record {
+  older_shown {sums} old new ready rows_in result ok err survives = record {
     asks = text.sorted_asks version_form host_schema 7 old new ready_at older_text older_params is_older shows_it before (col 0 4) older rows_in result ok err survives;
     rows = λ clean. go result (text.select_sorted version_form host_schema 7 old new ready_at older_text older_params is_older shows_it before (col 0 4) older rows_in result ok survives clean);
   }
@@ -116,5 +123,8 @@ module _ (tenant bucket okey : Octets) (seq count : ℕ) where
 
       go : (r : Result _ Error) → IfOk r (λ x. rows_in x ≡ take count (map shows_it (sort_by before (filter is_older (typed version_form (old.now.trees 7))))))
           → IfOk r (λ x. rows_in x ≡ map shown_numbered (older_rows tenant bucket okey seq count (tables old).versions))
-      go (Ok x) h = h ∙ ap (λ cs. take count (map shows_it (sort_by before (filter is_older cs)))) ((versions (totals_of (tables old))).rows_are old.now) ∙ ap (take count) (seen_sorted is_older (tables old).versions shows_it before) ∙ take_map shown_numbered count (sort_by version_order (filter (is_older_of tenant bucket okey seq) (tables old).versions))
+      go (Ok x) h = h ∙ ap (λ cs. take count (map shows_it (sort_by before (filter is_older cs)))) ((versions sums).rows_are old.now) ∙ ap (take count) (seen_sorted is_older (tables old).versions shows_it before) ∙ take_map shown_numbered count (sort_by version_order (filter (is_older_of tenant bucket okey seq) (tables old).versions))
       go (Err e) h = tt
+
+  pub older_alike : (packs : Contents) (db : Database) → map shown_numbered (older_rows tenant bucket okey seq count (tables_in db).versions) ≡ map shown_numbered (older_rows tenant bucket okey seq count (tables_in (filled packs db)).versions)
+  older_alike = first_alike is_older shows_it before count

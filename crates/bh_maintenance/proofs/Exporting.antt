@@ -20,6 +20,7 @@ use Rattle.bh_view.specs.Laws.{new_host}
 use Rattle.bh_view.specs.View.{view, latest_of}
 use Rattle.bh_base.specs.Layer.{standing, IsIntact, IsOpen, IsStateClean}
 use Rattle.bh_schema.specs.Storage.{seen_in}
+use Rattle.bh_bare.specs.Bare.{IsBare}
 use Rattle.bh_create.specs.Creation.{IsNewHost}
 use Rattle.bh_blocks.specs.Digests.{digest_by}
 use Rattle.bh_moved.specs.Moves.{IsCommitted}
@@ -68,11 +69,13 @@ module _ {T : Type 0} (h : Ghosts T) (made : Opened T) (clean : IsStateClean (st
   unfolding seen_in
   numbered = ap digest_in fresh.tables ∙ new_digest made.limits.min_part made.limits.max_body (digest_number made.digest)
 
-pub ready_new : {T : Type 0} (h : Ghosts T) (made : Opened T) → made.latest ≡ 0 → (IsStateClean (state h made.connection) → IsNewHost made.limits made.digest (state h made.connection)) → IsReadyByRow h made
-ready_new h made zero new = record {
+pub ready_new : {T : Type 0} (h : Ghosts T) (made : Opened T) → made.latest ≡ 0 → (IsStateClean (state h made.connection) → IsNewHost made.limits made.digest (state h made.connection)) → (IsStateClean (state h made.connection) → IsBare (standing (state h made.connection)))
+    → IsReadyByRow h made
+ready_new h made zero new bare = record {
   ready = record {
     rest = λ clean. (new clean).rest (digest_by made.digest);
     latest = λ clean. zero ∙ sym (new clean).latest;
+    bare = bare;
   };
   row = λ clean. sym (numbered h made clean (new clean));
 }

@@ -6,5 +6,5 @@ mod Moving
 mod Opened
 pub mod Refused
 mod Saved
-mod Standing
+pub mod Standing
 mod Verdicts

@@ -22,6 +22,8 @@ use Rattle.bh_base.specs.Databases.{tables}
 use Rattle.bh_base.specs.Layer.{Standing, standing, IsStateClean, KeepsDisk, Unwinds, taken_back}
 use Rattle.bh_schema.specs.Storage.{shown, seen_in}
 use Rattle.bh_schema.proofs.Storing.{sound_host}
+use Rattle.bh_bare.specs.Bare.{IsBare}
+use Rattle.bh_bare.proofs.Bare.{back_bare}
 use Rattle.bh_blocks.specs.Digests.{digest_by}
 use Rattle.bh_tenant_rows.specs.Brought.{IsBrought, IsMoved}
 use Rattle.bh_moved.specs.Moves.{IsSettled, IsCommitted}
@@ -80,6 +82,10 @@ rests_again digest l old new rest (inr back) = subst (λ (x : Standing). IsAtRes
   limits = subst (λ (t : Tables). limits_in t ≡ l) (sym rest.committed) rest.limits;
 })
 
+bare_again : (old new : Standing) → IsBare old → Unwinds old new → IsBare new
+bare_again old new bare (inl same) = subst IsBare (sym same) bare
+bare_again old new bare (inr back) = subst IsBare (sym back) (back_bare old bare)
+
 module _ {S : Type 0} (g : Ghosts S) where
   pub stays_here : (c : Held S) → Stays g c c
   stays_here c = record { follows = keeps_disk (state g c); stands = λ clean. inl refl }
@@ -105,6 +111,7 @@ module _ {S : Type 0} (g : Ghosts S) where
   ready_on digest host c ready stays = record {
     rest = λ clean. rests_again digest host.limits (state g host.connection) (state g c) (ready.rest (stays.follows.clean clean)) (stays.stands clean);
     latest = λ clean. ready.latest (stays.follows.clean clean) ∙ ap latest_of (shown_now host.limits (state g host.connection) ∙ sym (stays_shown g digest host ready c stays clean) ∙ sym (shown_now host.limits (state g c)));
+    bare = λ clean. bare_again (standing (state g host.connection)) (standing (state g c)) (ready.bare (stays.follows.clean clean)) (stays.stands clean);
   }
 
   pub ready_still : (host new : Opened S) → new ≡ record host { connection = new.connection } → IsReadyBy g (digest_by host.digest) host → Stays g host.connection new.connection → IsReadyBy g (digest_by new.digest) new

@@ -1,4 +1,4 @@
--- A host at rest that is joined with packs. Since nothing is placed in them, it stands as its database does alone.
+-- A host at rest that is joined with no packs. Since nothing is placed in any, it stands as its database does alone.
 use Rattle.std.proofs.Common.{◌≡◌, ◌≢◌, true, false, [], ◌∷◌, Option, Some, None, Result, Ok, Err, IfOk, IfSome, is_some, refl, sym, ap, ◌∙◌, subst}
 use Rattle.std.specs.Prelude.{MatchResult}
 use Rattle.std.specs.String.{string_bytes}
@@ -8,23 +8,25 @@ use Rattle.sqlite_trees.specs.declared.store.Store.{Ghosts}
 use Rattle.sqlite.specs.declared.error.Error.{Error}
 use Rattle.sqlite.specs.Held.{Held, state}
 use Rattle.sqlite.specs.State.{State}
+use Rattle.bh_types.specs.BlockDigests.{digest_number}
 use Rattle.bh_types.specs.Limits.{HostLimits}
 use Rattle.bh_types.specs.declared.block_digest.BlockDigest.{BlockDigest}
 use Rattle.bh_types.specs.declared.refusal.Refusal.{Refusal}
 use Rattle.bh_types.specs.declared.refusal.Refusal.TheVariants.{NoSuchTenant, TenantExists}
 use Rattle.bh_tables.specs.Schema.{Octets}
-use Rattle.bh_tables.specs.Typed.{tables_in, IsHost}
+use Rattle.bh_tables.specs.Typed.{Tables, tables_in, IsHost}
 use Rattle.bh_view.specs.Bodies.{IsSoundHost}
+use Rattle.bh_view.specs.Laws.{new_host}
 use Rattle.bh_view.specs.View.{view, latest_of}
 use Rattle.bh_storage.specs.Calls.{Seen, IsAtRest}
-use Rattle.bh_shelf.specs.Contents.{nothing}
 use Rattle.bh_base.specs.Layer.{Standing, standing, IsStateClean, KeepsDisk, taken_back}
-use Rattle.bh_base.specs.Shown.{Backing, named, shown}
+use Rattle.bh_base.specs.Shown.{shown}
 use Rattle.bh_base.proofs.Lifting.{shown_clean, clean_shown, shown_intact, intact_shown}
-use Rattle.bh_base.proofs.Placing.{host_filled, filled_host}
 use Rattle.bh_schema.specs.Storage.{seen_in}
 use Rattle.bh_schema.proofs.Storing.{sound_host}
-use Rattle.bh_bare.proofs.Bare.{seen_bare, left_shown}
+use Rattle.bh_bare.specs.Bare.{no_packs, IsBare}
+use Rattle.bh_bare.proofs.Bare.{host_bare, rest_bare, stands_bare, seen_bare, left_alone}
+use Rattle.bh_blocks.specs.Digests.{digest_by}
 use Rattle.bh_create.specs.Creation.{IsNewHost}
 use Rattle.bh_tenant_rows.specs.Brought.{IsMoved}
 use Rattle.bh_moved.specs.Moves.{IsSettled, IsCommitted}
@@ -34,45 +36,29 @@ use Rattle.bh_maintenance.specs.Found.{IsReadyBy}
 use Rattle.bh_maintenance.specs.Moves.{tenants_in, TellsName, IsOneName, HasNoName, Moves}
 use Rattle.bh_maintenance.specs.declared.printed.Printed.{Printed}
 
--- no packs
-abbrev without : Backing
-without = record { seen = nothing; stood = nothing; kept = nothing; is_clean = true }
-
 -- the state of a database with them
 abbrev pub joined : {S : Type 0} → Ghosts S → Held S → State
-joined g c = shown without (state g c)
+joined g c = shown no_packs (state g c)
 
--- ---- a database that is a host's
+clean_joined : (s : State) → IsStateClean s → IsStateClean (shown no_packs s)
+clean_joined s clean = clean_shown no_packs s clean refl
 
--- with the bytes of packs
-stands_alone : (s : State) → IsHost (standing (shown without s)).now → IsHost (standing (shown without s)).kept → standing (shown without s) ≡ standing s
-unfolding standing
-stands_alone s now kept = λ i. record { now = filled_host (named without s.in_transaction) s.now now i; kept = filled_host without.kept s.committed kept i; inside = s.in_transaction; limit = s.step_limit }
-
--- without them
-stands_joined : (s : State) → IsHost (standing s).now → IsHost (standing s).kept → standing (shown without s) ≡ standing s
-unfolding standing
-stands_joined s now kept = λ i. record { now = host_filled (named without s.in_transaction) s.now now i; kept = host_filled without.kept s.committed kept i; inside = s.in_transaction; limit = s.step_limit }
-
-clean_joined : (s : State) → IsStateClean s → IsStateClean (shown without s)
-clean_joined s clean = clean_shown without s clean refl
-
-module _ (old new : State) (follows : KeepsDisk (shown without old) (shown without new)) where
+module _ (old new : State) (follows : KeepsDisk (shown no_packs old) (shown no_packs new)) where
   pub follows_alone : KeepsDisk old new
   unfolding standing
   follows_alone = record {
-    clean = λ clean. (shown_clean without old (follows.clean (clean_joined new clean))).0;
-    intact = λ intact. (shown_intact without old (follows.intact (intact_shown without new intact refl))).0;
+    clean = λ clean. (shown_clean no_packs old (follows.clean (clean_joined new clean))).0;
+    intact = λ intact. (shown_intact no_packs old (follows.intact (intact_shown no_packs new intact refl))).0;
     limit = follows.limit;
   }
 
 -- what was committed stands again
-back_alone : (old new : State) → standing (shown without old) ≡ standing old → IsHost (standing old).kept → standing (shown without new) ≡ taken_back (standing (shown without old)) → standing new ≡ taken_back (standing old)
+back_alone : (old new : State) → standing (shown no_packs old) ≡ standing old → IsHost (standing old).kept → standing (shown no_packs new) ≡ taken_back (standing (shown no_packs old)) → standing new ≡ taken_back (standing old)
 back_alone old new same host back =
-    let is : standing (shown without new) ≡ taken_back (standing old) = back ∙ ap taken_back same in
-    let now : IsHost (standing (shown without new)).now = subst (λ (x : Standing). IsHost x.now) (sym is) host in
-    let kept : IsHost (standing (shown without new)).kept = subst (λ (x : Standing). IsHost x.kept) (sym is) host in
-    sym (stands_alone new now kept) ∙ is
+    let is : standing (shown no_packs new) ≡ taken_back (standing old) = back ∙ ap taken_back same in
+    let now : IsHost (standing (shown no_packs new)).now = subst (λ (x : Standing). IsHost x.now) (sym is) host in
+    let kept : IsHost (standing (shown no_packs new)).kept = subst (λ (x : Standing). IsHost x.kept) (sym is) host in
+    sym (stands_bare new (host_bare new now kept)) ∙ is
 
 -- ---- a host that is ready
 
@@ -82,12 +68,12 @@ module _ {S : Type 0} (g : Ghosts S) (digest : Octets → Octets) (host : Opened
   kept_host clean = let it = ready.rest clean in sound_host (standing (state g host.connection)).kept (subst (IsSoundHost digest) (sym it.committed) it.sound).sound
 
   stands_ready : IsStateClean (state g host.connection) → standing (joined g host.connection) ≡ standing (state g host.connection)
-  stands_ready clean = stands_joined (state g host.connection) (settled g digest host ready clean).host (kept_host clean)
+  stands_ready clean = stands_bare (state g host.connection) (ready.bare clean)
 
   -- so is what a move is given
   pub settled_joined : IsStateClean (joined g host.connection) → IsSettled (standing (joined g host.connection))
   settled_joined clean =
-      let was = (shown_clean without (state g host.connection) clean).0 in
+      let was = (shown_clean no_packs (state g host.connection) clean).0 in
       subst IsSettled (sym (stands_ready was)) (settled g digest host ready was)
 
   module _ (new : Held S) (follows : KeepsDisk (joined g host.connection) (joined g new)) where
@@ -129,7 +115,7 @@ module _ {S T : Type 0} (g : Ghosts S) (h : Ghosts T) (digest_from digest : Octe
 
   -- once it is committed
   to_stands : IsStateClean (state h to_new) → IsCommitted (standing (joined h to_new)) → IsHost (standing (joined h to_new)).now → standing (joined h to_new) ≡ standing (state h to_new)
-  to_stands clean committed host = stands_alone (state h to_new) host (subst IsHost (sym committed.kept) host)
+  to_stands clean committed host = stands_bare (state h to_new) (host_bare (state h to_new) host (subst IsHost (sym committed.kept) host))
 
   moved_alone : standing (joined g from.connection) ≡ standing (state g from.connection) → standing (joined h to.connection) ≡ standing (state h to.connection) → standing (joined h to_new) ≡ standing (state h to_new)
       → IsMoved digest tenant (tables_in (standing (joined g from.connection)).now) (tables_in (standing (joined h to.connection)).now) (tables_in (standing (joined h to_new)).now)
@@ -173,15 +159,20 @@ module _ {S T : Type 0} (g : Ghosts S) (h : Ghosts T) (digest_from digest : Octe
 
 -- ---- a new host
 
-module _ (limits : HostLimits) (digest : BlockDigest) (s : State) where
-  pub new_alone : (IsStateClean (shown without s) → IsNewHost limits digest (shown without s)) → IsStateClean s → IsNewHost limits digest s
-  new_alone new clean =
+module _ (limits : HostLimits) (digest : BlockDigest) (s : State) (new : IsStateClean (shown no_packs s) → IsNewHost limits digest (shown no_packs s)) where
+  pub new_bare : IsStateClean s → IsBare (standing s)
+  new_bare clean = rest_bare s limits ((new (clean_joined s clean)).rest (digest_by digest))
+
+  pub new_alone : IsStateClean s → IsNewHost limits digest s
+  new_alone clean =
       let it = new (clean_joined s clean) in
-      let same : seen_in limits (shown without s) ≡ seen_in limits s = seen_bare without s limits in
+      let made : Tables = new_host limits.min_part limits.max_body (digest_number digest) in
+      let same : seen_in limits (shown no_packs s) ≡ seen_in limits s = seen_bare s (new_bare clean) limits in
+      let sound : IsSoundHost (digest_by digest) made = subst (IsSoundHost (digest_by digest)) it.tables (it.rest (digest_by digest)).sound in
       record {
         rest = λ named. subst (IsAtRest (IsSoundHost named)) same (it.rest named);
         tables = ap (λ (x : Seen). x.now) (sym same) ∙ it.tables;
         latest = ap (λ (x : Seen). latest_of x.now) (sym same) ∙ it.latest;
         vacant = λ tenant. ap (λ (x : Seen). view x.now tenant) (sym same) ∙ it.vacant tenant;
-        left = λ x left. it.left x (left_shown without s x left);
+        left = left_alone s (λ x. x ≡ made) (λ db is. sound_host db (subst (IsSoundHost (digest_by digest)) (sym is) sound).sound) it.left;
       }

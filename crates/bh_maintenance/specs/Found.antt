@@ -16,6 +16,7 @@ use Rattle.bh_view.specs.View.{latest_of}
 use Rattle.bh_storage.specs.Calls.{IsAtRest}
 use Rattle.bh_base.specs.Layer.{standing, IsOpen, IsStateClean, KeepsDisk, LeavesNothingNew, Unwinds}
 use Rattle.bh_schema.specs.Storage.{seen_in}
+use Rattle.bh_bare.specs.Bare.{IsBare}
 use Rattle.bh_migration.specs.Migration.{Settles}
 use Rattle.bh_open.specs.Opening.{digest_in, IsHostOf, LeavesOver}
 use Rattle.bh_open.specs.Versions.{IsEarlierSchema, IsHostsSchema, IsTypedIfEarlier}
@@ -68,6 +69,8 @@ module _ {S : Type 0} (g : Ghosts S) where
     pub rest : IsStateClean (state g opened.connection) → IsAtRest (IsSoundHost digest) (seen_in opened.limits (state g opened.connection))
     pub latest : IsStateClean (state g opened.connection) → opened.latest
         ≡ latest_of (seen_in opened.limits (state g opened.connection)).now
+    -- and it has all bytes of its blocks, without packs
+    pub bare : IsStateClean (state g opened.connection) → IsBare (standing (state g opened.connection))
 
   -- so with the function in its row
   pub record IsReadyByRow (host : Opened S) : Type 0 where

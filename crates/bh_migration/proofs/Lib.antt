@@ -4,3 +4,4 @@ mod Texts
 mod Tallied
 mod Made
 mod Adding
+mod PlacedText

@@ -80,6 +80,8 @@ first_kept db next h = λ i. record {
   retains = [];
   tallies = [];
   garbage = [];
+  packs = [];
+  places = [];
   unfilled = [];
 }
 
@@ -99,7 +101,7 @@ filled_never = at 32 packs_table ∷ at 34 placed_table ∷ at 37 notes_table �
 fourth_kept : (db next : Trees) → KeepsRows fourth_schema.tables db next → fourth_raw next ≡ fourth_raw db
 fourth_kept db next h =
     let z = kept_rest third_schema.tables filled_never db next h in
-    λ i. record (third_kept db next (kept_first third_schema.tables filled_never db next h) i) { unfilled = z.0 i ++ (z.1.0 i ++ (z.1.1.0 i ++ (z.1.1.1.0 i ++ (z.1.1.1.1.0 i ++ (z.1.1.1.1.1.0 i ++ []))))) }
+    λ i. record (third_kept db next (kept_first third_schema.tables filled_never db next h) i) { packs = z.0 i; places = z.1.0 i; unfilled = z.1.1.0 i ++ (z.1.1.1.0 i ++ (z.1.1.1.1.0 i ++ (z.1.1.1.1.1.0 i ++ []))) }
 
 -- ---- the tables that each version added
 
@@ -144,7 +146,7 @@ fourth_made a b c d e f g one two three four five six =
     let w6 : Widens (at 32 packs_table ∷ at 34 placed_table ∷ at 37 notes_table ∷ at 39 upload_notes_table ∷ at 41 rights_table ∷ at 43 garbage_table ∷ []) was g.now.trees =
     widens (at 32 packs_table ∷ at 34 placed_table ∷ at 37 notes_table ∷ at 39 upload_notes_table ∷ at 41 rights_table ∷ []) (at 43 garbage_table) was f.now.trees g.now.trees w5 six.rows six.none in
     let z = w6.none in
-    let none : fourth_raw g.now.trees ≡ third_raw g.now.trees = λ i. record (fourth_raw g.now.trees) { unfilled = z.0 i ++ (z.1.0 i ++ (z.1.1.0 i ++ (z.1.1.1.0 i ++ (z.1.1.1.1.0 i ++ (z.1.1.1.1.1.0 i ++ []))))) } in
+    let none : fourth_raw g.now.trees ≡ third_raw g.now.trees = λ i. record (fourth_raw g.now.trees) { packs = z.0 i; places = z.1.0 i; unfilled = z.1.1.0 i ++ (z.1.1.1.0 i ++ (z.1.1.1.1.0 i ++ (z.1.1.1.1.1.0 i ++ []))) } in
     record { inside = six.inside; schema = six.schema; rows = none ∙ w6.rows }
 
 pub fifth_made : (a b : Standing) → HasMade added.Unneeded a b → HasRows host_schema raw (fourth_raw a.now.trees) b

@@ -52,11 +52,12 @@ pub record IsChanged (old new : Database) : Type 0 where
   pub third : IsThirdHost old → IsBroughtOver (tables_in old) new
   pub fourth : IsFourthHost old → IsBroughtOver (tables_in old) new
 
--- no transaction is open over a database that was upgraded so, and all is committed
+-- no transaction is open over a database that was upgraded so, and all is committed. No block has its bytes in a pack
 pub record Settles (old new : Standing) : Type 0 where
   pub outside : new.inside ≡ false
   pub committed : new.kept ≡ new.now
   pub changed : IsChanged old.now new.now
+  pub unplaced : new.now.trees 34 ≡ []
 
 -- these trees are those of a database that was upgraded so
 abbrev pub LeavesChanged : Database → Trees → Type 0

@@ -4,9 +4,10 @@
 
 mod making;
 mod tallying;
+mod unplaced;
 mod weighing;
 
-ghost use Rattle.std.specs.Prelude.{◌≡◌, ◌⊎◌, true, false, IfErr, OnOk, OnErr};
+ghost use Rattle.std.specs.Prelude.{◌≡◌, ◌⊎◌, true, false, [], IfErr, OnOk, OnErr};
 ghost use Rattle.sqlite.specs.Held.{state};
 ghost use Rattle.sqlite.specs.Tree.{Trees};
 ghost use Rattle.bh_rows.specs.Means.{is_trouble};
@@ -24,6 +25,7 @@ use crate::tallying::tally_tenants;
 use crate::weighing::weigh;
 use bh_base::transactions::{begin, commit, take_back};
 use sqlite::{Alter, Connection, Error};
+pub use unplaced::none_placed;
 
 /// The version of an older host.
 #[derive(Clone, Copy)]
@@ -88,6 +90,21 @@ fn change<S: Alter>(connection: &mut Connection<S>, version: Earlier) -> Result<
     set_version(connection)
 }
 
+/// The same, if no block has its bytes in a pack then.
+fn change_whole<S: Alter>(connection: &mut Connection<S>, version: Earlier) -> Result<(), Error>
+    requires { IsClean S.Store connection.old → HasSchema (earlier_schema version) (stands S.Store connection.old) }
+    ensures within { StaysWithin S.Store connection.old connection.new }
+    ensures opens { OnOk result (StaysOpen S.Store connection.old connection.new) }
+    ensures brings { OnOk result (IsClean S.Store connection.new
+        → Brings (stands S.Store connection.old) (stands S.Store connection.new)) }
+    ensures unplaced { OnOk result (IsClean S.Store connection.new → (stands S.Store connection.new).now.trees 34 ≡ []) }
+    ensures trouble { IfErr result (IsTroubleIf S.Store connection.old connection.new
+        (IsEarlierHost version (stands S.Store connection.old).now)) }
+{
+    change(connection, version)?;
+    none_placed(connection)
+}
+
 fn commit_change<S: Alter>(connection: &mut Connection<S>, version: Earlier) -> Result<usize, Error>
     requires { IsClean S.Store connection.old → IsEarlier version (stands S.Store connection.old) }
     ensures follows { KeepsDisk (state S.Store connection.old) (state S.Store connection.new) }
@@ -102,7 +119,7 @@ fn commit_change<S: Alter>(connection: &mut Connection<S>, version: Earlier) -> 
         (IsClean S.Store connection.old → IsEarlierHost version (stands S.Store connection.old).now)) }
 {
     begin(connection)?;
-    change(connection, version)?;
+    change_whole(connection, version)?;
     commit(connection)
 }
 
@@ -111,7 +128,7 @@ fn commit_change<S: Alter>(connection: &mut Connection<S>, version: Earlier) -> 
 /// It creates the missing tables: that of tallies with the counts of each tenant's rows, that of what
 /// nobody needs with the bytes of the blocks that no reference names, and the others without rows.
 /// Then it sets the host's version to 5. The host's contents don't change. After an error nothing has
-/// changed.
+/// changed. A row of places, which no program of versions 1 to 4 writes, is an error.
 pub fn bring_over<S: Alter>(connection: &mut Connection<S>, version: Earlier) -> Result<(), Error>
     requires { IsClean S.Store connection.old → IsEarlier version (stands S.Store connection.old) }
     ensures follows { KeepsDisk (state S.Store connection.old) (state S.Store connection.new) }

@@ -182,6 +182,10 @@ module _ (old mid new : State) (settled : IsSettled old) (kept : IsKept old mid)
       let committed = sym (settled.committed (kept.follows.clean was).is_open) in
       back clean ∙ (λ i. record { now = (kept.kept was ∙ committed) i; kept = kept.kept was i; inside = sym settled.outside i; limit = kept.follows.limit i })
 
+-- without a transaction, all is as it was committed
+pub taken_same : (x : Standing) → x.inside ≡ false → x.now ≡ x.kept → taken_back x ≡ x
+taken_same x outside committed = λ i. record { now = sym committed i; kept = x.kept; inside = sym outside i; limit = x.limit }
+
 -- what a crash leaves of a call that changed nothing, and one that may have brought the database over
 pub over_then : (a m d : State) → LeavesNothingNew a m → (IsStateClean m → standing m ≡ standing a) → KeepsDisk m d → LeavesOver m d → IsOpen a → LeavesOver a d
 over_then a m d first same follows over up intact db left =

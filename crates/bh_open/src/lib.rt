@@ -3,6 +3,7 @@
 
 mod found;
 mod open;
+mod placed;
 mod row;
 mod tables;
 

@@ -1,4 +1,4 @@
-ghost use Rattle.std.specs.Prelude.{◌≡◌, ◌≢◌, ◌↔◌, true, false, None, IsSome, IfSome, IfOk, IfErr, OnOk, OnErr};
+ghost use Rattle.std.specs.Prelude.{◌≡◌, ◌≢◌, ◌↔◌, true, false, [], None, IsSome, IfSome, IfOk, IfErr, OnOk, OnErr};
 ghost use Rattle.sqlite.specs.Held.{state};
 ghost use Rattle.bh_types.specs.BlockDigests.{digest_number};
 ghost use Rattle.bh_types.specs.Limits.{HostLimits};
@@ -18,6 +18,7 @@ ghost use Rattle.bh_open.specs.Opening.{digest_in, IsHostOf, IsSettled, IsKept, 
 ghost use Rattle.bh_open.specs.Versions.{schema_of, IsHostWith, IsAnyHost, IsEarlierSchema, IsHostsSchema, IsTypedIfEarlier};
 
 use crate::found::{FoundHost, HostVersion, NoHost};
+use crate::placed::see_unplaced;
 use crate::row::{found_in, host_rows};
 use crate::tables::{version_of, why_none};
 use bh_base::connection::Connection as Joined;
@@ -156,7 +157,8 @@ pub fn look<S: Alter>(
     found
 }
 
-/// Upgrades the database of an older host to the present version.
+/// Upgrades the database of an older host to the present version. Afterwards no block has its bytes in a
+/// pack: one that has is an error.
 fn bring<S: Alter>(connection: &mut Connection<S>, version: HostVersion) -> Result<(), Error>
     requires outside { IsClean S.Store connection.old → (stands S.Store connection.old).inside ≡ false }
     requires committed { IsClean S.Store connection.old → (stands S.Store connection.old).now ≡ (stands S.Store connection.old).kept }
@@ -164,6 +166,7 @@ fn bring<S: Alter>(connection: &mut Connection<S>, version: HostVersion) -> Resu
     ensures follows { KeepsDisk (state S.Store connection.old) (state S.Store connection.new) }
     ensures opens { OnOk result (IsClean S.Store connection.new
         → Opens version (stands S.Store connection.old) (stands S.Store connection.new)) }
+    ensures unplaced { OnOk result (IsClean S.Store connection.new → (stands S.Store connection.new).now.trees 34 ≡ []) }
     ensures back { OnErr result (IsClean S.Store connection.new
         → stands S.Store connection.new ≡ taken_back (stands S.Store connection.old)) }
     ensures crash { LeavesOver (state S.Store connection.old) (state S.Store connection.new) }
@@ -175,7 +178,7 @@ fn bring<S: Alter>(connection: &mut Connection<S>, version: HostVersion) -> Resu
         HostVersion::Second => bring_over(connection, Earlier::Second),
         HostVersion::Third => bring_over(connection, Earlier::Third),
         HostVersion::Fourth => bring_over(connection, Earlier::Fourth),
-        HostVersion::Fifth => Ok(()),
+        HostVersion::Fifth => see_unplaced(connection),
     }
 }
 
@@ -189,6 +192,8 @@ fn find_and_bring<S: Alter>(
     ensures schema { IfOk result (λ found. IfOk found (λ f. (stands S.Store connection.old).now.schema ≡ schema_of f.version)) }
     ensures opens { IfOk result (λ found. IfOk found (λ f. IsClean S.Store connection.new
         → Opens f.version (stands S.Store connection.old) (stands S.Store connection.new))) }
+    ensures unplaced { IfOk result (λ found. IfOk found (λ f. IsClean S.Store connection.new
+        → (stands S.Store connection.new).now.trees 34 ≡ [])) }
     ensures finds { IfOk result (λ found. IsClean S.Store connection.new → Finds (stands S.Store connection.old).now found) }
     ensures same { IfOk result (λ found. IfErr found (λ why. IsClean S.Store connection.new
         → stands S.Store connection.new ≡ stands S.Store connection.old)) }
@@ -213,9 +218,9 @@ fn find_and_bring<S: Alter>(
 ///
 /// Fails with `NotAHostFile` if the database's tables are not a host's, or if its row isn't one of
 /// their version with limits in range and a known digest function. An empty database has no tables,
-/// so it fails too. Fails with `Unavailable` if memory or the store failed, if a row can't be read,
-/// if a transaction was open, or if a limit on a statement's steps is set. An open transaction is
-/// rolled back.
+/// so it fails too. Fails with `Unavailable` if memory or the store failed, if a row can't be read, if a
+/// block has its bytes in a pack, if a transaction was open, or if a limit on a statement's steps is
+/// set. An open transaction is rolled back.
 pub fn open_host<S: Alter + Drop>(
     alloc: Global,
     connection: Connection<S>,
@@ -229,6 +234,8 @@ pub fn open_host<S: Alter + Drop>(
         → Settles (stands S.Store connection) (stands S.Store opened.connection)) }
     ensures shows { IfOk result (λ opened. IsClean S.Store opened.connection → IsTypedIfEarlier (stands S.Store connection).now
         → (seen_in opened.limits (state S.Store opened.connection)).now ≡ tables_opened (stands S.Store connection).now) }
+    ensures unplaced { IfOk result (λ opened. IsClean S.Store opened.connection
+        → ((stands S.Store opened.connection).now.trees 34 ≡ []) × ((stands S.Store opened.connection).kept.trees 34 ≡ [])) }
     ensures opened { IfOk result (λ opened. IsClean S.Store opened.connection → IsAnyHost (stands S.Store connection).now
         → IsHostOf opened.limits (stands S.Store connection).now) }
     ensures rest { (digest : Octets → Octets) → IfOk result (λ opened. IsClean S.Store opened.connection

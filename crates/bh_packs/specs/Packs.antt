@@ -29,6 +29,11 @@ module _ {D : Type 0} where
   IsOfLane None lane = ⊥
   IsOfLane (Some p) lane = p.lane ≡ lane
 
+  -- this is a pack's file
+  abbrev pub IsFileIn : Option (Pack D) → D → Type 0
+  IsFileIn None file = ⊥
+  IsFileIn (Some p) file = p.disk ≡ file
+
   -- a pack was synced up to here
   abbrev pub IsMark : Option (Pack D) → ℕ → Type 0
   IsMark None mark = ⊥

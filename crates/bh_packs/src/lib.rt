@@ -6,6 +6,7 @@ pub mod folder;
 pub mod pack;
 pub mod packs;
 pub mod place;
+pub mod removed;
 pub mod restart;
 mod slots;
 pub mod trouble;

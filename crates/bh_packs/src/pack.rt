@@ -29,7 +29,9 @@ pub struct Pack<D> {
 
 impl<D: Disk> Pack<D> {
     /// Its file.
-    pub(crate) fn into_file(self) -> D {
+    pub(crate) fn into_file(self) -> D
+        ensures { result ≡ self.disk }
+    {
         let Pack {
             disk,
             end: _,
@@ -130,9 +132,8 @@ impl<D: Disk> Pack<D> {
         Ok(())
     }
 
-    /// Reads the bytes at an offset that have this sum.
-    pub(crate) fn read(&mut self, at: usize, sum: u64, room: &mut [u8]) -> Result<(), Trouble>
-        ensures tested { OnOk result (sum_of room.new ≡ sum) }
+    /// Reads the bytes at an offset, which no sum tests.
+    pub(crate) fn peek(&mut self, at: usize, room: &mut [u8]) -> Result<(), Trouble>
         ensures bytes { OnOk result (IsTrue (D.Disk.is_clean self.new.disk) → (bytes : List ℕ) → IsWritten D.Disk self.old at bytes
             → length bytes ≡ length room.old → room.new ≡ bytes) }
         ensures within { OnOk result (at + length room.old ≤ self.old.end) }
@@ -146,6 +147,19 @@ impl<D: Disk> Pack<D> {
             return Err(Trouble::Unusable);
         }
         get(&mut self.disk, at, room)?;
+        Ok(())
+    }
+
+    /// Reads the bytes at an offset that have this sum.
+    pub(crate) fn read(&mut self, at: usize, sum: u64, room: &mut [u8]) -> Result<(), Trouble>
+        ensures tested { OnOk result (sum_of room.new ≡ sum) }
+        ensures bytes { OnOk result (IsTrue (D.Disk.is_clean self.new.disk) → (bytes : List ℕ) → IsWritten D.Disk self.old at bytes
+            → length bytes ≡ length room.old → room.new ≡ bytes) }
+        ensures within { OnOk result (at + length room.old ≤ self.old.end) }
+        ensures keeps { KeepsPack D.Disk (Some self.old) (Some self.new) }
+        ensures holds { self.new.holds ≡ self.old.holds }
+    {
+        self.peek(at, room)?;
         if sum_of(room) != sum {
             return Err(Trouble::Damaged);
         }

@@ -4,13 +4,14 @@ ghost use Rattle.std.specs.Prelude.{◌≡◌, ◌≢◌, ◌+◌, ◌-◌, ◌<
 ghost use Rattle.std.specs.Prelude.{IfOk, IfSome, IsTrue, OnOk, OnErr};
 ghost use Rattle.bh_packs.specs.Stands.{Stands};
 ghost use Rattle.bh_packs.specs.Sums.{sum_of};
-ghost use Rattle.bh_packs.specs.Packs.{pack_at, end_in, holds_in, IsOfLane, IsMark, IsCleanIn, IsSettled, IsSettledIn, IsWrittenIn};
-ghost use Rattle.bh_packs.specs.Packs.{IsGiven, IsKept, Keeps, KeepsHolds};
+ghost use Rattle.bh_packs.specs.Packs.{pack_at, end_in, holds_in, IsOfLane, IsMark, IsFileIn, IsCleanIn, IsSettled, IsSettledIn};
+ghost use Rattle.bh_packs.specs.Packs.{IsWrittenIn, IsGiven, IsKept, Keeps, KeepsHolds};
 
 use crate::folder::Folder;
 use crate::pack::Pack;
 use crate::place::{Bounds, Hold, Lane, Place, sum_of};
-use crate::slots::{append_in, hold_in, let_go_in, put_in, read_in, remove_in, sync_in};
+use crate::removed::Removed;
+use crate::slots::{append_in, hold_in, let_go_in, peek_in, put_in, read_in, remove_in, sync_in};
 use crate::trouble::Trouble;
 use sqlite_disk::Disk;
 use std::alloc::Global;
@@ -20,16 +21,19 @@ use std::alloc::Global;
 pub struct Packs<D> {
     pub(crate) slots: Vec<Option<Pack<D>>>,
     bounds: Bounds,
+    pub(crate) removed: Removed<D>,
 }
 
 impl<D: Disk + Drop> Packs<D> {
     /// No packs.
     pub fn new(alloc: Global, bounds: Bounds) -> Packs<D>
-        ensures { (n : ℕ) → pack_at result n ≡ None }
+        ensures packs { (n : ℕ) → pack_at result n ≡ None }
+        ensures removed { result.removed.files ≡ [] }
     {
         Packs {
             slots: Vec::new(alloc),
             bounds,
+            removed: Removed::new(),
         }
     }
 
@@ -41,6 +45,7 @@ impl<D: Disk + Drop> Packs<D> {
         ensures end { OnOk result (end_in (pack_at self.new pack) ≡ mark) }
         ensures long { OnOk result (IsCleanIn D.Disk (pack_at self.new pack) → mark ≤ length (D.Disk.seen file)) }
         ensures keeps { Keeps D.Disk self.old self.new }
+        ensures removed { self.new.removed ≡ self.old.removed }
         ensures holds { KeepsHolds self.old self.new }
     {
         let opened = Pack::open(file, mark, lane)?;
@@ -61,6 +66,7 @@ impl<D: Disk + Drop> Packs<D> {
         ensures apart { IfOk result (λ place. end_in (pack_at self.old place.pack) ≤ place.offset) }
         ensures lane { IfOk result (λ place. IsOfLane (pack_at self.new place.pack) lane) }
         ensures keeps { Keeps D.Disk self.old self.new }
+        ensures removed { self.new.removed ≡ self.old.removed }
         ensures holds { KeepsHolds self.old self.new }
     {
         if bytes.len() > self.bounds.bytes {
@@ -76,6 +82,7 @@ impl<D: Disk + Drop> Packs<D> {
         ensures kept { OnOk result ((place : Place) (bytes : List ℕ) → IsGiven D.Disk self.old place bytes
             → IsKept D.Disk self.new place bytes) }
         ensures keeps { Keeps D.Disk self.old self.new }
+        ensures removed { self.new.removed ≡ self.old.removed }
         ensures holds { KeepsHolds self.old self.new }
     {
         for number in 0..self.slots.len() {
@@ -84,14 +91,30 @@ impl<D: Disk + Drop> Packs<D> {
         Ok(())
     }
 
+    /// Reads the bytes at an offset of a pack, which no sum tests.
+    pub fn peek(&mut self, pack: usize, at: usize, room: &mut [u8]) -> Result<(), Trouble>
+        ensures bytes { OnOk result (IsCleanIn D.Disk (pack_at self.new pack) → (bytes : List ℕ)
+            → IsWrittenIn D.Disk (pack_at self.old pack) at bytes → length bytes ≡ length room.old → room.new ≡ bytes) }
+        ensures within { OnOk result (at + length room.old ≤ end_in (pack_at self.old pack)) }
+        ensures keeps { Keeps D.Disk self.old self.new }
+        ensures removed { self.new.removed ≡ self.old.removed }
+        ensures holds { KeepsHolds self.old self.new }
+    {
+        if pack >= self.slots.len() {
+            return Err(Trouble::Missing);
+        }
+        peek_in(&mut self.slots[pack], at, room)
+    }
+
     /// Reads the bytes of a place. Bytes that don't have its sum are an error.
     pub fn read(&mut self, place: Place, room: &mut [u8]) -> Result<(), Trouble>
         requires { length room.old ≡ place.size }
         ensures tested { OnOk result (sum_of room.new ≡ place.sum) }
         ensures bytes { OnOk result (IsCleanIn D.Disk (pack_at self.new place.pack) → (bytes : List ℕ)
-            → IsGiven D.Disk self.old place bytes → room.new ≡ bytes) }
+            → IsWrittenIn D.Disk (pack_at self.old place.pack) place.offset bytes → length bytes ≡ place.size → room.new ≡ bytes) }
         ensures within { OnOk result (place.offset + place.size ≤ end_in (pack_at self.old place.pack)) }
         ensures keeps { Keeps D.Disk self.old self.new }
+        ensures removed { self.new.removed ≡ self.old.removed }
         ensures holds { KeepsHolds self.old self.new }
     {
         if place.pack >= self.slots.len() {
@@ -107,6 +130,7 @@ impl<D: Disk + Drop> Packs<D> {
         ensures others { (n : ℕ) → n ≢ pack → holds_in (pack_at self.new n) ≡ holds_in (pack_at self.old n) }
         ensures failed { OnErr result (KeepsHolds self.old self.new) }
         ensures keeps { Keeps D.Disk self.old self.new }
+        ensures removed { self.new.removed ≡ self.old.removed }
     {
         if pack >= self.slots.len() {
             return Err(Trouble::Missing);
@@ -120,6 +144,7 @@ impl<D: Disk + Drop> Packs<D> {
         ensures held { holds_in (pack_at self.new hold.pack) ≡ holds_in (pack_at self.old hold.pack) - 1 }
         ensures others { (n : ℕ) → n ≢ hold.pack → holds_in (pack_at self.new n) ≡ holds_in (pack_at self.old n) }
         ensures keeps { Keeps D.Disk self.old self.new }
+        ensures removed { self.new.removed ≡ self.old.removed }
     {
         if hold.pack < self.slots.len() {
             let_go_in(&mut self.slots[hold.pack]);
@@ -129,14 +154,19 @@ impl<D: Disk + Drop> Packs<D> {
     /// Removes a pack that nobody holds, and returns its file. No other pack changes.
     pub fn remove(&mut self, pack: usize) -> Result<D, Trouble>
         ensures unheld { OnOk result (holds_in (pack_at self.old pack) ≡ 0) }
+        ensures file { IfOk result (λ file. IsFileIn (pack_at self.old pack) file) }
         ensures gone { OnOk result (pack_at self.new pack ≡ None) }
+        ensures noted { IfOk result (λ file. self.new.removed.files ≡ file ∷ self.old.removed.files) }
         ensures others { (n : ℕ) → n ≢ pack → pack_at self.new n ≡ pack_at self.old n }
         ensures stays { OnErr result (pack_at self.new pack ≡ pack_at self.old pack) }
+        ensures none { OnErr result (self.new.removed ≡ self.old.removed) }
     {
         if pack >= self.slots.len() {
             return Err(Trouble::Missing);
         }
-        remove_in(&mut self.slots[pack])
+        let file = remove_in(&mut self.slots[pack])?;
+        self.removed.note(&file);
+        Ok(file)
     }
 
     /// Up to where a pack was synced: the length of it that a database may be told. None if there is
@@ -155,6 +185,7 @@ impl<D: Disk + Drop> Packs<D> {
         ensures settled { OnOk result ((at : ℕ) (bytes : List ℕ) → IsWrittenIn D.Disk (pack_at self.old number) at bytes
             → IsSettledIn D.Disk (pack_at self.new number) at bytes) }
         ensures keeps { Keeps D.Disk self.old self.new }
+        ensures removed { self.new.removed ≡ self.old.removed }
         ensures holds { KeepsHolds self.old self.new }
     {
         if number >= self.slots.len() {
@@ -171,6 +202,7 @@ impl<D: Disk + Drop> Packs<D> {
         size: usize,
     ) -> Result<usize, Trouble>
         ensures keeps { Keeps D.Disk self.old self.new }
+        ensures removed { self.new.removed ≡ self.old.removed }
         ensures holds { KeepsHolds self.old self.new }
     {
         match self.with_room(lane, size) {
@@ -194,6 +226,7 @@ impl<D: Disk + Drop> Packs<D> {
     /// Makes a new pack, and returns its number.
     fn begin<F: Folder<D>>(&mut self, folder: &mut F, lane: Lane) -> Result<usize, Trouble>
         ensures keeps { Keeps D.Disk self.old self.new }
+        ensures removed { self.new.removed ≡ self.old.removed }
         ensures holds { KeepsHolds self.old self.new }
     {
         let number = self.slots.len();
@@ -211,6 +244,7 @@ impl<D: Disk + Drop> Packs<D> {
         ensures apart { IfOk result (λ place. end_in (pack_at self.old place.pack) ≤ place.offset) }
         ensures lane { IfOk result (λ place. IsOfLane (pack_at self.new place.pack) lane) }
         ensures keeps { Keeps D.Disk self.old self.new }
+        ensures removed { self.new.removed ≡ self.old.removed }
         ensures holds { KeepsHolds self.old self.new }
     {
         if number >= self.slots.len() {
@@ -234,6 +268,7 @@ impl<D: Disk + Drop> Packs<D> {
         ensures end { OnOk result (end_in (pack_at self.new number) ≡ pack.end) }
         ensures clean { OnOk result (IsCleanIn D.Disk (pack_at self.new number) → IsTrue (D.Disk.is_clean pack.disk)) }
         ensures keeps { Keeps D.Disk self.old self.new }
+        ensures removed { self.new.removed ≡ self.old.removed }
         ensures holds { KeepsHolds self.old self.new }
     {
         if number >= self.slots.len() {
@@ -245,6 +280,7 @@ impl<D: Disk + Drop> Packs<D> {
     /// Makes a slot for a pack's number, if that is below the bound.
     fn reach(&mut self, pack: usize) -> Result<(), Trouble>
         ensures keeps { Keeps D.Disk self.old self.new }
+        ensures removed { self.new.removed ≡ self.old.removed }
         ensures holds { KeepsHolds self.old self.new }
     {
         if pack >= self.bounds.packs {
@@ -259,6 +295,7 @@ impl<D: Disk + Drop> Packs<D> {
     /// Makes one more slot.
     fn add_empty(&mut self) -> Result<(), Trouble>
         ensures keeps { Keeps D.Disk self.old self.new }
+        ensures removed { self.new.removed ≡ self.old.removed }
         ensures holds { KeepsHolds self.old self.new }
     {
         self.add(None)
@@ -267,6 +304,7 @@ impl<D: Disk + Drop> Packs<D> {
     fn add(&mut self, slot: Option<Pack<D>>) -> Result<(), Trouble>
         ensures added { OnOk result (self.new.slots.items ≡ self.old.slots.items ++ slot ∷ []) }
         ensures failed { OnErr result (self.new.slots.items ≡ self.old.slots.items) }
+        ensures removed { self.new.removed ≡ self.old.removed }
     {
         match self.slots.push(slot) {
             Ok(()) => Ok(()),

@@ -15,6 +15,7 @@ impl<D: Crash> Packs<D> {
     pub fn crash(&mut self)
         ensures kept { (place : Place) (bytes : List ℕ) → IsKept D.Disk self.old place bytes → IsKept D.Disk self.new place bytes }
         ensures given { (place : Place) (bytes : List ℕ) → IsKept D.Disk self.old place bytes → IsGiven D.Disk self.new place bytes }
+        ensures removed { self.new.removed ≡ self.old.removed }
     {
         for number in 0..self.slots.len() {
             self.crash_at(number);
@@ -24,6 +25,7 @@ impl<D: Crash> Packs<D> {
     fn crash_at(&mut self, number: usize)
         ensures settled { (n at : ℕ) (bytes : List ℕ) → IsSettledIn D.Disk (pack_at self.old n) at bytes
             → IsSettledIn D.Disk (pack_at self.new n) at bytes }
+        ensures removed { self.new.removed ≡ self.old.removed }
     {
         if number < self.slots.len() {
             crash_in(&mut self.slots[number]);

@@ -3,7 +3,7 @@
 ghost use Rattle.std.specs.Prelude.{◌≡◌, ◌+◌, ◌-◌, ◌<◌, ◌≤◌, ◌↔◌, ℕ, List, length, IsTrue};
 ghost use Rattle.std.specs.Prelude.{IfOk, OnOk, OnErr};
 ghost use Rattle.bh_packs.specs.Sums.{sum_of};
-ghost use Rattle.bh_packs.specs.Packs.{end_in, holds_in, IsOfLane, IsCleanIn, IsSettled, IsSettledIn, IsWrittenIn, KeepsPack};
+ghost use Rattle.bh_packs.specs.Packs.{end_in, holds_in, IsOfLane, IsFileIn, IsCleanIn, IsSettled, IsSettledIn, IsWrittenIn, KeepsPack};
 
 use crate::pack::Pack;
 use crate::place::Lane;
@@ -87,6 +87,24 @@ pub(crate) fn read_in<D: Disk>(
     }
 }
 
+/// Reads the bytes at an offset, which no sum tests.
+pub(crate) fn peek_in<D: Disk>(
+    slot: &mut Option<Pack<D>>,
+    at: usize,
+    room: &mut [u8],
+) -> Result<(), Trouble>
+    ensures bytes { OnOk result (IsCleanIn D.Disk slot.new → (bytes : List ℕ) → IsWrittenIn D.Disk slot.old at bytes
+        → length bytes ≡ length room.old → room.new ≡ bytes) }
+    ensures within { OnOk result (at + length room.old ≤ end_in slot.old) }
+    ensures keeps { KeepsPack D.Disk slot.old slot.new }
+    ensures holds { holds_in slot.new ≡ holds_in slot.old }
+{
+    match slot {
+        Some(pack) => pack.peek(at, room),
+        None => Err(Trouble::Missing),
+    }
+}
+
 /// Counts one more hold.
 pub(crate) fn hold_in<D: Disk>(slot: &mut Option<Pack<D>>) -> Result<(), Trouble>
     ensures held { OnOk result (holds_in slot.new ≡ holds_in slot.old + 1) }
@@ -116,6 +134,7 @@ pub(crate) fn let_go_in<D: Disk>(slot: &mut Option<Pack<D>>)
 /// Takes out a pack that nobody holds, and returns its file.
 pub(crate) fn remove_in<D: Disk + Drop>(slot: &mut Option<Pack<D>>) -> Result<D, Trouble>
     ensures ok { OnOk result ((holds_in slot.old ≡ 0) × (slot.new ≡ None)) }
+    ensures file { IfOk result (λ file. IsFileIn slot.old file) }
     ensures err { OnErr result (slot.new ≡ slot.old) }
 {
     if is_held(slot) {

@@ -4,7 +4,7 @@ use Rattle.sqlite.specs.Tree.{Trees}
 use Rattle.bh_shelf.specs.Contents.{Contents}
 use Rattle.bh_base.specs.Placed.{filled_trees}
 use Rattle.bh_base.specs.Shown.{Backing, named, shown}
-use Rattle.bh_base.proofs.Placing.{filled_host}
+use Rattle.bh_base.proofs.Obeying.{filled_obeys}
 use Rattle.bh_base.proofs.Lifting.{doubtless}
 use Rattle.bh_base.proofs.Endings.{disk_clean, changes_shown}
 use Rattle.bh_base.proofs.Statements.{here, ready_here}
@@ -97,7 +97,7 @@ module _ (a : Backing) (stored_old stored_new : State) (inside : IsStateClean (s
       → IsHostBy (totals_of (tables (shown a stored_old))) (shown a stored_new).now × (tables (shown a stored_new) ≡ record (tables (shown a stored_old)) { tenants = (tables (shown a stored_old)).tenants ++ new_row ∷ [] })
   holds_it host up l free =
       let sums = totals_of (tables (shown a stored_old)) in
-      let sound = subst (λ s. IsDatabase (record { schema = s; trees = (shown a stored_old).now.trees })) host.schema (subst IsDatabase (sym (filled_host (named a stored_old.in_transaction) stored_old.now host)) (live up).0) in
+      let sound = filled_obeys (named a stored_old.in_transaction) stored_old.now host (subst (λ s. IsDatabase (record { schema = s; trees = stored_old.now.trees })) host.schema (live up).0) in
       let none : pos 0 ≡ sums.used tenant = ap pos (sym (tenant_unused sums (shown a stored_old).now sound host tenant (tenant_free sums (shown a stored_old).now host new_columns free))) in
       let all = each_push (Uses sums) (typed stored_tenant_form ((shown a stored_old).now.trees 1)) new_columns (tenants_count sums ((shown a stored_old).now.trees 1) host.held.tenants) none in
       let it = tenants_turned sums sums.used (typed stored_tenant_form ((shown a stored_old).now.trees 1) ++ new_columns ∷ []) (shown a stored_old) (shown a stored_new) host all l in (

@@ -5,7 +5,8 @@ use Rattle.bh_shelf.specs.declared.shelf.Shelf.{Ghosts as Shelves}
 use Rattle.bh_base.specs.declared.connection.Connection.{Connection}
 use Rattle.bh_base.specs.Connections.{state, backing}
 use Rattle.bh_base.specs.Shown.{named}
-use Rattle.bh_base.proofs.Placing.{filled_host}
+use Rattle.bh_base.specs.Placed.{filled_trees}
+use Rattle.bh_base.proofs.Obeying.{filled_obeys}
 use Rattle.std.proofs.Common.{◌≡◌, ℕ, pos, List, ◌∷◌, [], ◌++◌, Bool, true, false, cond, ◌&&◌, Option, None, Some, length, arith, ◌≤◌, refl, sym, ap, ◌∙◌, subst, filter, find, sum_by}
 use Rattle.std.proofs.lemmas.Bool.{and_parts, and_from}
 use Rattle.sqlite.specs.Effect.{IsDatabase}
@@ -87,10 +88,14 @@ each_passes p (v ∷ vs) = elim (p v) as (λ b. p v ≡ b → AllByRecursion (λ
 abbrev pub IsObeyed : State → Type 0
 IsObeyed s = IsStateClean s → IsInside (standing s) → IsDatabase (standing s).now
 
--- with the bytes of packs too, since nothing is placed yet
+-- with the bytes of packs too
 pub live_shown : {S P : Type 0} (g : Ghosts S) (k : Shelves P) (c : Connection S P) → IsLive (database_state g c.database) → IsObeyed (state g k c)
 unfolding standing IsOpen
-live_shown g k c live clean inside = subst IsDatabase (sym (filled_host (named (backing k c.packs) (database_state g c.database).in_transaction) (database_state g c.database).now inside.host)) (live clean.is_open).0
+live_shown g k c live clean inside =
+    let s = database_state g c.database in
+    let packs = named (backing k c.packs) s.in_transaction in
+    let stored = subst (λ n. IsDatabase (record { schema = n; trees = s.now.trees })) inside.host.schema (live clean.is_open).0 in
+    subst (λ n. IsDatabase (record { schema = n; trees = filled_trees packs s.now.trees })) (sym inside.host.schema) (filled_obeys packs s.now inside.host stored)
 
 pub sound_at : (s : State) → IsObeyed s → IsStateClean s → IsInside (standing s) → IsDatabase (record { schema = host_schema; trees = (standing s).now.trees })
 sound_at s live clean inside = subst (λ d. IsDatabase (record { schema = d; trees = (standing s).now.trees })) inside.host.schema (live clean inside)

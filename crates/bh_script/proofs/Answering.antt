@@ -15,14 +15,18 @@ use Rattle.bh_types.specs.BlockDigests.{digest_number}
 use Rattle.bh_types.specs.Limits.{HostLimits, HostTuning}
 use Rattle.bh_types.specs.declared.block_digest.BlockDigest.{BlockDigest}
 use Rattle.bh_tables.specs.Typed.{Tables}
+use Rattle.bh_tables.specs.Schema.{Octets}
+use Rattle.sqlite.specs.State.{State}
+use Rattle.bh_view.specs.Bodies.{IsSoundHost}
 use Rattle.bh_view.specs.Laws.{new_host}
 use Rattle.bh_view.specs.View.{limits_in}
-use Rattle.bh_storage.specs.Calls.{Seen}
+use Rattle.bh_storage.specs.Calls.{Seen, IsAtRest}
 use Rattle.bh_memo.specs.Facts.{Facts, nothing}
 use Rattle.bh_memo.specs.Recalled.{recalled}
 use Rattle.bh_memo.proofs.Recalling.{nothing_recalled}
 use Rattle.bh_cache.specs.Kept.{KeptBlocks, no_blocks}
-use Rattle.bh_schema.specs.Storage.{beside}
+use Rattle.bh_schema.specs.Storage.{beside, seen_in}
+use Rattle.bh_create.specs.Creation.{IsNewHost}
 use Rattle.bh_create.proofs.Resting.{beside_new}
 use Rattle.bh_host.specs.Runs.{Told, Ran, HasRun}
 use Rattle.bh_host.specs.Turns.{AppliedTo, IsToldApart, fixed}
@@ -261,3 +265,19 @@ script_alone limits digest input result old new (text, (dones, (end, ran), told)
 -- of a new host nothing is remembered, and no block is kept in memory
 pub seen_new : (facts : Facts) (s : Seen) (tuning : HostTuning) (kept : KeptBlocks) → facts ≡ nothing → kept ≡ no_blocks tuning → recalled facts (beside kept s) ≡ s
 seen_new facts s tuning kept none empty = ap (λ f. recalled f (beside kept s)) none ∙ nothing_recalled (beside kept s) ∙ beside_new tuning kept s empty
+
+-- a host with these limits, by another name for them
+pub new_with : {l m : HostLimits} {digest : BlockDigest} {s : State} → l ≡ m → IsNewHost l digest s → IsNewHost m digest s
+new_with {digest = digest} {s = s} same made = subst (λ l. IsNewHost l digest s) same made
+
+-- a new host with an empty cache and no remembered facts is at rest
+pub rests_first : {l : HostLimits} {digest : BlockDigest} {s : State} (named : Octets → Octets) (facts : Facts) (tuning : HostTuning) (kept : KeptBlocks) → facts ≡ nothing → kept ≡ no_blocks tuning
+    → IsNewHost l digest s → IsAtRest (IsSoundHost named) (recalled facts (beside kept (seen_in l s)))
+rests_first {l = l} {s = s} named facts tuning kept none empty made =
+    subst (IsAtRest (IsSoundHost named)) (sym (seen_new facts (seen_in l s) tuning kept none empty)) (made.rest named)
+
+-- and has its first tables
+pub first_of : {l given : HostLimits} {digest : BlockDigest} {s : State} (facts : Facts) (tuning : HostTuning) (kept : KeptBlocks) → facts ≡ nothing → kept ≡ no_blocks tuning → l ≡ given
+    → IsNewHost l digest s → (recalled facts (beside kept (seen_in l s))).now ≡ first_tables given digest
+first_of {l = l} {given = given} {digest = digest} {s = s} facts tuning kept none empty same made =
+    made_first l given digest _ (ap (λ (x : Seen). x.now) (seen_new facts (seen_in l s) tuning kept none empty) ∙ made.tables) same

@@ -1,18 +1,20 @@
 -- What calls on packs and changes of marks keep of a shelf.
-use Rattle.std.proofs.Common.{◌≡◌, ◌≢◌, ℕ, ◌+◌, ◌-◌, ◌<◌, ◌≤◌, List, length, slice_index, Option, Some, None, Result, Ok, Err, OnOk, OnErr, IsTrue, inl, inr, refl, sym, subst, ◌∙◌, ap, arith, zero-add}
-use Rattle.std.proofs.lemmas.Bool.{cases_Bool, cases_lt, false≢true}
+use Rattle.std.proofs.Common.{◌≡◌, ◌≢◌, ℕ, ◌+◌, ◌-◌, ◌<◌, ◌≤◌, List, ◌∷◌, length, slice_index, Option, Some, None, Result, Ok, Err, OnOk, OnErr, IsTrue, inl, inr, refl, sym, subst, ◌∙◌, ap, arith, zero-add}
+use Rattle.std.proofs.lemmas.Bool.{cases_Bool, cases_lt, and_parts, false≢true}
+use Rattle.std.specs.List.{list_all}
 use Rattle.sqlite_disk.specs.Disk.{Holds}
 use Rattle.sqlite_disk.specs.declared.Disk.{Ghosts}
-use Rattle.bh_packs.specs.Packs.{pack_at, end_in, IsSettled, IsSettledIn, IsWrittenIn, IsCleanIn, IsGiven, IsKept, KeepsPack, Keeps}
+use Rattle.bh_packs.specs.Packs.{pack_at, end_in, IsFileIn, IsSettled, IsSettledIn, IsWrittenIn, IsCleanIn, IsGiven, IsKept, KeepsPack, Keeps}
 use Rattle.bh_packs.specs.Stands.{Stands}
 use Rattle.bh_packs.specs.Sums.{sum_of}
 use Rattle.bh_packs.specs.declared.pack.Pack.{Pack}
 use Rattle.bh_packs.specs.declared.packs.Packs.{Packs}
 use Rattle.bh_packs.specs.declared.place.Place.{Place}
+use Rattle.bh_packs.specs.declared.removed.Removed.{Removed}
 use Rattle.bh_shelf.specs.declared.marks.Ends.{Ends}
 use Rattle.bh_shelf.specs.declared.marks.Marks.{Marks}
-use Rattle.bh_shelf.specs.Contents.{Contents, Within, AreSameBut, HasNothing, IsPlaced}
-use Rattle.bh_shelf.specs.Laws.{length_part, part_index, front, part_same, part_held, front_held, part_holds, range_some, range_is, ranges_same, range_none, clean_at, clean_each, longer}
+use Rattle.bh_shelf.specs.Contents.{Contents, Within, AreSameBut, HasNothing}
+use Rattle.bh_shelf.specs.Laws.{length_part, part_index, front, part_same, part_held, front_held, part_holds, range_some, range_is, ranges_same, range_none, clean_at, removed_clean, clean_each, longer}
 use Rattle.bh_shelf.specs.Marks.{no_ends, ends_of, all_kept, all_stood, kept_alone, written_to, ends_at, kept_of, seen_of, stood_of, written_of}
 use Rattle.bh_shelf.specs.Ranges.{part_of, range_of, file_in, file_of, clean_of, contents_of}
 use Rattle.bh_shelf.specs.Sound.{StandsTo, WrittenTo, IsSoundAt, IsSound}
@@ -178,12 +180,17 @@ module _ {D : Type 0} (g : Ghosts D) where
         ];
       }
 
+  -- no pack was removed
+  clean_forever : (old new : Packs D) → new.removed ≡ old.removed → IsTrue (clean_of g new) → IsTrue (list_all g.is_clean old.removed.files)
+  clean_forever old new same clean =
+      let P : Removed D → Type 0 = λ removed. IsTrue (list_all g.is_clean removed.files) in subst P same (removed_clean g new clean)
+
   module _ (old new : Packs D) (keeps : Keeps g old new) where
     pub sound_keeps : (marks : Marks) → IsSound g old marks → IsSound g new marks
     sound_keeps marks sound pack = sound_at_keeps (pack_at old pack) (pack_at new pack) (ends_of marks pack) (keeps pack) (sound pack)
 
-    pub clean_keeps : IsTrue (clean_of g new) → IsTrue (clean_of g old)
-    clean_keeps clean = clean_each g old (λ pack. (keeps pack).clean (clean_at g new clean pack))
+    pub clean_keeps : new.removed ≡ old.removed → IsTrue (clean_of g new) → IsTrue (clean_of g old)
+    clean_keeps same clean = clean_each g old (λ pack. (keeps pack).clean (clean_at g new clean pack)) (clean_forever old new same clean)
 
     module _ (marks : Marks) (sound : IsSound g old marks) (clean : IsTrue (clean_of g new)) where
       -- the same before any ends that are written
@@ -232,21 +239,19 @@ module _ {D : Type 0} (g : Ghosts D) where
       longer g new (seen_of before) (stood_of after) (λ n. let to = ap (λ (ends : Ends). ends.stood) (changed n) in let at = sound n in omega (arith, to, at.seen_written))
       pack offset size bytes (within_same _ _ (sym same) pack offset size bytes has)
 
-  -- a place that is seen was given its bytes
-  pub seen_given : (packs : Packs D) (marks : Marks) → IsSound g packs marks → (place : Place) (bytes : List ℕ) → IsCleanIn g (pack_at packs place.pack)
-      → IsPlaced (contents_of g packs (seen_of marks)) place bytes → IsGiven g packs place bytes
-  seen_given packs marks sound place bytes clean placed =
+  -- what is seen at a place is written there, and is as long
+  pub seen_written : (packs : Packs D) (marks : Marks) → IsSound g packs marks → (place : Place) (bytes : List ℕ) → IsCleanIn g (pack_at packs place.pack)
+      → contents_of g packs (seen_of marks) place.pack place.offset place.size ≡ Some bytes → IsWrittenIn g (pack_at packs place.pack) place.offset bytes × (length bytes ≡ place.size)
+  seen_written packs marks sound place bytes clean there =
       let at = sound place.pack in
       let w = at.written clean in
       let file = file_of g packs place.pack in
-      let found = range_some file (ends_of marks place.pack).seen place.offset place.size bytes placed.there in
-      let P : List ℕ → Type 0 = λ b. IsWrittenIn g (pack_at packs place.pack) place.offset b in
-      record {
-        written = subst P found.2 (parts_written (pack_at packs place.pack) (ends_of marks place.pack).written place.offset place.size
-            (omega (arith, found.0, found.1, at.seen_written)) (omega (arith, found.1, at.seen_written)) w);
-        size = sym (length_part file place.offset place.size (omega (arith, found.1, at.seen_written, w.long))) ∙ ap length found.2;
-        sum = placed.sum;
-      }
+      let found = range_some file (ends_of marks place.pack).seen place.offset place.size bytes there in
+      let P : List ℕ → Type 0 = λ b. IsWrittenIn g (pack_at packs place.pack) place.offset b in (
+        subst P found.2 (parts_written (pack_at packs place.pack) (ends_of marks place.pack).written place.offset place.size
+            (omega (arith, found.0, found.1, at.seen_written)) (omega (arith, found.1, at.seen_written)) w),
+        sym (sym (length_part file place.offset place.size (omega (arith, found.1, at.seen_written, w.long))) ∙ ap length found.2),
+      )
 
   -- the same before the same ends
   pub contents_same : (packs : Packs D) (ends others : ℕ → ℕ) → ((n : ℕ) → ends n ≡ others n) → contents_of g packs ends ≡ contents_of g packs others
@@ -387,7 +392,26 @@ module _ {D : Type 0} (g : Ghosts D) where
         let T : Option (Pack D) → Type 0 = λ slot. IsSoundAt g slot (ends_of before n) in
         subst S (sym (marks_stay n other)) (subst T (sym (packs_stay n other)) (sound n)))
 
+  -- a pack is gone, and its file is noted
+  clean_file : (slot : Option (Pack D)) (file : D) → IsFileIn slot file → IsTrue (g.is_clean file) → IsCleanIn g slot
+  clean_file None file none clean = absurd none
+  clean_file (Some pack) file is clean = let P : D → Type 0 = λ disk. IsTrue (g.is_clean disk) in subst P (sym is) clean
+
+  pub clean_removed : (old new : Packs D) (pack : ℕ) (file : D) → IsFileIn (pack_at old pack) file → new.removed.files ≡ file ∷ old.removed.files
+      → ((n : ℕ) → n ≢ pack → pack_at new n ≡ pack_at old n) → IsTrue (clean_of g new) → IsTrue (clean_of g old)
+  clean_removed old new pack file is noted others clean =
+      let P : List D → Type 0 = λ files. IsTrue (list_all g.is_clean files) in
+      let Q : ℕ → Type 0 = λ n. IsCleanIn g (pack_at old n) in
+      let R : Option (Pack D) → Type 0 = λ slot. IsCleanIn g slot in
+      let both = and_parts (g.is_clean file) (list_all g.is_clean old.removed.files) (subst P noted (removed_clean g new clean)) in
+      clean_each g old (one_and_others Q pack (clean_file (pack_at old pack) file is both.0) (λ n other. subst R (others n other) (clean_at g new clean n))) both.1
+
   -- packs that are all the same
+  pub clean_stays : (old new : Packs D) → ((n : ℕ) → pack_at new n ≡ pack_at old n) → new.removed ≡ old.removed → IsTrue (clean_of g new) → IsTrue (clean_of g old)
+  clean_stays old new same none clean =
+      let R : Option (Pack D) → Type 0 = λ slot. IsCleanIn g slot in
+      clean_each g old (λ n. subst R (same n) (clean_at g new clean n)) (clean_forever old new none clean)
+
   pub contents_stay : (old new : Packs D) (ends : ℕ → ℕ) → ((n : ℕ) → pack_at new n ≡ pack_at old n) → contents_of g new ends ≡ contents_of g old ends
   contents_stay old new ends same = λ i pack offset size. range_of (file_in g (same pack i)) (ends pack) offset size
 

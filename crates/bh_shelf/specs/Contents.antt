@@ -1,7 +1,5 @@
 -- What packs have: the bytes of a range of a pack, if it has them all.
 use Rattle.std.specs.Prelude.{◌≡◌, ◌≢◌, ℕ, ◌+◌, ◌≤◌, List, Option, Some, None}
-use Rattle.bh_packs.specs.Sums.{sum_of}
-use Rattle.bh_packs.specs.declared.place.Place.{Place}
 
 -- what packs have: of a pack, at an offset, so many bytes or none
 abbrev pub Contents : Type 0
@@ -26,11 +24,6 @@ EndsBy a pack end = (offset size : ℕ) (bytes : List ℕ) → a pack offset siz
 -- they have nothing of a pack
 abbrev pub HasNothing : Contents → ℕ → Type 0
 HasNothing a pack = (offset size : ℕ) → a pack offset size ≡ None
-
--- a place has these bytes, and the sum is theirs
-pub record IsPlaced (packs : Contents) (place : Place) (bytes : List ℕ) : Type 0 where
-  pub there : packs place.pack place.offset place.size ≡ Some bytes
-  pub sum : place.sum ≡ sum_of bytes
 
 -- no pack has less
 abbrev pub Rises : (ℕ → ℕ) → (ℕ → ℕ) → Type 0

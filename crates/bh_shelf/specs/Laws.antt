@@ -139,11 +139,19 @@ module _ {D : Type 0} (g : Ghosts D) where
 
   -- if all are clean, each is
   pub clean_at : (packs : Packs D) → IsTrue (clean_of g packs) → (pack : ℕ) → IsCleanIn g (pack_at packs pack)
-  clean_at packs clean pack = clean_fact (pack_at packs pack) (each_clean packs.slots.items clean pack)
+  clean_at packs clean pack =
+      let both = and_parts (list_all (clean_in g) packs.slots.items) (list_all g.is_clean packs.removed.files) clean in
+      clean_fact (pack_at packs pack) (each_clean packs.slots.items both.0 pack)
+
+  -- and so is the file of each that was removed
+  pub removed_clean : (packs : Packs D) → IsTrue (clean_of g packs) → IsTrue (list_all g.is_clean packs.removed.files)
+  removed_clean packs clean = (and_parts (list_all (clean_in g) packs.slots.items) (list_all g.is_clean packs.removed.files) clean).1
 
   -- and the other way
-  pub clean_each : (packs : Packs D) → ((pack : ℕ) → IsCleanIn g (pack_at packs pack)) → IsTrue (clean_of g packs)
-  clean_each packs each = all_clean packs.slots.items (λ n. clean_test (pack_at packs n) (each n))
+  pub clean_each : (packs : Packs D) → ((pack : ℕ) → IsCleanIn g (pack_at packs pack)) → IsTrue (list_all g.is_clean packs.removed.files)
+      → IsTrue (clean_of g packs)
+  clean_each packs each = and_from (list_all (clean_in g) packs.slots.items) (list_all g.is_clean packs.removed.files)
+      (all_clean packs.slots.items (λ n. clean_test (pack_at packs n) (each n)))
 
   -- later ends have more
   pub longer : (packs : Packs D) (ends later : ℕ → ℕ) → ((n : ℕ) → ends n ≤ later n)

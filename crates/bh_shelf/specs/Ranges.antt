@@ -34,9 +34,9 @@ module _ {D : Type 0} (g : Ghosts D) where
   clean_in None = true
   clean_in (Some pack) = g.is_clean pack.disk
 
-  -- nor of any
+  -- nor of any pack's, or of a removed one's
   abbrev pub clean_of : Packs D → Bool
-  clean_of packs = list_all clean_in packs.slots.items
+  clean_of packs = list_all clean_in packs.slots.items && list_all g.is_clean packs.removed.files
 
   -- what packs have before these ends
   abbrev pub contents_of : Packs D → (ℕ → ℕ) → Contents

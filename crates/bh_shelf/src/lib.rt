@@ -1,6 +1,8 @@
 //! The packs of a host, as the database's layers see them.
 #![tactic(auto)]
 
+pub mod closed;
+pub mod copied;
 mod marks;
 pub mod no_shelf;
 pub mod shelf;

@@ -1,7 +1,7 @@
 //! Up to where each pack is written, seen, standing and kept.
 
 ghost use Rattle.std.specs.Prelude.{◌≡◌, ◌≢◌, ◌+◌, ℕ, OnOk, OnErr};
-ghost use Rattle.bh_shelf.specs.Marks.{no_ends, ends_of, all_kept, all_stood, kept_alone, written_to, ends_at};
+ghost use Rattle.bh_shelf.specs.Marks.{no_ends, ends_of, all_kept, all_stood, kept_alone, written_to, ends_at, kept_of};
 
 use bh_packs::trouble::Trouble;
 use std::alloc::Global;
@@ -142,6 +142,17 @@ impl Marks {
     {
         if pack < self.ends.len() {
             self.ends[pack].seen = self.ends[pack].kept;
+        }
+    }
+
+    /// Up to where a pack is kept.
+    pub(crate) fn kept_to(&self, pack: usize) -> usize
+        ensures { result ≡ kept_of self.now pack }
+    {
+        if pack < self.ends.len() {
+            self.ends[pack].kept
+        } else {
+            0
         }
     }
 

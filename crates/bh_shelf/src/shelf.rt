@@ -2,7 +2,7 @@
 
 ghost use Rattle.std.specs.Prelude.{◌≡◌, ◌≢◌, ◌+◌, ◌-◌, ◌<◌, ◌≤◌, ℕ, Bool, List, Some, length, IsTrue, IfOk, IfSome, OnOk, OnErr};
 ghost use Rattle.bh_packs.specs.Sums.{sum_of};
-ghost use Rattle.bh_shelf.specs.Contents.{Contents, Within, AreSameBut, EndsBy, HasNothing, IsPlaced, Rises, KeepsHolds, KeepsHoldsBut};
+ghost use Rattle.bh_shelf.specs.Contents.{Contents, Within, AreSameBut, EndsBy, HasNothing, Rises, KeepsHolds, KeepsHoldsBut};
 
 use bh_packs::place::{Hold, Lane, Place};
 use bh_packs::trouble::Trouble;
@@ -35,7 +35,8 @@ pub trait Shelf {
     /// How many hold a pack.
     ghost holds: { Self → ℕ → ℕ };
 
-    /// No wrong answer of a pack's file was taken as true. It may fall at any call, and no call tells it.
+    /// No wrong answer of a pack's file was taken as true. It may fall at any call, and no call tells it. A
+    /// pack that is removed doesn't make it true again.
     ghost is_clean: { Self → Bool };
 
     /// Appends bytes to a pack of this lane, and returns their place. It begins after all that was
@@ -88,8 +89,8 @@ pub trait Shelf {
     fn read(&mut self, place: Place, room: &mut [u8]) -> Result<(), Trouble>
         requires { length room.old ≡ place.size }
         ensures tested { OnOk result (sum_of room.new ≡ place.sum) }
-        ensures bytes { OnOk result (IsTrue (is_clean self.new) → (bytes : List ℕ) → IsPlaced (seen self.old) place bytes
-            → room.new ≡ bytes) }
+        ensures bytes { OnOk result (IsTrue (is_clean self.new) → (bytes : List ℕ)
+            → seen self.old place.pack place.offset place.size ≡ Some bytes → room.new ≡ bytes) }
         ensures seen { IsTrue (is_clean self.new) → seen self.new ≡ seen self.old }
         ensures ends { Rises (ends self.old) (ends self.new) }
         ensures kept { IsTrue (is_clean self.new) → kept self.new ≡ kept self.old }
@@ -124,8 +125,7 @@ pub trait Shelf {
         ensures clean { IsTrue (is_clean self.new) → IsTrue (is_clean self.old) };
 
     /// Removes a pack that nobody holds, and its file. If the file can't be removed, that is an error, and
-    /// the pack is gone all the same: the next opening removes its file. The shelf may be clean again then,
-    /// if that file was the one that lied.
+    /// the pack is gone all the same: the next opening removes its file.
     fn remove(&mut self, pack: usize) -> Result<(), Trouble>
         ensures gone { OnOk result (HasNothing (seen self.new) pack) }
         ensures unheld { OnOk result (holds self.old pack ≡ 0) }
@@ -134,6 +134,7 @@ pub trait Shelf {
         ensures ends { (n : ℕ) → n ≢ pack → ends self.old n ≤ ends self.new n }
         ensures kept { IsTrue (is_clean self.new) → AreSameBut pack (kept self.new) (kept self.old) }
         ensures stood { IsTrue (is_clean self.new) → AreSameBut pack (stood self.new) (stood self.old) }
+        ensures clean { IsTrue (is_clean self.new) → IsTrue (is_clean self.old) }
         ensures holds { KeepsHoldsBut pack (holds self.old) (holds self.new) };
 
     /// What is kept is seen.

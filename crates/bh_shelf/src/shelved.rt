@@ -1,10 +1,10 @@
 //! Packs and the folder of their files, with what the database knows of them.
 
-ghost use Rattle.std.specs.Prelude.{◌≡◌, ℕ, List, IsTrue, OnOk};
+ghost use Rattle.std.specs.Prelude.{◌≡◌, ◌≤◌, ℕ, List, length, Some, IsTrue, OnOk};
 ghost use Rattle.sqlite_disk.specs.Disk.{Holds};
-ghost use Rattle.bh_packs.specs.Packs.{Keeps, KeepsHolds};
+ghost use Rattle.bh_packs.specs.Packs.{Keeps, KeepsHolds as AreHeld};
 ghost use Rattle.bh_packs.specs.Stands.{Stands};
-ghost use Rattle.bh_shelf.specs.Contents.{AreSameBut, HasNothing};
+ghost use Rattle.bh_shelf.specs.Contents.{AreSameBut, EndsBy, HasNothing, KeepsHolds, Rises, Within};
 ghost use Rattle.bh_shelf.specs.Laws.{kept_seen, kept_stands, leaves_standing, may_stay, seen_ends};
 ghost use Rattle.bh_shelf.specs.Marks.{all_stood, ends_of, kept_of, seen_of, stood_of, written_of};
 ghost use Rattle.bh_shelf.specs.Ranges.{range_of, clean_of, contents_of, holds_of, Leaves};
@@ -45,7 +45,8 @@ impl<D: Disk + Drop, F: Folder<D>> Shelved<D, F> {
         ensures stands { OnOk result (AllStands D.Disk self.new.packs self.new.marks) }
         ensures marks { self.new.marks ≡ self.old.marks }
         ensures keeps { Keeps D.Disk self.old.packs self.new.packs }
-        ensures holds { KeepsHolds self.old.packs self.new.packs }
+        ensures holds { AreHeld self.old.packs self.new.packs }
+        ensures removed { self.new.packs.removed ≡ self.old.packs.removed }
     {
         self.packs.sync()
     }
@@ -77,6 +78,40 @@ impl<D: Disk + Drop, F: Folder<D>> Shelved<D, F> {
         self.marks.reach(pack)?;
         self.packs.open(pack, file, mark, lane)?;
         self.marks.open(pack, mark)
+    }
+}
+
+impl<D: Disk + Drop, F: Folder<D>> Shelved<D, F> {
+    /// A number below which all packs are that have anything.
+    pub fn count(&self) -> usize
+        ensures { (pack : ℕ) → result ≤ pack → HasNothing (⟦<Shelved<D, F> as Shelf>⟧.kept self.now) pack }
+    {
+        self.marks.ends.len()
+    }
+
+    /// Up to where a pack is kept, in bytes.
+    pub fn kept_to(&self, pack: usize) -> usize
+        ensures { EndsBy (⟦<Shelved<D, F> as Shelf>⟧.kept self.now) pack result }
+    {
+        self.marks.kept_to(pack)
+    }
+
+    /// Reads the bytes at an offset of a pack, which no sum tests: for copies of whole packs.
+    pub fn peek(&mut self, pack: usize, at: usize, room: &mut [u8]) -> Result<(), Trouble>
+        ensures bytes { OnOk result (IsTrue (⟦<Shelved<D, F> as Shelf>⟧.is_clean self.new) → (bytes : List ℕ)
+            → ⟦<Shelved<D, F> as Shelf>⟧.seen self.old pack at (length room.old) ≡ Some bytes → room.new ≡ bytes) }
+        ensures seen { IsTrue (⟦<Shelved<D, F> as Shelf>⟧.is_clean self.new)
+            → ⟦<Shelved<D, F> as Shelf>⟧.seen self.new ≡ ⟦<Shelved<D, F> as Shelf>⟧.seen self.old }
+        ensures ends { Rises (⟦<Shelved<D, F> as Shelf>⟧.ends self.old) (⟦<Shelved<D, F> as Shelf>⟧.ends self.new) }
+        ensures kept { IsTrue (⟦<Shelved<D, F> as Shelf>⟧.is_clean self.new)
+            → ⟦<Shelved<D, F> as Shelf>⟧.kept self.new ≡ ⟦<Shelved<D, F> as Shelf>⟧.kept self.old }
+        ensures stood { IsTrue (⟦<Shelved<D, F> as Shelf>⟧.is_clean self.new)
+            → Within (⟦<Shelved<D, F> as Shelf>⟧.stood self.old) (⟦<Shelved<D, F> as Shelf>⟧.stood self.new) }
+        ensures clean { IsTrue (⟦<Shelved<D, F> as Shelf>⟧.is_clean self.new)
+            → IsTrue (⟦<Shelved<D, F> as Shelf>⟧.is_clean self.old) }
+        ensures holds { KeepsHolds (⟦<Shelved<D, F> as Shelf>⟧.holds self.old) (⟦<Shelved<D, F> as Shelf>⟧.holds self.new) }
+    {
+        self.packs.peek(pack, at, room)
     }
 }
 

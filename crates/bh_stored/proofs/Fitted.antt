@@ -10,9 +10,9 @@ use Rattle.sqlite.specs.Edit.{id_in}
 use Rattle.sqlite_trees.specs.View.{is_int}
 use Rattle.sqlite_typed.specs.Columns.{bytes_of, int_of, or_null}
 use Rattle.bh_rows.specs.Form.{Form, AreRows}
-use Rattle.bh_tables.specs.Typed.{column_number, maybe_number, number, host_form, stored_tenant_form, key_form, bucket_form, version_form, block_form, ref_form, stored_upload_form, part_form, use_form, lock_form, retain_form, tally_form, garbage_form}
+use Rattle.bh_tables.specs.Typed.{column_number, maybe_number, number, host_form, stored_tenant_form, key_form, bucket_form, version_form, block_form, ref_form, stored_upload_form, part_form, use_form, lock_form, retain_form, tally_form, garbage_form, pack_form, place_form}
 use Rattle.bh_stored.specs.Cells.{suits, are_suited, is_fit}
-use Rattle.bh_stored.specs.Fits.{AreFit, host_kinds, tenant_kinds, key_kinds, bucket_kinds, version_kinds, block_kinds, ref_kinds, upload_kinds, part_kinds, use_kinds, lock_kinds, retain_kinds, tally_kinds, garbage_kinds}
+use Rattle.bh_stored.specs.Fits.{AreFit, host_kinds, tenant_kinds, key_kinds, bucket_kinds, version_kinds, block_kinds, ref_kinds, upload_kinds, part_kinds, use_kinds, lock_kinds, retain_kinds, tally_kinds, garbage_kinds, pack_kinds, place_kinds}
 use Rattle.bh_stored.specs.declared.cells.Kind.{Kind}
 use Rattle.bh_stored.specs.declared.cells.Kind.TheVariants as kind
 
@@ -56,6 +56,13 @@ int_is (Int n) h = refl
 int_is (Real x) h = no h
 int_is (Text t) h = no h
 int_is (Blob b) h = no h
+
+whole_is : (v : Value) → suits kind.Whole v ≡ true → v ≡ Int (int_of v)
+whole_is Null h = no h
+whole_is (Int n) h = refl
+whole_is (Real x) h = no h
+whole_is (Text t) h = no h
+whole_is (Blob b) h = no h
 
 maybe_is : (v : Value) → suits kind.MaybeNumber v ≡ true → v ≡ or_null number (maybe_number v)
 maybe_is Null h = refl
@@ -209,6 +216,23 @@ garbage_each id (a ∷ []) h = let h0 = and_parts (suits kind.Key a) _ h in no h
 garbage_each id (a ∷ b ∷ []) h = let h0 = and_parts (suits kind.Key a) _ h in let h1 = and_parts (suits kind.Number b) _ h0.1 in (λ i. null_is a h0.0 i ∷ int_is b h1.0 i ∷ [])
 garbage_each id (a ∷ b ∷ v ∷ vs) h = let h0 = and_parts (suits kind.Key a) _ h in let h1 = and_parts (suits kind.Number b) _ h0.1 in no h1.1
 
+pack_each : (id : Value) (vs : Row) → are_suited pack_kinds vs ≡ true → vs ≡ pack_form.encode (pack_form.decode (id ∷ vs))
+pack_each id [] h = no h
+pack_each id (a ∷ []) h = let h0 = and_parts (suits kind.Number a) _ h in no h0.1
+pack_each id (a ∷ b ∷ []) h = let h0 = and_parts (suits kind.Number a) _ h in let h1 = and_parts (suits kind.Number b) _ h0.1 in no h1.1
+pack_each id (a ∷ b ∷ c ∷ []) h = let h0 = and_parts (suits kind.Number a) _ h in let h1 = and_parts (suits kind.Number b) _ h0.1 in let h2 = and_parts (suits kind.Number c) _ h1.1 in (λ i. number_is a h0.0 i ∷ number_is b h1.0 i ∷ number_is c h2.0 i ∷ [])
+pack_each id (a ∷ b ∷ c ∷ v ∷ vs) h = let h0 = and_parts (suits kind.Number a) _ h in let h1 = and_parts (suits kind.Number b) _ h0.1 in let h2 = and_parts (suits kind.Number c) _ h1.1 in no h2.1
+
+place_each : (id : Value) (vs : Row) → are_suited place_kinds vs ≡ true → vs ≡ place_form.encode (place_form.decode (id ∷ vs))
+place_each id [] h = no h
+place_each id (a ∷ []) h = let h0 = and_parts (suits kind.Blob a) _ h in no h0.1
+place_each id (a ∷ b ∷ []) h = let h0 = and_parts (suits kind.Blob a) _ h in let h1 = and_parts (suits kind.Number b) _ h0.1 in no h1.1
+place_each id (a ∷ b ∷ c ∷ []) h = let h0 = and_parts (suits kind.Blob a) _ h in let h1 = and_parts (suits kind.Number b) _ h0.1 in let h2 = and_parts (suits kind.Number c) _ h1.1 in no h2.1
+place_each id (a ∷ b ∷ c ∷ d ∷ []) h = let h0 = and_parts (suits kind.Blob a) _ h in let h1 = and_parts (suits kind.Number b) _ h0.1 in let h2 = and_parts (suits kind.Number c) _ h1.1 in let h3 = and_parts (suits kind.Number d) _ h2.1 in no h3.1
+place_each id (a ∷ b ∷ c ∷ d ∷ e ∷ []) h = let h0 = and_parts (suits kind.Blob a) _ h in let h1 = and_parts (suits kind.Number b) _ h0.1 in let h2 = and_parts (suits kind.Number c) _ h1.1 in let h3 = and_parts (suits kind.Number d) _ h2.1 in let h4 = and_parts (suits kind.Number e) _ h3.1 in no h4.1
+place_each id (a ∷ b ∷ c ∷ d ∷ e ∷ f ∷ []) h = let h0 = and_parts (suits kind.Blob a) _ h in let h1 = and_parts (suits kind.Number b) _ h0.1 in let h2 = and_parts (suits kind.Number c) _ h1.1 in let h3 = and_parts (suits kind.Number d) _ h2.1 in let h4 = and_parts (suits kind.Number e) _ h3.1 in let h5 = and_parts (suits kind.Whole f) _ h4.1 in (λ i. blob_is a h0.0 i ∷ number_is b h1.0 i ∷ number_is c h2.0 i ∷ number_is d h3.0 i ∷ number_is e h4.0 i ∷ whole_is f h5.0 i ∷ [])
+place_each id (a ∷ b ∷ c ∷ d ∷ e ∷ f ∷ v ∷ vs) h = let h0 = and_parts (suits kind.Blob a) _ h in let h1 = and_parts (suits kind.Number b) _ h0.1 in let h2 = and_parts (suits kind.Number c) _ h1.1 in let h3 = and_parts (suits kind.Number d) _ h2.1 in let h4 = and_parts (suits kind.Number e) _ h3.1 in let h5 = and_parts (suits kind.Whole f) _ h4.1 in no h5.1
+
 -- ---- the rows of each
 
 pub hosts_are : (rows : List Row) → AreFit host_kinds rows → AreRows host_form rows
@@ -316,3 +340,9 @@ garbage_bytes_each id (a ∷ b ∷ vs) h = let h0 = and_parts (suits kind.Key a)
 pub garbage_is : (r : Row) → is_fit garbage_kinds r ≡ true → int_of (column r 2) ≡ pos (column_number (column r 2))
 garbage_is [] h = no h
 garbage_is (v ∷ vs) h = garbage_bytes_each v vs (and_parts (is_int v) _ h).1
+
+pub packs_are : (rows : List Row) → AreFit pack_kinds rows → AreRows pack_form rows
+packs_are = rows_are pack_form pack_kinds pack_each
+
+pub places_are : (rows : List Row) → AreFit place_kinds rows → AreRows place_form rows
+places_are = rows_are place_form place_kinds place_each

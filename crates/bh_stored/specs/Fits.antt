@@ -52,6 +52,12 @@ tally_kinds = kind.Text ∷ kind.Number ∷ kind.Number ∷ kind.Number ∷ []
 abbrev pub garbage_kinds : List Kind
 garbage_kinds = kind.Key ∷ kind.Number ∷ []
 
+abbrev pub pack_kinds : List Kind
+pack_kinds = kind.Number ∷ kind.Number ∷ kind.Number ∷ []
+
+abbrev pub place_kinds : List Kind
+place_kinds = kind.Blob ∷ kind.Number ∷ kind.Number ∷ kind.Number ∷ kind.Number ∷ kind.Whole ∷ []
+
 -- rows of these kinds, whose numbers ascend
 pub record AreFit (kinds : List Kind) (rows : List Row) : Type 0 where
   pub fit : list_all (is_fit kinds) rows ≡ true
@@ -76,4 +82,6 @@ pub record AreAllFit (d : Trees) : Type 0 where
   pub retains : AreFit retain_kinds (d 28)
   pub tallies : AreFit tally_kinds (d 30)
   pub garbage : AreFit garbage_kinds (d 44)
+  pub packs : AreFit pack_kinds (d 32)
+  pub places : AreFit place_kinds (d 34)
   pub unfilled : AreUnfilled d

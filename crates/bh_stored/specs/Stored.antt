@@ -56,3 +56,5 @@ pub record AreStoredIn (d : Trees) (s : Stored) : Type 0 where
   pub retains_is : s.retains.items ≡ d 28
   pub tallies_is : s.tallies.items ≡ d 30
   pub garbage_is : s.garbage.items ≡ d 44
+  pub packs_is : s.packs.items ≡ d 32
+  pub places_is : s.places.items ≡ d 34

@@ -20,6 +20,8 @@ pub enum Kind {
     Blob,
     /// An integer from 0 on.
     Number,
+    /// Any integer.
+    Whole,
     /// An integer from 0 on, or NULL.
     MaybeNumber,
 }
@@ -52,7 +54,8 @@ fn is_number(value: ValueRef<'_>) -> bool
 }
 
 fn is_whole(value: ValueRef<'_>) -> bool
-    ensures { result ≡ is_int (owned value.entry) }
+    ensures int { result ≡ is_int (owned value.entry) }
+    ensures whole { result ≡ suits Kind.Whole (owned value.entry) }
 {
     matches!(value, ValueRef::Int(_))
 }
@@ -67,6 +70,7 @@ impl Kind {
             Kind::Text => is_text(value),
             Kind::Blob => is_blob(value),
             Kind::Number => is_number(value),
+            Kind::Whole => is_whole(value),
             Kind::MaybeNumber => is_null(value) || is_number(value),
         }
     }

@@ -9,7 +9,7 @@ ghost use Rattle.bh_stored.specs.Stored.{seen, AreStoredIn};
 ghost use Rattle.bh_stored.specs.Stores.{KeepsTrees};
 ghost use Rattle.bh_stored.specs.declared.stored.Edition.TheVariants.{First, Second, Third, Fourth, Fifth};
 
-use crate::cells::Kind::{self, Blob, Key, MaybeNumber, Number, Text};
+use crate::cells::Kind::{self, Blob, Key, MaybeNumber, Number, Text, Whole};
 use crate::cells::{is_fit, number_in};
 use crate::failure::Failure;
 use crate::trees::table_rows;
@@ -47,6 +47,10 @@ const TALLIES: [Kind; 4] = [Text, Number, Number, Number];
 
 const GARBAGE: [Kind; 2] = [Key, Number];
 
+const PACKS: [Kind; 3] = [Number, Number, Number];
+
+const PLACES: [Kind; 6] = [Blob, Number, Number, Number, Number, Whole];
+
 /// The edition of a host, by its version, which determines its tables.
 #[derive(Clone, Copy, PartialEq, Eq)]
 pub enum Edition {
@@ -55,7 +59,7 @@ pub enum Edition {
     Second,
     /// With those and one of tallies.
     Third,
-    /// With those and some that nothing fills yet.
+    /// With those, those of packs and of places in them, and some that nothing fills yet.
     Fourth,
     /// With those and one of what nobody needs.
     Fifth,
@@ -78,6 +82,9 @@ pub struct Stored {
     pub retains: Vec<Row>,
     pub tallies: Vec<Row>,
     pub garbage: Vec<Row>,
+    pub packs: Vec<Row>,
+    /// The rows of the table `placed`.
+    pub places: Vec<Row>,
 }
 
 /// The number of the first row whose columns aren't of these kinds.
@@ -127,8 +134,6 @@ fn none_filled<S: Store>(alloc: Global, store: &mut S) -> Result<(), Failure>
     ensures keeps { OnOk result (KeepsTrees (S.view store.old) (S.view store.new)) }
     ensures none { OnOk result (IsClean (S.view store.new) → AreUnfilled (S.view store.old).trees) }
 {
-    no_rows(alloc, store, 32)?;
-    no_rows(alloc, store, 34)?;
     no_rows(alloc, store, 37)?;
     no_rows(alloc, store, 39)?;
     no_rows(alloc, store, 41)?;
@@ -157,6 +162,8 @@ impl Stored {
             retains: Vec::new(alloc),
             tallies: Vec::new(alloc),
             garbage: Vec::new(alloc),
+            packs: Vec::new(alloc),
+            places: Vec::new(alloc),
         })
     }
 
@@ -183,13 +190,15 @@ impl Stored {
         Ok(stored)
     }
 
-    /// The same rows, where the tables that nothing fills have none.
+    /// The same rows, and those of packs and of places, where the tables that nothing fills have none.
     fn read_fourth<S: Store>(alloc: Global, store: &mut S) -> Result<Stored, Failure>
         ensures keeps { OnOk result (KeepsTrees (S.view store.old) (S.view store.new)) }
         ensures stored { IfOk result (λ it. IsClean (S.view store.new) → AreStoredIn (seen Fourth (S.view store.old).trees) it) }
         ensures fit { OnOk result (IsClean (S.view store.new) → AreAllFit (seen Fourth (S.view store.old).trees)) }
     {
-        let stored = Stored::read_third(alloc, store)?;
+        let mut stored = Stored::read_third(alloc, store)?;
+        stored.packs = fit_rows(alloc, store, 32, &PACKS)?;
+        stored.places = fit_rows(alloc, store, 34, &PLACES)?;
         none_filled(alloc, store)?;
         Ok(stored)
     }

@@ -5,3 +5,5 @@ pub mod Complete
 pub mod Totals
 pub mod Measured
 pub mod Summing
+pub mod Sizes
+pub mod PlacedText

@@ -28,11 +28,12 @@ use Rattle.bh_rows.proofs.DeleteErrors.{none_points, none_named}
 use Rattle.bh_rows.proofs.FormLemmas.{any_typed}
 use Rattle.bh_tables.specs.Schema.{Octets, host_schema, blocks_table, at}
 use Rattle.bh_tables.specs.Typed.{Totals, BlockRow, RefRow, block_form, block_columns, ref_form, number, IsHostBy, tables_in}
-use Rattle.bh_tables.specs.Shown.{Name, same_name, block_name, ref_name, is_block, is_use, has_digest, by_ord, shown_ord, shown_match}
+use Rattle.bh_tables.specs.Rows.{PlaceRow, place_form}
+use Rattle.bh_tables.specs.Packs.{place_name, is_place, places_in}
+use Rattle.bh_tables.specs.Shown.{Name, same_name, block_name, ref_name, is_block, is_use, has_digest, by_ord, shown_ord}
 use Rattle.bh_tables.proofs.Places.{Goes, blocks}
 use Rattle.bh_tables.proofs.Checked.{block_checked}
 use Rattle.bh_tables.proofs.Terms.{is}
-use Rattle.bh_tables.proofs.Unfilled.{unfilled_none, none_names}
 
 -- ---- a block whose name no other has may be added
 
@@ -58,41 +59,51 @@ block_free db host b free = sym (any_typed block_form _ (is_block (block_name b)
 abbrev to_blocks : Pointer
 to_blocks = record { child = 12; columns = 4 ∷ 5 ∷ []; places = 1 ∷ 2 ∷ []; order = plain }
 
+abbrev from_places : Pointer
+from_places = record { child = 34; columns = 1 ∷ 2 ∷ []; places = 1 ∷ 2 ∷ []; order = plain }
+
+placed_names : (i : ℤ) (p : PlaceRow) (j : ℤ) (b : BlockRow) → points_at from_places (put place_form (i, p)) (put block_form (j, b)) ≡ same_name (place_name p) (block_name b)
+unfolding first_key
+placed_names i p j b = then_term (at_blobs false Eq p.digest b.digest) (last_term (at_ints false Eq (pos p.ord) (pos b.ord)))
+
+-- what names a block that has a name, has that name
+named_so : (a : Name) (b : BlockRow) (q : Name) → same_name a (block_name b) ≡ true → is_block q b ≡ true → same_name a q ≡ true
+named_so a b q on is =
+    let both = and_parts _ _ is in
+    sym (λ i. bytes_eq a.0 (same_bytes b.digest q.0 both.0 i) && int_eq (pos a.1) ((signed_Decides (pos b.ord) (pos q.1)).0 both.1 i)) ∙ on
+
 names : (i : ℤ) (r : RefRow) (j : ℤ) (b : BlockRow) → points_at to_blocks (put ref_form (i, r)) (put block_form (j, b)) ≡ same_name (ref_name r) (block_name b)
 unfolding first_key
 names i r j b = then_term (at_blobs false Eq r.digest b.digest) (last_term (at_ints false Eq (pos r.ord) (pos b.ord)))
 
 uses : (q : Name) (r : RefRow) (b : BlockRow) → same_name (ref_name r) (block_name b) ≡ true → is_block q b ≡ true → is_use q r ≡ true
-uses q r b on is =
-    let both = and_parts _ _ is in
-    sym (λ i. bytes_eq r.digest (same_bytes b.digest q.0 both.0 i) && int_eq (pos r.ord) ((signed_Decides (pos b.ord) (pos q.1)).0 both.1 i)) ∙ on
+uses q r b on is = named_so (ref_name r) b q on is
 
-pub unreferenced_goes : {sums : Totals} (db : Database) → IsHostBy sums db → (q : Name) → list_any (is_use q) (tables_in db).refs ≡ false → Goes (blocks sums) db.trees (is_block q)
+pub unreferenced_goes : {sums : Totals} (db : Database) → IsHostBy sums db → (q : Name) → list_any (is_use q) (tables_in db).refs ≡ false → list_any (is_place q) (places_in db.trees) ≡ false → Goes (blocks sums) db.trees (is_block q)
 unfolding everything
-unreferenced_goes db host q unused = (
+unreferenced_goes db host q unused unplaced = (
   none_points block_form ref_form (db.trees 10) (db.trees 12) to_blocks (is_block q) (λ r b. same_name (ref_name r) (block_name b)) names host.held.blocks host.held.refs
       (none_named (λ r b. same_name (ref_name r) (block_name b)) (is_block q) (is_use q) (uses q) (tables_in db).blocks (tables_in db).refs unused),
-  (none_names _ (db.trees 34) (unfilled_none db host 34 (inr (inl refl))), tt),
+  (
+    none_points block_form place_form (db.trees 10) (db.trees 34) from_places (is_block q) (λ p b. same_name (place_name p) (block_name b)) placed_names host.held.blocks host.held.places
+        (none_named (λ p b. same_name (place_name p) (block_name b)) (is_block q) (is_place q) (λ p b. named_so (place_name p) b q) (tables_in db).blocks (places_in db.trees) unplaced),
+    tt,
+  ),
 )
 
 -- ---- the texts
 
--- whether two blobs are equal, as a number
-equal_shown : (a b : Octets) → binary (Compare Eq Binary) (Blob a) (Blob b) ≡ Int (pos (cond (bytes_eq a b) 1 0))
-unfolding binary
-equal_shown a b = ap (λ o. from_truth (Some (test Eq o))) (value_cmp-Blob a b) ∙ elim (is_eq (bytes_cmp a b)) as (λ t. from_truth (Some t) ≡ Int (pos (cond t 1 0))) [ true ↦ refl | false ↦ refl ]
-
-pub matches_shown : (digest bytes : Octets) → SelectText block_form host_schema 10 (codes "SELECT ord, bytes = ?2 FROM blocks WHERE digest = ?1 ORDER BY rowid") (Blob digest ∷ Blob bytes ∷ []) (has_digest digest) (shown_match bytes) no_limit
+pub ords_shown : (digest : Octets) → SelectText block_form host_schema 10 (codes "SELECT ord FROM blocks WHERE digest = ?1 ORDER BY rowid") (Blob digest ∷ []) (has_digest digest) shown_ord no_limit
 unfolding understood everything
-matches_shown digest bytes = record {
+ords_shown digest = record {
   test = is 1 0 ∷ [];
-  show = col 1 2 ∷ op2 (Compare Eq Binary) (col 1 3) (col 0 1) ∷ [];
-  names = codes "ord" ∷ codes "bytes = ?2" ∷ [];
+  show = col 1 2 ∷ [];
+  names = codes "ord" ∷ [];
   means = record { is = refl; plain = (refl, refl); unlisted = refl; whole = refl; given = refl };
   low = refl;
   accepts = refl;
   tests = λ id b. last_term (at_blobs false Eq b.digest digest);
-  shows = λ id b. ap (λ v. number b.ord ∷ v ∷ []) (equal_shown b.bytes bytes);
+  shows = λ id b. refl;
 }
 
 pub ords_listed : (digest : Octets) → SortedText block_form host_schema 10 (codes "SELECT ord FROM blocks WHERE digest = ?1 ORDER BY ord, rowid") (Blob digest ∷ []) (has_digest digest) shown_ord by_ord no_limit

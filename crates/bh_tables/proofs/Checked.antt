@@ -17,8 +17,9 @@ use Rattle.sqlite.specs.Term.{Term, eval}
 use Rattle.sqlite_rules.specs.Lists.{Has}
 use Rattle.sqlite_rules.proofs.ListLemmas.{test_has}
 use Rattle.sqlite_schema.specs.Rules.{passes_checks}
-use Rattle.bh_tables.specs.Schema.{Octets, is_natural, is_small, host_table, tenants_table, buckets_table, versions_table, blocks_table, refs_table, uploads_table, parts_table, uses_table, retains_table, tallies_table, unneeded_table}
+use Rattle.bh_tables.specs.Schema.{Octets, is_natural, is_small, host_table, tenants_table, buckets_table, versions_table, blocks_table, refs_table, uploads_table, parts_table, uses_table, packs_table, retains_table, tallies_table, unneeded_table}
 use Rattle.bh_tables.specs.Typed.{HostRow, host_columns, TenantRow, tenant_columns, BucketRow, bucket_columns, VersionColumns, version_columns, BlockRow, block_columns, use_columns, RefRow, ref_columns, UploadRow, upload_columns, PartColumns, part_columns, RetainRow, retain_columns, tally_columns, GarbageRow, garbage_columns, weight, number}
+use Rattle.bh_tables.specs.Rows.{PackRow, pack_columns}
 use Rattle.bh_tables.specs.Bodies.{bare}
 use Rattle.bh_tables.specs.Shown.{is_marked_right}
 
@@ -83,6 +84,9 @@ upload_checked id kept u low = both_true (natural u.upload) (both_true (natural 
 
 pub part_checked : (id : ℤ) (p : PartColumns) → passes_checks parts_table (Int id ∷ part_columns p) ≡ true
 part_checked id p = both_true (natural p.upload) (both_true (natural p.part) (both_true (natural p.size) (both_true (natural p.stamp) (both_true (natural p.body) refl))))
+
+pub pack_checked : (id : ℤ) (p : PackRow) → p.length ≤ 4611686018427387904 → p.live ≤ 4611686018427387904 → passes_checks packs_table (Int id ∷ pack_columns p) ≡ true
+pack_checked id p short few = both_true (natural p.pack) (both_true (natural p.length) (both_true (small p.length short) (both_true (natural p.live) (both_true (small p.live few) refl))))
 
 pub retain_checked : (id : ℤ) (r : RetainRow) → passes_checks retains_table (Int id ∷ retain_columns r) ≡ true
 retain_checked id r = both_true (natural r.seq) (both_true (natural r.until) refl)

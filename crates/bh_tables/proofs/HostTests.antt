@@ -13,7 +13,7 @@ use Rattle.sqlite_tied.specs.Compute.{everything}
 use Rattle.sqlite_schema.specs.contracts.schema.Schema as schema
 use Rattle.bh_rows.specs.Form.{Form, AreRows, typed}
 use Rattle.bh_tables.specs.Schema.{first_schema, second_schema, third_schema, fourth_schema, host_schema}
-use Rattle.bh_tables.specs.Typed.{Totals, totals_of, unweighed, untallied, HostRow, Tables, Raw, raw, first_raw, second_raw, third_raw, fourth_raw, tables_in, first_tables_in, no_rows, AreHeld, IsHost, IsFirstHost, IsSecondHost, IsThirdHost, IsFourthHost, lock_form, retain_form, tally_form, garbage_form, host_form, tenant_form, key_form, bucket_form, version_form, block_form, ref_form, upload_form, part_form, use_form}
+use Rattle.bh_tables.specs.Typed.{Totals, totals_of, unweighed, untallied, HostRow, Tables, Raw, raw, first_raw, second_raw, third_raw, fourth_raw, tables_in, first_tables_in, no_rows, AreHeld, IsHost, IsFirstHost, IsSecondHost, IsThirdHost, IsFourthHost, lock_form, retain_form, tally_form, garbage_form, host_form, tenant_form, key_form, bucket_form, version_form, block_form, ref_form, upload_form, part_form, use_form, pack_form, place_form}
 use Rattle.bh_tables.specs.Hosts.{same_code, same, ascends, coded_row, are_rows, are_these, are_held, is_host, is_first_host, is_second_host, is_third_host, is_fourth_host, is_of_version, brought_over, earlier_shown, IsOfVersion1, IsOfVersion2, IsOfVersion3, IsOfVersion4, tables_shown, tables_opened}
 
 -- ---- codes
@@ -102,6 +102,8 @@ held_of sums r h =
     let q = and_parts _ _ p.1 in
     let s = and_parts _ _ q.1 in
     let t = and_parts _ _ s.1 in
+    let u = and_parts _ _ t.1 in
+    let v = and_parts _ _ u.1 in
     record {
       host = rows_of host_form r.host a.0;
       tenants = rows_of (tenant_form sums) r.tenants b.0;
@@ -121,7 +123,9 @@ held_of sums r h =
       garbage = rows_of garbage_form r.garbage q.0;
       weighed = these_of garbage_form r.garbage sums.garbage s.0;
       measured = t.0;
-      unfilled = same_value (coded_list coded_row) r.unfilled [] t.1;
+      packs = rows_of pack_form r.packs u.0;
+      places = rows_of place_form r.places v.0;
+      unfilled = same_value (coded_list coded_row) r.unfilled [] v.1;
     }
 
 of_held : (sums : Totals) (r : Raw) → AreHeld sums r → are_held sums r ≡ true
@@ -130,7 +134,7 @@ of_held sums r h = and_from _ _ (of_rows host_form r.host h.host) (and_from _ _ 
     (and_from _ _ (of_rows (upload_form sums) r.uploads h.uploads) (and_from _ _ (of_rows part_form r.parts h.parts) (and_from _ _ (of_rows use_form r.uses h.uses) (and_from _ _ (of_these use_form r.uses sums.uses h.counts) (and_from _ _ (of_rows lock_form r.locks h.locks)
     (and_from _ _ (of_rows retain_form r.retains h.retains) (and_from _ _ (of_rows tally_form r.tallies h.tallies)
     (and_from _ _ (of_these tally_form r.tallies sums.tallies h.tallied) (and_from _ _ (of_rows garbage_form r.garbage h.garbage) (and_from _ _ (of_these garbage_form r.garbage sums.garbage h.weighed)
-    (and_from _ _ h.measured (value_same (coded_list coded_row) r.unfilled [] h.unfilled))))))))))))))))))
+    (and_from _ _ h.measured (and_from _ _ (of_rows pack_form r.packs h.packs) (and_from _ _ (of_rows place_form r.places h.places) (value_same (coded_list coded_row) r.unfilled [] h.unfilled))))))))))))))))))))
 
 -- ---- databases
 

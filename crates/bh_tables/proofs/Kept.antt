@@ -2,8 +2,8 @@
 use Rattle.std.proofs.Common.{◌≡◌, ℤ, ap, refl, Option, Some, None, ◌∷◌, []}
 use Rattle.sqlite.specs.Cast.{cast_all}
 use Rattle.bh_rows.proofs.InsertLemmas.{cast_int, cast_null}
-use Rattle.bh_tables.specs.Schema.{host_table, tenants_table, keys_table, buckets_table, versions_table, blocks_table, refs_table, uploads_table, parts_table, uses_table, locks_table, retains_table, tallies_table, unneeded_table}
-use Rattle.bh_tables.specs.Typed.{HostRow, host_columns, TenantRow, tenant_columns, KeyRow, key_columns, BucketRow, bucket_columns, VersionColumns, version_columns, BlockRow, block_columns, UseRow, use_columns, RefRow, ref_columns, UploadRow, upload_columns, PartColumns, part_columns, LockRow, lock_columns, RetainRow, retain_columns, TallyRow, tally_columns, GarbageRow, garbage_columns}
+use Rattle.bh_tables.specs.Schema.{host_table, tenants_table, keys_table, buckets_table, versions_table, blocks_table, refs_table, uploads_table, parts_table, uses_table, locks_table, retains_table, tallies_table, unneeded_table, packs_table, placed_table}
+use Rattle.bh_tables.specs.Typed.{HostRow, host_columns, TenantRow, tenant_columns, KeyRow, key_columns, BucketRow, bucket_columns, VersionColumns, version_columns, BlockRow, block_columns, UseRow, use_columns, RefRow, ref_columns, UploadRow, upload_columns, PartColumns, part_columns, LockRow, lock_columns, RetainRow, retain_columns, TallyRow, tally_columns, GarbageRow, garbage_columns, PackRow, pack_columns, PlaceRow, place_columns}
 
 pub host_kept : (h : HostRow) → cast_all host_table.columns (host_columns h) ≡ host_columns h
 host_kept h = rw cast_null (simp cast_int)
@@ -43,6 +43,12 @@ tally_kept t = simp cast_int
 
 pub garbage_kept : (g : GarbageRow) → cast_all unneeded_table.columns (garbage_columns g) ≡ garbage_columns g
 garbage_kept g = rw cast_null (simp cast_int)
+
+pub pack_kept : (p : PackRow) → cast_all packs_table.columns (pack_columns p) ≡ pack_columns p
+pack_kept p = simp cast_int
+
+pub place_kept : (p : PlaceRow) → cast_all placed_table.columns (place_columns p) ≡ place_columns p
+place_kept p = simp cast_int
 
 pub bucket_kept : (b : BucketRow) → cast_all buckets_table.columns (bucket_columns b) ≡ bucket_columns b
 bucket_kept b = go b b.days

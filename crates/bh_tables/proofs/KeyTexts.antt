@@ -43,7 +43,7 @@ new_key {sums} db host k free owned = record {
 -- no key has rights of its own
 pub keys_unused : {sums : Totals} (db : Database) → IsHostBy sums db → (rows : List Row) → AreUnused host_schema db.trees 3 rows
 unfolding everything
-keys_unused db host rows = (none_names _ (db.trees 41) (unfilled_none db host 41 (inr (inr (inr (inr (inl refl)))))), tt)
+keys_unused db host rows = (none_names _ (db.trees 41) (unfilled_none db host 41 (inr (inr (inl refl)))), tt)
 
 -- ---- the texts
 

@@ -16,6 +16,7 @@ pub mod BucketTexts
 pub mod VersionTexts
 pub mod LockTexts
 pub mod RetainTexts
+pub mod PlaceTexts
 pub mod BlockTexts
 pub mod RefTexts
 pub mod UseTexts
@@ -35,6 +36,5 @@ pub mod TallyLemmas
 pub mod PartTotals
 pub mod OwnedLemmas
 pub mod AloneLemmas
-pub mod UnusedText
 pub mod RemovalTexts
 pub mod RemovalLemmas

@@ -17,8 +17,10 @@ use Rattle.sqlite_keyed.proofs.KeyedLemmas.{same_int}
 use Rattle.sqlite_keyed.proofs.ListLemmas.{filter_none, all_weaker}
 use Rattle.bh_rows.specs.Form.{typed}
 use Rattle.bh_rows.proofs.ObeyedLemmas.{has_parents}
-use Rattle.bh_tables.specs.Schema.{Octets, host_schema, buckets_table, versions_table, refs_table, uploads_table, parts_table, at, refers}
+use Rattle.bh_tables.specs.Schema.{Octets, host_schema, placed_table, buckets_table, versions_table, refs_table, uploads_table, parts_table, at, refers}
 use Rattle.bh_tables.specs.Typed.{Totals, TenantRow, tally_of, BucketRow, VersionColumns, VersionRow, PartColumns, PartRow, RefRow, UploadRow, tenant_form, bucket_form, version_form, block_form, ref_form, upload_form, part_form, IsHostBy, tables_in, bytes_used, bytes_kept}
+use Rattle.bh_tables.specs.Rows.{PlaceRow, place_form}
+use Rattle.bh_tables.specs.Packs.{place_name, is_place, places_in}
 use Rattle.bh_tables.specs.Bodies.{Name, ref_name, block_name, resolved, resolved_part}
 use Rattle.bh_tables.specs.Shown.{is_tenant, is_bucket, is_upload, is_block, is_use, is_later}
 use Rattle.bh_tables.proofs.TotalLemmas.{total_none, name_Decides}
@@ -64,6 +66,16 @@ module _ (sums : Totals) (db : Database) (sound : IsDatabase (record { schema = 
   pub block_unused : (q : Name) → list_any (is_block q) (tables_in db).blocks ≡ false → list_any (is_use q) (tables_in db).refs ≡ false
   block_unused q free = none_without (is_use q) (λ r b. is_block (ref_name r) b) (is_block q) (tables_in db).refs (tables_in db).blocks ref_has
       (λ r b names is. (name_Decides (block_name b) q).1 ((name_Decides (block_name b) (ref_name r)).0 is ∙ (name_Decides (ref_name r) q).0 names)) free
+
+  place_has : (p : PlaceRow) → Has (places_in db.trees) p → list_any (is_block (place_name p)) (tables_in db).blocks ≡ true
+  unfolding everything first_key
+  place_has = has_parents block_form place_form host_schema db.trees sound (at 34 placed_table) (inr (inr (inr (inr (inr (inr (inr (inr (inr (inr (inr (inr (inr (inr (inl refl))))))))))))))) (refers (1 ∷ 2 ∷ []) (codes "blocks")) (inl refl) (10, 1 ∷ 2 ∷ [], plain) refl (λ id p. refl)
+      (λ p b. is_block (place_name p) b) (λ i p j b. then_term (at_blobs false Eq b.digest p.digest) (last_term (at_ints false Eq (pos b.ord) (pos p.ord)))) host.held.blocks host.held.places
+
+  -- nor has it a place
+  pub block_unplaced : (q : Name) → list_any (is_block q) (tables_in db).blocks ≡ false → list_any (is_place q) (places_in db.trees) ≡ false
+  block_unplaced q free = none_without (is_place q) (λ p b. is_block (place_name p) b) (is_block q) (places_in db.trees) (tables_in db).blocks place_has
+      (λ p b names is. (name_Decides (block_name b) q).1 ((name_Decides (block_name b) (place_name p)).0 is ∙ (name_Decides (place_name p) q).0 names)) free
 
   -- a tenant that is not there has no bucket, and so no version and no part
   no_bucket : (tenant : Octets) → list_any (is_tenant tenant) (tables_in db).tenants ≡ false → list_any (λ (b : BucketRow). bytes_eq b.tenant tenant) (tables_in db).buckets ≡ false

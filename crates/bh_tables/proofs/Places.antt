@@ -10,10 +10,10 @@ use Rattle.sqlite_trees.specs.Tree.{with_tree}
 use Rattle.bh_rows.specs.Form.{Form, AreRows, Entry, put, entries, typed}
 use Rattle.bh_rows.specs.Keys.{AreUnused}
 use Rattle.bh_rows.specs.Texts.{IsOrderly, IsTableOf, Leaves}
-use Rattle.bh_tables.specs.Schema.{host_schema, host_table, tenants_table, keys_table, buckets_table, versions_table, blocks_table, refs_table, uploads_table, parts_table, uses_table, locks_table, retains_table, tallies_table, unneeded_table, at}
-use Rattle.bh_tables.specs.Typed.{LockRow, lock_form, RetainRow, retain_form, HostRow, TenantRow, KeyRow, BucketRow, VersionColumns, BlockRow, RefRow, UploadRow, PartColumns, host_form, tenant_form, key_form, bucket_form, version_form, block_form, ref_form, upload_form, part_form, Tables, tables, tables_in, tables_of, Raw, raw, AreHeld, Totals, IsHostBy, rebodied, use_form, tally_form, garbage_form, stored_tenant_form, stored_upload_form}
+use Rattle.bh_tables.specs.Schema.{host_schema, host_table, tenants_table, keys_table, buckets_table, versions_table, blocks_table, refs_table, uploads_table, parts_table, uses_table, locks_table, retains_table, tallies_table, unneeded_table, packs_table, placed_table, at}
+use Rattle.bh_tables.specs.Typed.{LockRow, lock_form, RetainRow, retain_form, HostRow, TenantRow, KeyRow, BucketRow, VersionColumns, BlockRow, RefRow, UploadRow, PartColumns, host_form, tenant_form, key_form, bucket_form, version_form, block_form, ref_form, upload_form, part_form, Tables, tables, tables_in, tables_of, Raw, raw, AreHeld, Totals, IsHostBy, rebodied, use_form, tally_form, garbage_form, pack_form, place_form, stored_tenant_form, stored_upload_form}
 use Rattle.bh_tables.specs.Bodies.{resolved, columns_of, resolved_part, part_columns_of}
-use Rattle.bh_tables.proofs.Kept.{host_kept, tenant_kept, key_kept, bucket_kept, version_kept, block_kept, ref_kept, upload_kept, part_kept, use_kept, lock_kept, retain_kept, tally_kept, garbage_kept}
+use Rattle.bh_tables.proofs.Kept.{host_kept, tenant_kept, key_kept, bucket_kept, version_kept, block_kept, ref_kept, upload_kept, part_kept, use_kept, lock_kept, retain_kept, tally_kept, garbage_kept, pack_kept, place_kept}
 use Rattle.bh_tables.proofs.RawLemmas.{raw_changed}
 use Rattle.bh_tables.proofs.ResolvedLemmas.{stored_versions, resolved_twice, stored_parts, resolved_parts_twice}
 
@@ -71,7 +71,7 @@ host sums = record {
   put = λ r l. record r { host = l };
   put_is = λ db l. refl;
   put_reads = λ r l. refl;
-  put_held = λ r l h it. record { host = it; tenants = h.tenants; keys = h.keys; buckets = h.buckets; versions = h.versions; blocks = h.blocks; refs = h.refs; uploads = h.uploads; parts = h.parts; uses = h.uses; counts = h.counts; locks = h.locks; retains = h.retains; tallies = h.tallies; tallied = h.tallied; garbage = h.garbage; weighed = h.weighed; measured = h.measured; unfilled = h.unfilled };
+  put_held = λ r l h it. record { host = it; tenants = h.tenants; keys = h.keys; buckets = h.buckets; versions = h.versions; blocks = h.blocks; refs = h.refs; uploads = h.uploads; parts = h.parts; uses = h.uses; counts = h.counts; locks = h.locks; retains = h.retains; tallies = h.tallies; tallied = h.tallied; garbage = h.garbage; weighed = h.weighed; measured = h.measured; packs = h.packs; places = h.places; unfilled = h.unfilled };
 }
 
 pub tenants_is : (sums : Totals) → IsTableOf (tenant_form sums) host_schema 1 (at 1 tenants_table)
@@ -91,7 +91,7 @@ tenants sums = record {
   put = λ r l. record r { tenants = l };
   put_is = λ db l. refl;
   put_reads = λ r l. refl;
-  put_held = λ r l h it. record { host = h.host; tenants = it; keys = h.keys; buckets = h.buckets; versions = h.versions; blocks = h.blocks; refs = h.refs; uploads = h.uploads; parts = h.parts; uses = h.uses; counts = h.counts; locks = h.locks; retains = h.retains; tallies = h.tallies; tallied = h.tallied; garbage = h.garbage; weighed = h.weighed; measured = h.measured; unfilled = h.unfilled };
+  put_held = λ r l h it. record { host = h.host; tenants = it; keys = h.keys; buckets = h.buckets; versions = h.versions; blocks = h.blocks; refs = h.refs; uploads = h.uploads; parts = h.parts; uses = h.uses; counts = h.counts; locks = h.locks; retains = h.retains; tallies = h.tallies; tallied = h.tallied; garbage = h.garbage; weighed = h.weighed; measured = h.measured; packs = h.packs; places = h.places; unfilled = h.unfilled };
 }
 
 pub keys_is : IsTableOf key_form host_schema 2 (at 3 keys_table)
@@ -111,7 +111,7 @@ keys sums = record {
   put = λ r l. record r { keys = l };
   put_is = λ db l. refl;
   put_reads = λ r l. refl;
-  put_held = λ r l h it. record { host = h.host; tenants = h.tenants; keys = it; buckets = h.buckets; versions = h.versions; blocks = h.blocks; refs = h.refs; uploads = h.uploads; parts = h.parts; uses = h.uses; counts = h.counts; locks = h.locks; retains = h.retains; tallies = h.tallies; tallied = h.tallied; garbage = h.garbage; weighed = h.weighed; measured = h.measured; unfilled = h.unfilled };
+  put_held = λ r l h it. record { host = h.host; tenants = h.tenants; keys = it; buckets = h.buckets; versions = h.versions; blocks = h.blocks; refs = h.refs; uploads = h.uploads; parts = h.parts; uses = h.uses; counts = h.counts; locks = h.locks; retains = h.retains; tallies = h.tallies; tallied = h.tallied; garbage = h.garbage; weighed = h.weighed; measured = h.measured; packs = h.packs; places = h.places; unfilled = h.unfilled };
 }
 
 pub buckets_is : IsTableOf bucket_form host_schema 3 (at 5 buckets_table)
@@ -131,7 +131,7 @@ buckets sums = record {
   put = λ r l. record r { buckets = l };
   put_is = λ db l. refl;
   put_reads = λ r l. refl;
-  put_held = λ r l h it. record { host = h.host; tenants = h.tenants; keys = h.keys; buckets = it; versions = h.versions; blocks = h.blocks; refs = h.refs; uploads = h.uploads; parts = h.parts; uses = h.uses; counts = h.counts; locks = h.locks; retains = h.retains; tallies = h.tallies; tallied = h.tallied; garbage = h.garbage; weighed = h.weighed; measured = h.measured; unfilled = h.unfilled };
+  put_held = λ r l h it. record { host = h.host; tenants = h.tenants; keys = h.keys; buckets = it; versions = h.versions; blocks = h.blocks; refs = h.refs; uploads = h.uploads; parts = h.parts; uses = h.uses; counts = h.counts; locks = h.locks; retains = h.retains; tallies = h.tallies; tallied = h.tallied; garbage = h.garbage; weighed = h.weighed; measured = h.measured; packs = h.packs; places = h.places; unfilled = h.unfilled };
 }
 
 pub versions_is : IsTableOf version_form host_schema 4 (at 7 versions_table)
@@ -151,7 +151,7 @@ versions sums = record {
   put = λ r l. record r { versions = l };
   put_is = λ db l. refl;
   put_reads = λ r l. refl;
-  put_held = λ r l h it. record { host = h.host; tenants = h.tenants; keys = h.keys; buckets = h.buckets; versions = it; blocks = h.blocks; refs = h.refs; uploads = h.uploads; parts = h.parts; uses = h.uses; counts = h.counts; locks = h.locks; retains = h.retains; tallies = h.tallies; tallied = h.tallied; garbage = h.garbage; weighed = h.weighed; measured = h.measured; unfilled = h.unfilled };
+  put_held = λ r l h it. record { host = h.host; tenants = h.tenants; keys = h.keys; buckets = h.buckets; versions = it; blocks = h.blocks; refs = h.refs; uploads = h.uploads; parts = h.parts; uses = h.uses; counts = h.counts; locks = h.locks; retains = h.retains; tallies = h.tallies; tallied = h.tallied; garbage = h.garbage; weighed = h.weighed; measured = h.measured; packs = h.packs; places = h.places; unfilled = h.unfilled };
 }
 
 -- the tables with other references and blocks, as they are read
@@ -178,7 +178,7 @@ blocks sums = record {
   put = λ r l. record r { blocks = l };
   put_is = λ db l. refl;
   put_reads = λ r l. reread r (typed ref_form r.refs) (typed block_form l);
-  put_held = λ r l h it. record { host = h.host; tenants = h.tenants; keys = h.keys; buckets = h.buckets; versions = h.versions; blocks = it; refs = h.refs; uploads = h.uploads; parts = h.parts; uses = h.uses; counts = h.counts; locks = h.locks; retains = h.retains; tallies = h.tallies; tallied = h.tallied; garbage = h.garbage; weighed = h.weighed; measured = h.measured; unfilled = h.unfilled };
+  put_held = λ r l h it. record { host = h.host; tenants = h.tenants; keys = h.keys; buckets = h.buckets; versions = h.versions; blocks = it; refs = h.refs; uploads = h.uploads; parts = h.parts; uses = h.uses; counts = h.counts; locks = h.locks; retains = h.retains; tallies = h.tallies; tallied = h.tallied; garbage = h.garbage; weighed = h.weighed; measured = h.measured; packs = h.packs; places = h.places; unfilled = h.unfilled };
 }
 
 pub refs_is : IsTableOf ref_form host_schema 6 (at 12 refs_table)
@@ -198,7 +198,7 @@ refs sums = record {
   put = λ r l. record r { refs = l };
   put_is = λ db l. refl;
   put_reads = λ r l. reread r (typed ref_form l) (typed block_form r.blocks);
-  put_held = λ r l h it. record { host = h.host; tenants = h.tenants; keys = h.keys; buckets = h.buckets; versions = h.versions; blocks = h.blocks; refs = it; uploads = h.uploads; parts = h.parts; uses = h.uses; counts = h.counts; locks = h.locks; retains = h.retains; tallies = h.tallies; tallied = h.tallied; garbage = h.garbage; weighed = h.weighed; measured = h.measured; unfilled = h.unfilled };
+  put_held = λ r l h it. record { host = h.host; tenants = h.tenants; keys = h.keys; buckets = h.buckets; versions = h.versions; blocks = h.blocks; refs = it; uploads = h.uploads; parts = h.parts; uses = h.uses; counts = h.counts; locks = h.locks; retains = h.retains; tallies = h.tallies; tallied = h.tallied; garbage = h.garbage; weighed = h.weighed; measured = h.measured; packs = h.packs; places = h.places; unfilled = h.unfilled };
 }
 
 pub uploads_is : (sums : Totals) → IsTableOf (upload_form sums) host_schema 7 (at 16 uploads_table)
@@ -218,7 +218,7 @@ uploads sums = record {
   put = λ r l. record r { uploads = l };
   put_is = λ db l. refl;
   put_reads = λ r l. refl;
-  put_held = λ r l h it. record { host = h.host; tenants = h.tenants; keys = h.keys; buckets = h.buckets; versions = h.versions; blocks = h.blocks; refs = h.refs; uploads = it; parts = h.parts; uses = h.uses; counts = h.counts; locks = h.locks; retains = h.retains; tallies = h.tallies; tallied = h.tallied; garbage = h.garbage; weighed = h.weighed; measured = h.measured; unfilled = h.unfilled };
+  put_held = λ r l h it. record { host = h.host; tenants = h.tenants; keys = h.keys; buckets = h.buckets; versions = h.versions; blocks = h.blocks; refs = h.refs; uploads = it; parts = h.parts; uses = h.uses; counts = h.counts; locks = h.locks; retains = h.retains; tallies = h.tallies; tallied = h.tallied; garbage = h.garbage; weighed = h.weighed; measured = h.measured; packs = h.packs; places = h.places; unfilled = h.unfilled };
 }
 
 pub parts_is : IsTableOf part_form host_schema 8 (at 18 parts_table)
@@ -238,7 +238,7 @@ parts sums = record {
   put = λ r l. record r { parts = l };
   put_is = λ db l. refl;
   put_reads = λ r l. refl;
-  put_held = λ r l h it. record { host = h.host; tenants = h.tenants; keys = h.keys; buckets = h.buckets; versions = h.versions; blocks = h.blocks; refs = h.refs; uploads = h.uploads; parts = it; uses = h.uses; counts = h.counts; locks = h.locks; retains = h.retains; tallies = h.tallies; tallied = h.tallied; garbage = h.garbage; weighed = h.weighed; measured = h.measured; unfilled = h.unfilled };
+  put_held = λ r l h it. record { host = h.host; tenants = h.tenants; keys = h.keys; buckets = h.buckets; versions = h.versions; blocks = h.blocks; refs = h.refs; uploads = h.uploads; parts = it; uses = h.uses; counts = h.counts; locks = h.locks; retains = h.retains; tallies = h.tallies; tallied = h.tallied; garbage = h.garbage; weighed = h.weighed; measured = h.measured; packs = h.packs; places = h.places; unfilled = h.unfilled };
 }
 
 pub locks_is : IsTableOf lock_form host_schema 10 (at 26 locks_table)
@@ -258,7 +258,7 @@ locks sums = record {
   put = λ r l. record r { locks = l };
   put_is = λ db l. refl;
   put_reads = λ r l. refl;
-  put_held = λ r l h it. record { host = h.host; tenants = h.tenants; keys = h.keys; buckets = h.buckets; versions = h.versions; blocks = h.blocks; refs = h.refs; uploads = h.uploads; parts = h.parts; uses = h.uses; counts = h.counts; locks = it; retains = h.retains; tallies = h.tallies; tallied = h.tallied; garbage = h.garbage; weighed = h.weighed; measured = h.measured; unfilled = h.unfilled };
+  put_held = λ r l h it. record { host = h.host; tenants = h.tenants; keys = h.keys; buckets = h.buckets; versions = h.versions; blocks = h.blocks; refs = h.refs; uploads = h.uploads; parts = h.parts; uses = h.uses; counts = h.counts; locks = it; retains = h.retains; tallies = h.tallies; tallied = h.tallied; garbage = h.garbage; weighed = h.weighed; measured = h.measured; packs = h.packs; places = h.places; unfilled = h.unfilled };
 }
 
 pub retains_is : IsTableOf retain_form host_schema 11 (at 28 retains_table)
@@ -278,8 +278,22 @@ retains sums = record {
   put = λ r l. record r { retains = l };
   put_is = λ db l. refl;
   put_reads = λ r l. refl;
-  put_held = λ r l h it. record { host = h.host; tenants = h.tenants; keys = h.keys; buckets = h.buckets; versions = h.versions; blocks = h.blocks; refs = h.refs; uploads = h.uploads; parts = h.parts; uses = h.uses; counts = h.counts; locks = h.locks; retains = it; tallies = h.tallies; tallied = h.tallied; garbage = h.garbage; weighed = h.weighed; measured = h.measured; unfilled = h.unfilled };
+  put_held = λ r l h it. record { host = h.host; tenants = h.tenants; keys = h.keys; buckets = h.buckets; versions = h.versions; blocks = h.blocks; refs = h.refs; uploads = h.uploads; parts = h.parts; uses = h.uses; counts = h.counts; locks = h.locks; retains = it; tallies = h.tallies; tallied = h.tallied; garbage = h.garbage; weighed = h.weighed; measured = h.measured; packs = h.packs; places = h.places; unfilled = h.unfilled };
 }
+
+-- ---- packs, and the places in them
+
+pub packs_is : IsTableOf pack_form host_schema 13 (at 32 packs_table)
+unfolding everything
+packs_is = record { is_table = refl; plain = refl; low = refl; kept = pack_kept; fit = refl }
+
+pub places_is : IsTableOf place_form host_schema 14 (at 34 placed_table)
+unfolding everything
+places_is = record { is_table = refl; plain = refl; low = refl; kept = place_kept; fit = refl }
+
+-- with other rows of both
+pub put_packs : (sums : Totals) (r : Raw) (packs places : List Row) → AreHeld sums r → AreRows pack_form packs → AreRows place_form places → AreHeld sums (record r { packs = packs; places = places })
+put_packs sums r packs places h these those = record { host = h.host; tenants = h.tenants; keys = h.keys; buckets = h.buckets; versions = h.versions; blocks = h.blocks; refs = h.refs; uploads = h.uploads; parts = h.parts; uses = h.uses; counts = h.counts; locks = h.locks; retains = h.retains; tallies = h.tallies; tallied = h.tallied; garbage = h.garbage; weighed = h.weighed; measured = h.measured; packs = these; places = those; unfilled = h.unfilled }
 
 -- ---- the columns and the table that keep what other rows have, as they are stored
 

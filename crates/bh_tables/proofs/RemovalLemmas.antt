@@ -57,6 +57,8 @@ module _ (was now : Totals) where
       garbage = host.held.garbage;
       weighed = host.held.weighed ∙ garbage;
       measured = sym measured ∙ host.held.measured;
+      packs = host.held.packs;
+      places = host.held.places;
       unfilled = host.held.unfilled;
     };
   }

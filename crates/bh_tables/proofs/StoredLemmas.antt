@@ -100,6 +100,8 @@ tenants_turned before used cs old new host all l =
       garbage = host.held.garbage;
       weighed = host.held.weighed;
       measured = host.held.measured;
+      packs = host.held.packs;
+      places = host.held.places;
       unfilled = host.held.unfilled;
     } in (
       record { schema = ap (λ (d : Database). d.schema) l.now; held = subst (AreHeld after) (sym now_is) held },
@@ -146,6 +148,8 @@ uploads_turned before kept cs old new host all l =
       garbage = host.held.garbage;
       weighed = host.held.weighed;
       measured = host.held.measured;
+      packs = host.held.packs;
+      places = host.held.places;
       unfilled = host.held.unfilled;
     } in (
       record { schema = ap (λ (d : Database). d.schema) l.now; held = subst (AreHeld after) (sym now_is) held },
@@ -178,6 +182,8 @@ uses_turned sums us old new host l =
       garbage = host.held.garbage;
       weighed = host.held.weighed;
       measured = host.held.measured;
+      packs = host.held.packs;
+      places = host.held.places;
       unfilled = host.held.unfilled;
     } in (
       record { schema = ap (λ (d : Database). d.schema) l.now; held = subst (AreHeld (record sums { uses = us })) (sym now_is) held },
@@ -210,6 +216,8 @@ tallies_turned sums ts old new host l =
       garbage = host.held.garbage;
       weighed = host.held.weighed;
       measured = host.held.measured;
+      packs = host.held.packs;
+      places = host.held.places;
       unfilled = host.held.unfilled;
     } in (
       record { schema = ap (λ (d : Database). d.schema) l.now; held = subst (AreHeld (record sums { tallies = ts })) (sym now_is) held },
@@ -242,6 +250,8 @@ garbage_turned sums gs old new host l =
       garbage = l.held;
       weighed = l.rows;
       measured = host.held.measured;
+      packs = host.held.packs;
+      places = host.held.places;
       unfilled = host.held.unfilled;
     } in (
       record { schema = ap (λ (d : Database). d.schema) l.now; held = subst (AreHeld (record sums { garbage = gs })) (sym now_is) held },

@@ -79,7 +79,7 @@ module _ (sums : Totals) where
   upload_goes db host tenant upload empty = (
     none_points (upload_form sums) part_form (db.trees 16) (db.trees 18) to_uploads (is_upload tenant upload) (λ p u. bytes_eq p.tenant u.tenant && int_eq (pos p.upload) (pos u.upload)) lies_in host.held.uploads host.held.parts
         (none_named (λ p u. bytes_eq p.tenant u.tenant && int_eq (pos p.upload) (pos u.upload)) (is_upload tenant upload) (λ p. is_part_of tenant upload (bare_part p)) (named tenant upload) (tables_in db).uploads (typed part_form (db.trees 18)) (sym (any_in_parts db (is_part_of tenant upload)) ∙ empty)),
-    (none_names _ (db.trees 39) (unfilled_none db host 39 (inr (inr (inr (inl refl))))), tt),
+    (none_names _ (db.trees 39) (unfilled_none db host 39 (inr (inl refl))), tt),
   )
 
   -- ---- the texts

@@ -80,7 +80,7 @@ undated_goes db host tenant bucket okey id undated = (
       let found = has_filtered goes stored v.0 v.1 in
       let date = some_from (is_retain v.0.tenant v.0.seq) (tables_in db).retains r.0 r.1 v.2 in
       both_ways (some_from (λ c. goes c && is_dated (tables_in db).retains (bare c)) stored v.0 found.0 (and_from _ _ found.1 date)) none_stored)),
-  (none_names _ (db.trees 37) (unfilled_none db host 37 (inr (inr (inl refl)))), tt),
+  (none_names _ (db.trees 37) (unfilled_none db host 37 (inl refl)), tt),
 )
   where
     goes : VersionColumns → Bool

@@ -19,7 +19,7 @@ use Rattle.bh_tables.specs.Typed.{first_raw, second_raw, third_raw, fourth_raw}
 use Rattle.bh_tables.specs.Typed.{tables_in, first_tables_in, IsFirstHost, IsSecondHost, IsThirdHost, IsFourthHost, no_rows, host_form}
 use Rattle.bh_tables.specs.Typed.{tenant_form, key_form, bucket_form}
 use Rattle.bh_tables.specs.Typed.{version_form, block_form, ref_form, upload_form, part_form, use_form, lock_form, retain_form}
-use Rattle.bh_tables.specs.Typed.{tally_form, garbage_form}
+use Rattle.bh_tables.specs.Typed.{tally_form, garbage_form, pack_form, place_form}
 
 -- ---- equality, by the codes of values
 
@@ -66,7 +66,7 @@ are_held sums r = are_rows host_form r.host && (are_rows (tenant_form sums) r.te
     && (are_these use_form r.uses sums.uses && (are_rows lock_form r.locks && (are_rows retain_form r.retains
     && (are_rows tally_form r.tallies && (are_these tally_form r.tallies sums.tallies
     && (are_rows garbage_form r.garbage && (are_these garbage_form r.garbage sums.garbage && (sums.measured
-    && same (coded_list coded_row) r.unfilled [])))))))))))))))))
+    && (are_rows pack_form r.packs && (are_rows place_form r.places && same (coded_list coded_row) r.unfilled [])))))))))))))))))))
 
 -- ---- databases
 

@@ -2,6 +2,7 @@ pub mod Schema
 pub mod Made
 pub mod Rows
 pub mod Bodies
+pub mod Packs
 pub mod Entries
 pub mod Typed
 pub mod Garbage

@@ -407,3 +407,47 @@ pub record PartRow : Type 0 where
   pub stamp : ℕ
   pub body : ℕ
   pub bytes : Octets
+
+-- ---- the packs of bytes of blocks
+
+-- how many bytes of a pack are committed, and how many of these a place names
+pub record PackRow : Type 0 where
+  pub pack : ℕ
+  pub length : ℕ
+  pub live : ℕ
+
+abbrev pub pack_columns : PackRow → Row
+pack_columns p = number p.pack ∷ number p.length ∷ number p.live ∷ []
+
+abbrev pub pack_of : Row → PackRow
+pack_of r = record { pack = column_number (column r 1); length = column_number (column r 2); live = column_number (column r 3) }
+
+abbrev pub pack_form : Form PackRow
+pack_form = record { encode = pack_columns; decode = pack_of; back = λ _ x. refl }
+
+-- where the bytes of a block are
+pub record PlaceRow : Type 0 where
+  pub digest : Octets
+  pub ord : ℕ
+  pub pack : ℕ
+  -- the column `place`
+  pub offset : ℕ
+  pub size : ℕ
+  -- of the bytes: 64 bits, as the number that has them
+  pub sum : ℤ
+
+abbrev pub place_columns : PlaceRow → Row
+place_columns p = Blob p.digest ∷ number p.ord ∷ number p.pack ∷ number p.offset ∷ number p.size ∷ Int p.sum ∷ []
+
+abbrev pub place_of : Row → PlaceRow
+place_of r = record {
+  digest = bytes_of (column r 1);
+  ord = column_number (column r 2);
+  pack = column_number (column r 3);
+  offset = column_number (column r 4);
+  size = column_number (column r 5);
+  sum = int_of (column r 6);
+}
+
+abbrev pub place_form : Form PlaceRow
+place_form = record { encode = place_columns; decode = place_of; back = λ _ x. refl }

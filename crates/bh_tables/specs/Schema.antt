@@ -149,7 +149,8 @@ tallies_table = table (codes "tallies") (given (codes "tenant") Text ∷ given (
     ∷ given (codes "objects") Integer ∷ []) (1 ∷ []) [] (refers (1 ∷ []) (codes "tenants") ∷ [])
     (is_natural 2 ∷ is_small 2 ∷ is_natural 3 ∷ is_small 3 ∷ is_natural 4 ∷ is_small 4 ∷ [])
 
--- the tables that follow, but the last, have no row yet. Version 4 added them, since the store can't add a column
+-- of the tables that follow those of packs and of places have rows where blocks have their bytes in packs, and the others but the
+-- last have none yet. Version 4 added them, since the store can't add a column
 
 -- the packs of bytes of blocks, by their numbers: how many bytes of each are committed, and how many
 -- of these a row of placed names. INT, since INTEGER would make the number that of the row

@@ -262,10 +262,6 @@ shown_seq v = number v.seq ∷ []
 abbrev pub shown_ord : BlockRow → Row
 shown_ord b = number b.ord ∷ []
 
--- its ordinal, and whether it has these bytes
-abbrev pub shown_match : Octets → BlockRow → Row
-shown_match bytes b = number b.ord ∷ Int (pos (if bytes_eq b.bytes bytes then 1 else 0)) ∷ []
-
 abbrev pub shown_name : BlockRow → Row
 shown_name b = Blob b.digest ∷ number b.ord ∷ []
 

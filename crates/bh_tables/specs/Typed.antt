@@ -22,7 +22,8 @@ pub use Rattle.bh_tables.specs.Rows.{UseRow, use_columns, use_of, use_form, RefR
 pub use Rattle.bh_tables.specs.Rows.{upload_columns, upload_of, upload_form, UploadColumns, stored_upload_form, PartColumns, part_columns}
 pub use Rattle.bh_tables.specs.Rows.{part_of, part_form, PartRow, LockRow, lock_columns, lock_of, lock_form, RetainRow, retain_columns}
 pub use Rattle.bh_tables.specs.Rows.{retain_of, retain_form, TallyRow, tally_columns, tally_read, tally_form, GarbageRow}
-pub use Rattle.bh_tables.specs.Rows.{garbage_columns, garbage_of, garbage_form}
+pub use Rattle.bh_tables.specs.Rows.{garbage_columns, garbage_of, garbage_form, PackRow, pack_columns, pack_of, pack_form, PlaceRow}
+pub use Rattle.bh_tables.specs.Rows.{place_columns, place_of, place_form}
 
 -- ---- all tables
 
@@ -70,12 +71,14 @@ pub record Raw : Type 0 where
   pub retains : List Row
   pub tallies : List Row
   pub garbage : List Row
+  pub packs : List Row
+  pub places : List Row
   -- of the tables that nothing fills yet
   pub unfilled : List Row
 
--- the trees of these tables: of packs, of places in them, of notes, of rights, and of garbage
+-- the trees of these tables: of notes, of rights, and of garbage
 abbrev pub unfilled_trees : List ℕ
-unfilled_trees = 32 ∷ 34 ∷ 37 ∷ 39 ∷ 41 ∷ 43 ∷ []
+unfilled_trees = 37 ∷ 39 ∷ 41 ∷ 43 ∷ []
 
 abbrev pub raw : Trees → Raw
 raw db = record {
@@ -93,16 +96,18 @@ raw db = record {
   retains = db 28;
   tallies = db 30;
   garbage = db 44;
+  packs = db 32;
+  places = db 34;
   unfilled = flat_map db unfilled_trees;
 }
 
--- under earlier schemas, each of which lacks some more tables: the fourth that of what nobody needs, the third those that
--- nothing fills, the second that of tallies, and the first those of locks and of dates
+-- under earlier schemas, each of which lacks some more tables: the fourth that of what nobody needs, the third those of packs and
+-- those that nothing fills, the second that of tallies, and the first those of locks and of dates
 abbrev pub fourth_raw : Trees → Raw
 fourth_raw db = record (raw db) { garbage = [] }
 
 abbrev pub third_raw : Trees → Raw
-third_raw db = record (fourth_raw db) { unfilled = [] }
+third_raw db = record (fourth_raw db) { packs = []; places = []; unfilled = [] }
 
 abbrev pub second_raw : Trees → Raw
 second_raw db = record (third_raw db) { tallies = [] }
@@ -154,6 +159,8 @@ pub record AreHeld (sums : Totals) (r : Raw) : Type 0 where
   pub garbage : AreRows garbage_form r.garbage
   pub weighed : typed garbage_form r.garbage ≡ sums.garbage
   pub measured : sums.measured ≡ true
+  pub packs : AreRows pack_form r.packs
+  pub places : AreRows place_form r.places
   pub unfilled : r.unfilled ≡ []
 
 -- a database's tables, and those of the database in a state of the store

@@ -1,8 +1,8 @@
-use Rattle.std.proofs.Common.{refl}
+use Rattle.std.proofs.Common.{◌≡◌, [], refl, subst}
 use Rattle.std.proofs.Math.Logic.{∥∥₁_map}
 use Rattle.sqlite.specs.Files.{file_state}
 use Rattle.bh_base.specs.Connections.{backing, without_packs}
-use Rattle.bh_base.specs.Layer.{standing, IsIntact}
+use Rattle.bh_base.specs.Layer.{Standing, standing, IsIntact}
 use Rattle.bh_base.proofs.Lifting.{intact_shown, open_shown}
 use Rattle.bh_again.proofs.Back.{comes_back, left_alone, was_intact, found_left, found_kept, never_none}
 use Rattle.bh_again.proofs.hosts.stop_and_open_host.Goals as goal
@@ -44,7 +44,7 @@ returns-in-Ok-open_host-clause-came_back g c clean up =
     let opened = c.in-Ok-open_host.opened in
     let old = file_state c.args.host.connection.database in
     let bare = open_shown (backing without_packs c.args.host.connection.packs) old up in
-    comes_back opened clean (standing (file_state c.in-Ok.connection)).now o.schema (λ x. o.shows x) (λ d x. o.rest d x) (λ d x. o.latest d x) (λ d x. o.named d x) _
+    comes_back opened clean (standing (file_state c.in-Ok.connection)).now o.schema (λ is. subst (λ (x : Standing). x.now.trees 34 ≡ []) (o.same clean is) (o.unplaced clean).0) (λ x. o.shows x) (λ d x. o.rest d x) (λ d x. o.latest d x) (λ d x. o.named d x) _
     (found_kept old (file_state c.in-Ok.connection) (file_state opened.connection) o.follows h.opened h.found l.live l.settled clean bare)
 
 pub returns-in-Ok-open_host-clause-merely : goal.returns-in-Ok-open_host-clause-merely
@@ -53,7 +53,7 @@ returns-in-Ok-open_host-clause-merely g c clean =
     let o = c.in-Ok-open_host.ensures in
     let opened = c.in-Ok-open_host.opened in
     ∥∥₁_map (found_left (file_state c.args.host.connection.database) (file_state c.in-Ok.connection) (file_state opened.connection) o.follows h.opened h.left clean)
-    (λ it. (it.0, it.1, comes_back opened clean (standing (file_state c.in-Ok.connection)).now o.schema (λ x. o.shows x) (λ d x. o.rest d x) (λ d x. o.latest d x) (λ d x. o.named d x) it.0 it.2))
+    (λ it. (it.0, it.1, comes_back opened clean (standing (file_state c.in-Ok.connection)).now o.schema (λ is. subst (λ (x : Standing). x.now.trees 34 ≡ []) (o.same clean is) (o.unplaced clean).0) (λ x. o.shows x) (λ d x. o.rest d x) (λ d x. o.latest d x) (λ d x. o.named d x) it.0 it.2))
 
 pub returns-in-Err-open_host-clause-never : goal.returns-in-Err-open_host-clause-never
 unfolding IsIntact

@@ -6,9 +6,7 @@ use Rattle.bh_blocks.proofs.Loops.{at_row, least_stops, least_goes}
 use Rattle.bh_blocks.proofs.blocks.least_free.Goals as goal
 
 pub returns-in_err-read_ord-clause-trouble : goal.returns-in_err-read_ord-clause-trouble
-returns-in_err-read_ord-clause-trouble c = handed_on _ _ _ c.from_residual.ensures (λ e same bs is.
-    let it = at_row shown_ord bs c.args.rows.now c.loop-row.row-index c.row-item.result c.loop-row-test.true c.row-item.is is in
-    ap is_trouble same ∙ c.in_err-read_ord.ensures.trouble it.0 it.1)
+returns-in_err-read_ord-clause-trouble c = handed_on _ _ _ c.from_residual.ensures (λ e same bs is. ap is_trouble same ∙ c.in_err-read_ord.ensures.trouble)
 
 pub returns-then-branch-free-clause-least : goal.returns-then-branch-free-clause-least
 returns-then-branch-free-clause-least c bs is =

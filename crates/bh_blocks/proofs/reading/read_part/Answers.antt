@@ -1,38 +1,41 @@
-use Rattle.std.proofs.Common.{◌≡◌, Some, [], find, refl, sym, ap, ◌∙◌, subst}
+use Rattle.std.proofs.Common.{◌≡◌, inl, inr, [], ◌∷◌, map, filter, sym, ap, ◌∙◌, subst}
 use Rattle.std.proofs.lemmas.Result.{IfOk-weaker}
 use Rattle.std.specs.Option.{option_map_or}
 use Rattle.bh_base.specs.Connections.{state}
+use Rattle.bh_tables.specs.Bodies.{first}
 use Rattle.bh_tables.specs.Typed.{BlockRow, tables_in}
-use Rattle.bh_tables.specs.Shown.{Name, is_block, shown_bytes}
-use Rattle.bh_view.proofs.FindLemmas.{first_find}
+use Rattle.bh_tables.specs.Shown.{Name, is_block}
 use Rattle.bh_cache.specs.Kept.{Agrees}
 use Rattle.bh_cache.proofs.Agreeing.{agrees_more, agrees_fewer}
 use Rattle.bh_base.specs.Layer.{Standing}
+use Rattle.bh_base.proofs.Placed.{only_one}
 use Rattle.bh_schema.specs.Working.{tables_at}
-use Rattle.bh_schema.proofs.Finds.{row_of}
 use Rattle.bh_blocks.specs.Named.{named_by}
 use Rattle.bh_blocks.specs.Windows.{seen_in}
 use Rattle.bh_blocks.proofs.Cached.{on_any}
 use Rattle.bh_blocks.proofs.reading.read_part.Goals as goal
 
 pub returns-clause-agrees : goal.returns-clause-agrees
-returns-clause-agrees g c = on_any c.shown_part.result _ (λ clean.
+returns-clause-agrees g c = on_any c.copied.result _ (λ clean.
     let old = tables_at (state g.S.Store g.P.Shelf c.args.connection.now) in
-    let rows = c.in_ok-rows.ensures in
-    let was = rows.reads.within.follows.clean clean in
+    let read = c.in_ok-whole.ensures in
+    let whole = c.in_ok-whole.whole.items in
     let q : Name = named_by c.args.block.now in
-    subst (λ (x : Standing). Agrees c.keep_row.new.cache (tables_in x.now).blocks) (sym (rows.reads.same clean.intact))
-    (row_of shown_bytes (is_block (c.deref.result.now, c.args.block.now.ord)) _ _ (c.deref-2.ensures.value ∙ rows.rows clean) c.in-Some-first.row.now c.in-Some-first.ensures.value (λ b found row.
-    let there : find (is_block q) old.blocks ≡ Some b = subst (λ d. find (is_block (d, c.args.block.now.ord)) old.blocks ≡ Some b) c.deref.ensures.value found in
-    agrees_more c.kept_part.new.cache c.keep_row.new.cache old.blocks q b.bytes (c.keep_row.ensures b row) (b, first_find (is_block q) old.blocks ∙ there, refl) (agrees_fewer c.args.cache.now c.kept_part.new.cache old.blocks c.in_ok-bytes.ensures.entries (c.requires.agrees was)))))
+    let one = only_one (λ (b : BlockRow). b.bytes) (filter (is_block q) old.blocks) whole
+    (subst (λ d. map (λ (b : BlockRow). b.bytes) (filter (is_block (d, c.args.block.now.ord)) old.blocks) ≡ whole ∷ []) c.deref.ensures.value (read.bytes clean)) in
+    subst (λ (x : Standing). Agrees c.keep_bytes.new.cache (tables_in x.now).blocks) (sym (read.reads.same clean.intact))
+    (agrees_more c.kept_part.new.cache c.keep_bytes.new.cache old.blocks q whole
+    (λ e has. elim (c.keep_bytes.ensures e has) [ inl was ↦ inl was | inr is ↦ inr (is ∙ ap (λ b. (q, b)) c.deref-2.ensures.value) ])
+    (one.0, ap first one.1, one.2) (agrees_fewer c.args.cache.now c.kept_part.new.cache old.blocks c.in_ok-bytes.ensures.entries (c.requires.agrees (read.reads.within.follows.clean clean)))))
 
 pub returns-clause-bytes : goal.returns-clause-bytes
-returns-clause-bytes g c = IfOk-weaker c.shown_part.result _ _ (λ bytes read clean.
+returns-clause-bytes g c = IfOk-weaker c.copied.result _ _ (λ bytes same clean.
     let old = tables_at (state g.S.Store g.P.Shelf c.args.connection.now) in
+    let whole = c.in_ok-whole.whole.items in
     let q : Name = named_by c.args.block.now in
-    row_of shown_bytes (is_block (c.deref.result.now, c.args.block.now.ord)) _ _ (c.deref-2.ensures.value ∙ c.in_ok-rows.ensures.rows clean) c.in-Some-first.row.now c.in-Some-first.ensures.value (λ b found row.
-    let there : find (is_block q) old.blocks ≡ Some b = subst (λ d. find (is_block (d, c.args.block.now.ord)) old.blocks ≡ Some b) c.deref.ensures.value found in
-    read b row ∙ ap (λ o. seen_in c.args.window (option_map_or (λ (b : BlockRow). b.bytes) o [])) (sym (first_find (is_block q) old.blocks ∙ there)))) c.shown_part.ensures.bytes
+    let one = only_one (λ (b : BlockRow). b.bytes) (filter (is_block q) old.blocks) whole
+    (subst (λ d. map (λ (b : BlockRow). b.bytes) (filter (is_block (d, c.args.block.now.ord)) old.blocks) ≡ whole ∷ []) c.deref.ensures.value (c.in_ok-whole.ensures.bytes clean)) in
+    same ∙ c.part_of.ensures ∙ ap (seen_in c.args.window) (c.deref-3.ensures.value ∙ sym (ap (λ o. option_map_or (λ (b : BlockRow). b.bytes) o []) (ap first one.1) ∙ one.2))) c.copied.ensures.same
 
 pub returns-in-Some-clause-agrees : goal.returns-in-Some-clause-agrees
 returns-in-Some-clause-agrees g c clean =

@@ -1,11 +1,15 @@
+use Rattle.std.proofs.Common.{ap}
+use Rattle.std.proofs.lemmas.Result.{on_ok_weaker}
 use Rattle.sqlite.specs.Held.{state}
-use Rattle.bh_tables.proofs.Places.{blocks}
-use Rattle.bh_tables.proofs.Statements.{selected}
+use Rattle.sqlite.specs.Effect.{Database}
+use Rattle.bh_rows.specs.Form.{typed}
+use Rattle.bh_tables.specs.Schema.{blocks_table, at}
+use Rattle.bh_tables.specs.Rows.{block_form}
+use Rattle.bh_tables.specs.Packs.{places_in, packs_in}
 use Rattle.bh_tables.proofs.RefTexts.{bytes_shown}
 use Rattle.bh_base.specs.Connections.{backing}
-use Rattle.bh_base.specs.Shown.{shown}
-use Rattle.bh_base.proofs.Alone.{told}
-use Rattle.bh_base.proofs.Calls.{question_read, readable}
+use Rattle.bh_base.specs.Shown.{named}
+use Rattle.bh_base.proofs.Beneath.{selected}
 use Rattle.bh_blocks.proofs.rows.bytes_rows.Goals as goal
 
 pub returns : goal.returns
@@ -14,6 +18,15 @@ returns g c =
     let old = state g.S.Store c.args.connection.now.database in
     let a = backing g.P.Shelf c.args.connection.now.packs in
     let new = state g.S.Store c.query_all.new.self in
-    let q = question_read (shown a old) (shown a new) (λ v. v.items) _ c.query_all.result c.requires.reads (told a old new (readable (shown a old) c.requires.reads) (λ v. v.items) _ c.query_all.result h.survives (λ bare.
-    selected (blocks _) old new bare (λ v. v.items) c.query_all.result _ _ _ _ (bytes_shown (c.args.digest.now, c.args.ord)) h.ok h.err h.survives)) in
-    record { reads = record { within = q.within; opens = q.opens; same = q.same }; rows = q.rows; trouble = q.trouble }
+    let t = selected block_form (at 10 blocks_table) (λ sums db h. h.held.blocks) a old new c.requires.reads (λ v. v.items) c.query_all.result h.ok h.err h.survives (bytes_shown (c.args.digest.now, c.args.ord)) in
+    record {
+      reads = record { within = t.within; opens = t.opens; same = t.same };
+      rows = t.rows;
+      still = on_ok_weaker c.query_all.result (λ same clean. let it = same clean in record {
+        places = ap (λ (db : Database). places_in db.trees) it.0;
+        packs = ap (λ (db : Database). packs_in db.trees) it.0;
+        blocks = ap (λ (db : Database). typed block_form (db.trees 10)) it.0;
+        contents = ap (named a) it.1;
+      }) t.unchanged;
+      trouble = t.trouble;
+    }

@@ -2,7 +2,6 @@ use Rattle.sqlite.specs.Held.{state}
 use Rattle.bh_tables.specs.Shown.{Name}
 use Rattle.bh_blocks.proofs.UseCalls.{turns, turns_trouble}
 use Rattle.bh_base.specs.Connections.{backing}
-use Rattle.bh_base.specs.Shown.{shown}
 use Rattle.bh_blocks.proofs.uses.change_uses.Goals as goal
 
 pub returns : goal.returns

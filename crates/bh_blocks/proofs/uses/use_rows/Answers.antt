@@ -1,7 +1,6 @@
 use Rattle.sqlite.specs.Held.{state}
 use Rattle.bh_blocks.proofs.UseCalls.{count_told}
 use Rattle.bh_base.specs.Connections.{backing}
-use Rattle.bh_base.specs.Shown.{shown}
 use Rattle.bh_blocks.proofs.uses.use_rows.Goals as goal
 
 pub returns : goal.returns

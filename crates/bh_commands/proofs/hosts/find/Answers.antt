@@ -3,15 +3,19 @@ use Rattle.sqlite.specs.Files.{file_state, over_files}
 use Rattle.bh_storage.specs.Calls.{Seen, IsAtRest}
 use Rattle.bh_view.specs.Bodies.{IsSoundHost}
 use Rattle.bh_cache.specs.Kept.{no_blocks}
-use Rattle.bh_schema.specs.Storage.{seen_in, beside}
-use Rattle.bh_bare.proofs.Bare.{seen_bare}
+use Rattle.bh_schema.specs.Storage.{seen_in}
+use Rattle.bh_schema.specs.Storage as storage
+use Rattle.bh_bare.specs.Bare.{no_packs}
+use Rattle.bh_bare.proofs.Bare.{unplaced_bare, seen_bare}
+use Rattle.bh_base.specs.Connections.{without_packs}
+use Rattle.bh_base.specs.Layer.{standing, IsStateClean}
 use Rattle.bh_base.specs.Shown.{shown}
 use Rattle.bh_base.proofs.Lifting.{shown_clean}
-use Rattle.bh_commands.proofs.Making.{no_packs}
 use Rattle.bh_schema.proofs.Storing.{beside_agreed}
 use Rattle.bh_maintenance.specs.Found.{IsOpenedAs}
 use Rattle.bh_maintenance.proofs.Found.{is_clean, opened_as, typed_when, shows_seen, row_seen, sound_seen}
 use Rattle.bh_maintenance.proofs.Refused.{not_found}
+use Rattle.bh_commands.specs.Subcommands.{host_by}
 use Rattle.bh_commands.proofs.hosts.find.Goals as goal
 
 pub work_by_digest-requires : goal.work_by_digest-requires
@@ -24,6 +28,7 @@ work_by_digest-requires g c =
     record {
       rest = λ clean. it.rest _ clean (typed_when opened.limits old new c.requires found clean) (sound_seen opened.limits old new c.requires found opened.digest it.named clean);
       latest = λ clean. it.latest _ clean (typed_when opened.limits old new c.requires found clean) (sound_seen opened.limits old new c.requires found opened.digest it.named clean);
+      bare = λ clean. unplaced_bare (standing new) (it.unplaced clean).0 (it.unplaced clean).1;
     }
 
 pub returns-in_ok-work_by_digest-in-Ok : goal.returns-in_ok-work_by_digest-in-Ok
@@ -33,16 +38,19 @@ returns-in_ok-work_by_digest-in-Ok g c =
     let old = file_state c.args.connection in
     let new = file_state opened.connection in
     let found : IsOpenedAs old new = opened_as opened.limits old new it.schema it.same it.brought it.shows it.follows it.crash in
-    let bare = shown no_packs new in
-    let same : beside (no_blocks opened.tuning) (seen_in opened.limits bare) ≡ seen_in opened.limits new = beside_agreed (no_blocks opened.tuning) (seen_in opened.limits bare) refl ∙ seen_bare no_packs new opened.limits in
+    let alone : storage.IsClean over_files without_packs (host_by opened.digest opened).host → IsStateClean new = λ clean. (shown_clean no_packs new (is_clean clean)).0 in
+    let same : IsStateClean new → storage.seen over_files without_packs (host_by opened.digest opened).host ≡ seen_in opened.limits new = λ clean.
+    beside_agreed (no_blocks opened.tuning) (seen_in opened.limits (shown no_packs new)) refl ∙ seen_bare new (unplaced_bare (standing new) (it.unplaced clean).0 (it.unplaced clean).1) opened.limits in
     inr (record {
       opened = opened;
       tuned = it.given;
       row = row_seen opened.limits old new c.requires found opened.digest it.named;
       found = record {
         opened = found;
-        shows = λ clean. ap (λ (x : Seen). x.now) same ∙ shows_seen opened.limits old new c.requires found (shown_clean no_packs new (is_clean clean)).0;
-        rest = λ clean. subst (IsAtRest (IsSoundHost _)) (sym same) (it.rest _ (shown_clean no_packs new (is_clean clean)).0 (typed_when opened.limits old new c.requires found (shown_clean no_packs new (is_clean clean)).0) (sound_seen opened.limits old new c.requires found opened.digest it.named (shown_clean no_packs new (is_clean clean)).0));
+        shows = λ clean. ap (λ (x : Seen). x.now) (same (alone clean)) ∙ shows_seen opened.limits old new c.requires found (alone clean);
+        rest = λ clean.
+            let was = alone clean in
+            subst (IsAtRest (IsSoundHost _)) (sym (same was)) (it.rest _ was (typed_when opened.limits old new c.requires found was) (sound_seen opened.limits old new c.requires found opened.digest it.named was));
       };
       worked = c.in_ok-work_by_digest-in-Ok.ensures;
     })

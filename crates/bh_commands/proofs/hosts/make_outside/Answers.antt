@@ -4,7 +4,9 @@ use Rattle.sqlite.specs.Files.{file_state, over_files}
 use Rattle.bh_shelf.specs.declared.no_shelf.NoShelf.{NoShelf}
 use Rattle.bh_base.specs.declared.connection.Connection.{Connection}
 use Rattle.bh_base.proofs.Lifting.{clean_shown}
-use Rattle.bh_commands.proofs.Making.{no_packs, keeps_bare, new_bare, back_made}
+use Rattle.bh_bare.specs.Bare.{no_packs}
+use Rattle.bh_maintenance.proofs.Standing.{follows_alone, new_alone}
+use Rattle.bh_commands.proofs.Making.{back_made}
 use Rattle.bh_commands.proofs.Refused.{not_made}
 use Rattle.bh_commands.proofs.hosts.make_outside.Goals as goal
 
@@ -15,8 +17,8 @@ returns-in-Ok g c =
     let new = file_state c.in-Ok.host.connection.database in
     rw c.into_connection.ensures (inr (record {
       was_empty = it.empty;
-      follows = keeps_bare no_packs no_packs old new refl it.follows;
-      made = λ clean. new_bare c.args.limits c.args.digest no_packs new (it.made (clean_shown no_packs new clean refl));
+      follows = follows_alone old new it.follows;
+      made = new_alone c.args.limits c.args.digest new it.made;
       line = c.requires.line;
     }))
 
@@ -31,5 +33,5 @@ returns-in_ok-refused-in-Err g c =
     (λ h. (ap (λ (j : Connection (FileStore _ _) NoShelf). j.database) (it.refused h).0, (it.refused h).1))
     (λ h.
     let f = it.failed h in
-    let keeps = keeps_bare no_packs no_packs old new refl f.2 in
+    let keeps = follows_alone old new f.2 in
     (f.0, f.1, keeps, λ clean. back_made c.args.connection new c.requires.live c.requires.settled f.1 (keeps.clean clean) (f.3 (clean_shown no_packs new clean refl))))))

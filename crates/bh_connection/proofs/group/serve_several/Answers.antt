@@ -44,4 +44,4 @@ returns-clause-serves g c = λ secret begun mid p q.
     (logs_then begun _ _ (begins_with Request (at c.args.first) ++ joins) (closes_with afters serveds)
     (logs_then begun mid _ (begins_with Request (at c.args.first)) joins p (subst (Logs mid (g.A.Acceptor.calls c.gathered-arrivals.new.acceptor)) (sym (flat_map-map (joins_with Request) at came.more)) came.calls))
     (subst (λ l. Q l serveds) back (subst (λ s. Q all s) c.as_slice.ensures.value c.close_each.ensures.closed)))
-    (omega (arith, c.len.ensures, c.serve_together.ensures.count, ap length c.requires.room.1.serveds, sliced, many)) refl (c.any_shut.ensures ∙ ap (list_any (λ (s : Served). is_shut s.trouble)) c.as_slice-2.ensures.value)
+    (omega (arith, c.len.ensures, c.serve_together.ensures.count, ap length c.requires.room.1.serveds, sliced, many)) refl refl (c.any_shut.ensures ∙ ap (list_any (λ (s : Served). is_shut s.trouble)) c.as_slice-2.ensures.value)

@@ -23,11 +23,11 @@ groups-preserved g c =
     let one = c.serve_group.ensures in
     let (groups, count, going, none, come) = so_far.listened in
     let (group, is) = c.in_ok-group.ensures.comes in
-    let now = come_still g.H.Storage.IsIntact g.H.Storage.IsOpen g.H.Storage.seen g.H.Storage.left g.H.BackUp.shows _ _ _ _ _ groups _ _ _ c.tell_count.ensures.rest.intact c.tell_count.ensures.stays c.tell_count.ensures.calls come in
-    let next = more_come g.H.Storage.IsIntact g.H.Storage.IsOpen g.H.Storage.seen g.H.Storage.left g.H.BackUp.shows _ _ _ _ _ _ groups group _ _ _ _ (c.tell_count.ensures.operated ∙ so_far.operated) one.stays.intact (c.tell_count.ensures.rest.limits ∙ so_far.stays.limits) now is in
+    let now = come_still g.H.Storage.IsIntact g.H.Storage.IsOpen g.H.Storage.seen g.H.Storage.left g.H.BackUp.shows _ _ _ _ _ groups _ _ _ c.prepare.ensures.rest.intact c.prepare.ensures.stays c.prepare.ensures.calls come in
+    let next = more_come g.H.Storage.IsIntact g.H.Storage.IsOpen g.H.Storage.seen g.H.Storage.left g.H.BackUp.shows _ _ _ _ _ _ groups group _ _ _ _ (c.prepare.ensures.operated ∙ so_far.operated) one.stays.intact (c.prepare.ensures.rest.limits ∙ so_far.stays.limits) now is in
     record {
-      stays = stays_then (stays_then so_far.stays c.tell_count.ensures.rest) one.stays;
-      operated = one.operated ∙ c.tell_count.ensures.operated ∙ so_far.operated;
+      stays = stays_then (stays_then so_far.stays c.prepare.ensures.rest) one.stays;
+      operated = one.operated ∙ c.prepare.ensures.operated ∙ so_far.operated;
       alive = λ _. sym c.is_lost.ensures ∙ c.if-is_lost.false;
       within = omega (arith, c.in_ok-group.ensures.most, c.groups-test.true);
       listened = (
@@ -47,12 +47,12 @@ returns-then-group-clause-ran g c = λ intact.
     let one = c.serve_group.ensures in
     let (groups, count, going, none, come) = so_far.listened in
     let (group, is) = c.in_ok-group.ensures.comes in
-    let now = come_still g.H.Storage.IsIntact g.H.Storage.IsOpen g.H.Storage.seen g.H.Storage.left g.H.BackUp.shows _ _ _ _ _ groups _ _ _ c.tell_count.ensures.rest.intact c.tell_count.ensures.stays c.tell_count.ensures.calls come in
-    let next = more_come g.H.Storage.IsIntact g.H.Storage.IsOpen g.H.Storage.seen g.H.Storage.left g.H.BackUp.shows _ _ _ _ _ _ groups group _ _ _ _ (c.tell_count.ensures.operated ∙ so_far.operated) one.stays.intact (c.tell_count.ensures.rest.limits ∙ so_far.stays.limits) now is in
+    let now = come_still g.H.Storage.IsIntact g.H.Storage.IsOpen g.H.Storage.seen g.H.Storage.left g.H.BackUp.shows _ _ _ _ _ groups _ _ _ c.prepare.ensures.rest.intact c.prepare.ensures.stays c.prepare.ensures.calls come in
+    let next = more_come g.H.Storage.IsIntact g.H.Storage.IsOpen g.H.Storage.seen g.H.Storage.left g.H.BackUp.shows _ _ _ _ _ _ groups group _ _ _ _ (c.prepare.ensures.operated ∙ so_far.operated) one.stays.intact (c.prepare.ensures.rest.limits ∙ so_far.stays.limits) now is in
     ran_for g.H.Storage.IsIntact g.H.Storage.IsOpen g.H.Storage.seen g.H.Storage.left g.H.BackUp.shows _ _ _ _ _ intact next.admitted next.served
 
 pub returns-then-group-clause-stays : goal.returns-then-group-clause-stays
-returns-then-group-clause-stays g c = stays_then (stays_then c.groups.invariant.stays c.tell_count.ensures.rest) c.serve_group.ensures.stays
+returns-then-group-clause-stays g c = stays_then (stays_then c.groups.invariant.stays c.prepare.ensures.rest) c.serve_group.ensures.stays
 
 pub returns-then-group-clause-listened : goal.returns-then-group-clause-listened
 returns-then-group-clause-listened g c =
@@ -60,16 +60,16 @@ returns-then-group-clause-listened g c =
     let one = c.serve_group.ensures in
     let (groups, count, going, none, come) = so_far.listened in
     let (group, is) = c.in_ok-group.ensures.comes in
-    let now = come_still g.H.Storage.IsIntact g.H.Storage.IsOpen g.H.Storage.seen g.H.Storage.left g.H.BackUp.shows _ _ _ _ _ groups _ _ _ c.tell_count.ensures.rest.intact c.tell_count.ensures.stays c.tell_count.ensures.calls come in
-    let next = more_come g.H.Storage.IsIntact g.H.Storage.IsOpen g.H.Storage.seen g.H.Storage.left g.H.BackUp.shows _ _ _ _ _ _ groups group _ _ _ _ (c.tell_count.ensures.operated ∙ so_far.operated) one.stays.intact (c.tell_count.ensures.rest.limits ∙ so_far.stays.limits) now is in
+    let now = come_still g.H.Storage.IsIntact g.H.Storage.IsOpen g.H.Storage.seen g.H.Storage.left g.H.BackUp.shows _ _ _ _ _ groups _ _ _ c.prepare.ensures.rest.intact c.prepare.ensures.stays c.prepare.ensures.calls come in
+    let next = more_come g.H.Storage.IsIntact g.H.Storage.IsOpen g.H.Storage.seen g.H.Storage.left g.H.BackUp.shows _ _ _ _ _ _ groups group _ _ _ _ (c.prepare.ensures.operated ∙ so_far.operated) one.stays.intact (c.prepare.ensures.rest.limits ∙ so_far.stays.limits) now is in
     (groups ++ group ∷ [], next.each, next.served, next.admitted, (inr (omega (arith, count, is.count, c.in_ok-group.ensures.most, c.groups-test.true, count_more groups group), stopped_by groups group none (is.stopped c.if-group.true).0), open_more groups group going (is.stopped c.if-group.true).1, next.calls))
 
 pub returns-then-group-clause-lost : goal.returns-then-group-clause-lost
 returns-then-group-clause-lost g c = λ was gone.
     let (groups, count, going, none, come) = c.groups.invariant.listened in
-    let now = come_still g.H.Storage.IsIntact g.H.Storage.IsOpen g.H.Storage.seen g.H.Storage.left g.H.BackUp.shows _ _ _ _ _ groups _ _ _ c.tell_count.ensures.rest.intact c.tell_count.ensures.stays c.tell_count.ensures.calls come in
+    let now = come_still g.H.Storage.IsIntact g.H.Storage.IsOpen g.H.Storage.seen g.H.Storage.left g.H.BackUp.shows _ _ _ _ _ groups _ _ _ c.prepare.ensures.rest.intact c.prepare.ensures.stays c.prepare.ensures.calls come in
     let (group, is) = c.in_ok-group.ensures.comes in
-    (in_groups groups, c.tell_count.new.host, group, now.served, is.did)
+    (in_groups groups, c.prepare.new.host, group, now.served, is.did)
 
 -- a backup over which the host is lost
 
@@ -79,12 +79,12 @@ returns-then-is_lost-clause-ran g c = λ intact.
     let one = c.serve_group.ensures in
     let (groups, count, going, none, come) = so_far.listened in
     let (group, is) = c.in_ok-group.ensures.comes in
-    let now = come_still g.H.Storage.IsIntact g.H.Storage.IsOpen g.H.Storage.seen g.H.Storage.left g.H.BackUp.shows _ _ _ _ _ groups _ _ _ c.tell_count.ensures.rest.intact c.tell_count.ensures.stays c.tell_count.ensures.calls come in
-    let next = more_come g.H.Storage.IsIntact g.H.Storage.IsOpen g.H.Storage.seen g.H.Storage.left g.H.BackUp.shows _ _ _ _ _ _ groups group _ _ _ _ (c.tell_count.ensures.operated ∙ so_far.operated) one.stays.intact (c.tell_count.ensures.rest.limits ∙ so_far.stays.limits) now is in
+    let now = come_still g.H.Storage.IsIntact g.H.Storage.IsOpen g.H.Storage.seen g.H.Storage.left g.H.BackUp.shows _ _ _ _ _ groups _ _ _ c.prepare.ensures.rest.intact c.prepare.ensures.stays c.prepare.ensures.calls come in
+    let next = more_come g.H.Storage.IsIntact g.H.Storage.IsOpen g.H.Storage.seen g.H.Storage.left g.H.BackUp.shows _ _ _ _ _ _ groups group _ _ _ _ (c.prepare.ensures.operated ∙ so_far.operated) one.stays.intact (c.prepare.ensures.rest.limits ∙ so_far.stays.limits) now is in
     ran_for g.H.Storage.IsIntact g.H.Storage.IsOpen g.H.Storage.seen g.H.Storage.left g.H.BackUp.shows _ _ _ _ _ intact next.admitted next.served
 
 pub returns-then-is_lost-clause-stays : goal.returns-then-is_lost-clause-stays
-returns-then-is_lost-clause-stays g c = stays_then (stays_then c.groups.invariant.stays c.tell_count.ensures.rest) c.serve_group.ensures.stays
+returns-then-is_lost-clause-stays g c = stays_then (stays_then c.groups.invariant.stays c.prepare.ensures.rest) c.serve_group.ensures.stays
 
 pub returns-then-is_lost-clause-listened : goal.returns-then-is_lost-clause-listened
 returns-then-is_lost-clause-listened g c =
@@ -92,16 +92,16 @@ returns-then-is_lost-clause-listened g c =
     let one = c.serve_group.ensures in
     let (groups, count, going, none, come) = so_far.listened in
     let (group, is) = c.in_ok-group.ensures.comes in
-    let now = come_still g.H.Storage.IsIntact g.H.Storage.IsOpen g.H.Storage.seen g.H.Storage.left g.H.BackUp.shows _ _ _ _ _ groups _ _ _ c.tell_count.ensures.rest.intact c.tell_count.ensures.stays c.tell_count.ensures.calls come in
-    let next = more_come g.H.Storage.IsIntact g.H.Storage.IsOpen g.H.Storage.seen g.H.Storage.left g.H.BackUp.shows _ _ _ _ _ _ groups group _ _ _ _ (c.tell_count.ensures.operated ∙ so_far.operated) one.stays.intact (c.tell_count.ensures.rest.limits ∙ so_far.stays.limits) now is in
+    let now = come_still g.H.Storage.IsIntact g.H.Storage.IsOpen g.H.Storage.seen g.H.Storage.left g.H.BackUp.shows _ _ _ _ _ groups _ _ _ c.prepare.ensures.rest.intact c.prepare.ensures.stays c.prepare.ensures.calls come in
+    let next = more_come g.H.Storage.IsIntact g.H.Storage.IsOpen g.H.Storage.seen g.H.Storage.left g.H.BackUp.shows _ _ _ _ _ _ groups group _ _ _ _ (c.prepare.ensures.operated ∙ so_far.operated) one.stays.intact (c.prepare.ensures.rest.limits ∙ so_far.stays.limits) now is in
     (groups ++ group ∷ [], next.each, next.served, next.admitted, (none_more groups group none (is.going c.if-group.false), inr (record { before = groups; last = group; all = refl; going = going; why = inl (sym c.is_lost.ensures ∙ c.if-is_lost.true) }, omega (arith, count, is.count, c.in_ok-group.ensures.most, c.groups-test.true, count_more groups group), next.calls)))
 
 pub returns-then-is_lost-clause-lost : goal.returns-then-is_lost-clause-lost
 returns-then-is_lost-clause-lost g c = λ was gone.
     let (groups, count, going, none, come) = c.groups.invariant.listened in
-    let now = come_still g.H.Storage.IsIntact g.H.Storage.IsOpen g.H.Storage.seen g.H.Storage.left g.H.BackUp.shows _ _ _ _ _ groups _ _ _ c.tell_count.ensures.rest.intact c.tell_count.ensures.stays c.tell_count.ensures.calls come in
+    let now = come_still g.H.Storage.IsIntact g.H.Storage.IsOpen g.H.Storage.seen g.H.Storage.left g.H.BackUp.shows _ _ _ _ _ groups _ _ _ c.prepare.ensures.rest.intact c.prepare.ensures.stays c.prepare.ensures.calls come in
     let (group, is) = c.in_ok-group.ensures.comes in
-    (in_groups groups, c.tell_count.new.host, group, now.served, is.did)
+    (in_groups groups, c.prepare.new.host, group, now.served, is.did)
 
 -- a store that is shut
 
@@ -111,12 +111,12 @@ returns-then-group-2-clause-ran g c = λ intact.
     let one = c.serve_group.ensures in
     let (groups, count, going, none, come) = so_far.listened in
     let (group, is) = c.in_ok-group.ensures.comes in
-    let now = come_still g.H.Storage.IsIntact g.H.Storage.IsOpen g.H.Storage.seen g.H.Storage.left g.H.BackUp.shows _ _ _ _ _ groups _ _ _ c.tell_count.ensures.rest.intact c.tell_count.ensures.stays c.tell_count.ensures.calls come in
-    let next = more_come g.H.Storage.IsIntact g.H.Storage.IsOpen g.H.Storage.seen g.H.Storage.left g.H.BackUp.shows _ _ _ _ _ _ groups group _ _ _ _ (c.tell_count.ensures.operated ∙ so_far.operated) one.stays.intact (c.tell_count.ensures.rest.limits ∙ so_far.stays.limits) now is in
+    let now = come_still g.H.Storage.IsIntact g.H.Storage.IsOpen g.H.Storage.seen g.H.Storage.left g.H.BackUp.shows _ _ _ _ _ groups _ _ _ c.prepare.ensures.rest.intact c.prepare.ensures.stays c.prepare.ensures.calls come in
+    let next = more_come g.H.Storage.IsIntact g.H.Storage.IsOpen g.H.Storage.seen g.H.Storage.left g.H.BackUp.shows _ _ _ _ _ _ groups group _ _ _ _ (c.prepare.ensures.operated ∙ so_far.operated) one.stays.intact (c.prepare.ensures.rest.limits ∙ so_far.stays.limits) now is in
     ran_for g.H.Storage.IsIntact g.H.Storage.IsOpen g.H.Storage.seen g.H.Storage.left g.H.BackUp.shows _ _ _ _ _ intact next.admitted next.served
 
 pub returns-then-group-2-clause-stays : goal.returns-then-group-2-clause-stays
-returns-then-group-2-clause-stays g c = stays_then (stays_then c.groups.invariant.stays c.tell_count.ensures.rest) c.serve_group.ensures.stays
+returns-then-group-2-clause-stays g c = stays_then (stays_then c.groups.invariant.stays c.prepare.ensures.rest) c.serve_group.ensures.stays
 
 pub returns-then-group-2-clause-listened : goal.returns-then-group-2-clause-listened
 returns-then-group-2-clause-listened g c =
@@ -124,8 +124,8 @@ returns-then-group-2-clause-listened g c =
     let one = c.serve_group.ensures in
     let (groups, count, going, none, come) = so_far.listened in
     let (group, is) = c.in_ok-group.ensures.comes in
-    let now = come_still g.H.Storage.IsIntact g.H.Storage.IsOpen g.H.Storage.seen g.H.Storage.left g.H.BackUp.shows _ _ _ _ _ groups _ _ _ c.tell_count.ensures.rest.intact c.tell_count.ensures.stays c.tell_count.ensures.calls come in
-    let next = more_come g.H.Storage.IsIntact g.H.Storage.IsOpen g.H.Storage.seen g.H.Storage.left g.H.BackUp.shows _ _ _ _ _ _ groups group _ _ _ _ (c.tell_count.ensures.operated ∙ so_far.operated) one.stays.intact (c.tell_count.ensures.rest.limits ∙ so_far.stays.limits) now is in
+    let now = come_still g.H.Storage.IsIntact g.H.Storage.IsOpen g.H.Storage.seen g.H.Storage.left g.H.BackUp.shows _ _ _ _ _ groups _ _ _ c.prepare.ensures.rest.intact c.prepare.ensures.stays c.prepare.ensures.calls come in
+    let next = more_come g.H.Storage.IsIntact g.H.Storage.IsOpen g.H.Storage.seen g.H.Storage.left g.H.BackUp.shows _ _ _ _ _ _ groups group _ _ _ _ (c.prepare.ensures.operated ∙ so_far.operated) one.stays.intact (c.prepare.ensures.rest.limits ∙ so_far.stays.limits) now is in
     (groups ++ group ∷ [], next.each, next.served, next.admitted, (none_more groups group none (is.going c.if-group.false), inr (record { before = groups; last = group; all = refl; going = going; why = inr (is.shut c.if-group-2.true) }, omega (arith, count, is.count, c.in_ok-group.ensures.most, c.groups-test.true, count_more groups group), next.calls)))
 
 pub returns-then-group-2-clause-lost : goal.returns-then-group-2-clause-lost
@@ -136,7 +136,7 @@ returns-then-group-2-clause-lost g c = λ was now. absurd (false≢true (sym (sy
 pub returns-in_err-group-clause-ran : goal.returns-in_err-group-clause-ran
 returns-in_err-group-clause-ran g c = λ intact.
     let (groups, count, going, none, come) = c.groups.invariant.listened in
-    let now = come_still g.H.Storage.IsIntact g.H.Storage.IsOpen g.H.Storage.seen g.H.Storage.left g.H.BackUp.shows _ _ _ _ _ groups _ _ _ c.tell_count.ensures.rest.intact c.tell_count.ensures.stays c.tell_count.ensures.calls come in
+    let now = come_still g.H.Storage.IsIntact g.H.Storage.IsOpen g.H.Storage.seen g.H.Storage.left g.H.BackUp.shows _ _ _ _ _ groups _ _ _ c.prepare.ensures.rest.intact c.prepare.ensures.stays c.prepare.ensures.calls come in
     let (fault, is) = c.in_err-group.ensures.comes in
     ran_for g.H.Storage.IsIntact g.H.Storage.IsOpen g.H.Storage.seen g.H.Storage.left g.H.BackUp.shows _ _ _ _ _ intact now.admitted
     (subst (λ x. HasServedAll g.H.Storage.IsIntact g.H.Storage.IsOpen g.H.Storage.seen g.H.Storage.left (option_map (λ s. s.now) c.args.secret) (in_groups groups) c.args.host.now x) (sym is.same) now.served)
@@ -144,7 +144,7 @@ returns-in_err-group-clause-ran g c = λ intact.
 pub returns-in_err-group-clause-listened : goal.returns-in_err-group-clause-listened
 returns-in_err-group-clause-listened g c =
     let (groups, count, going, none, come) = c.groups.invariant.listened in
-    let now = come_still g.H.Storage.IsIntact g.H.Storage.IsOpen g.H.Storage.seen g.H.Storage.left g.H.BackUp.shows _ _ _ _ _ groups _ _ _ c.tell_count.ensures.rest.intact c.tell_count.ensures.stays c.tell_count.ensures.calls come in
+    let now = come_still g.H.Storage.IsIntact g.H.Storage.IsOpen g.H.Storage.seen g.H.Storage.left g.H.BackUp.shows _ _ _ _ _ groups _ _ _ c.prepare.ensures.rest.intact c.prepare.ensures.stays c.prepare.ensures.calls come in
     let (fault, is) = c.in_err-group.ensures.comes in (
       groups,
       now.each,
@@ -154,12 +154,12 @@ returns-in_err-group-clause-listened g c =
     )
 
 pub returns-in_err-group-clause-stays : goal.returns-in_err-group-clause-stays
-returns-in_err-group-clause-stays g c = stays_then (stays_then c.groups.invariant.stays c.tell_count.ensures.rest) c.serve_group.ensures.stays
+returns-in_err-group-clause-stays g c = stays_then (stays_then c.groups.invariant.stays c.prepare.ensures.rest) c.serve_group.ensures.stays
 
 pub returns-in_err-group-clause-lost : goal.returns-in_err-group-clause-lost
 returns-in_err-group-clause-lost g c = λ was now.
     let (fault, is) = c.in_err-group.ensures.comes in
-    absurd (false≢true (sym (c.groups.invariant.alive was) ∙ sym c.tell_count.ensures.lost ∙ ap g.H.BackUp.lost (sym is.same) ∙ now))
+    absurd (false≢true (sym (c.groups.invariant.alive was) ∙ sym c.prepare.ensures.lost ∙ ap g.H.BackUp.lost (sym is.same) ∙ now))
 
 -- all
 

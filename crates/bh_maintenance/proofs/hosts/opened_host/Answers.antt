@@ -1,5 +1,7 @@
 use Rattle.std.proofs.Common.{ap, ◌∙◌}
 use Rattle.sqlite.specs.Held.{state}
+use Rattle.bh_base.specs.Layer.{standing}
+use Rattle.bh_bare.proofs.Bare.{unplaced_bare}
 use Rattle.bh_open.specs.Opening.{digest_in}
 use Rattle.bh_maintenance.specs.Found.{IsOpenedAs}
 use Rattle.bh_maintenance.proofs.Found.{opened_as, typed_when, row_seen, sound_seen, shown_now}
@@ -20,6 +22,7 @@ returns-in-Ok g c =
         ready = record {
           rest = λ clean. it.rest _ clean (typed_when opened.limits old new c.requires found clean) (sound_seen opened.limits old new c.requires found opened.digest it.named clean);
           latest = λ clean. it.latest _ clean (typed_when opened.limits old new c.requires found clean) (sound_seen opened.limits old new c.requires found opened.digest it.named clean);
+          bare = λ clean. unplaced_bare (standing new) (it.unplaced clean).0 (it.unplaced clean).1;
         };
         row = λ clean. row_seen opened.limits old new c.requires found opened.digest it.named clean ∙ ap digest_in (shown_now opened.limits new);
       };

@@ -4,7 +4,7 @@ use Rattle.bh_tables.specs.Typed.{Tables}
 use Rattle.bh_view.specs.Bodies.{HasBodies}
 use Rattle.bh_base.specs.Connections.{tables}
 use Rattle.bh_blocks.proofs.Keeping.{resolved_at}
-use Rattle.bh_moved.proofs.Calling.{read_inside, read_tables}
+use Rattle.bh_moved.proofs.Calling.{read_inside, read_tables, writes_next}
 use Rattle.bh_moved.proofs.Chains.{contents_chain, tenants_kept}
 use Rattle.bh_moved.proofs.Steps.{next_same}
 use Rattle.bh_moved.proofs.rows.bring_contents.Goals as goal
@@ -54,3 +54,6 @@ returns-clause-brought g c reading bodies next clean =
       within = last.within;
       is = contents_chain t from digest moving.block_size second old v u resolved versions_is uploads_is third fourth p _ (resolved_at (state g.S.Store g.P.Shelf c.bring_table-2.new.from)) two three four parts_is last.is;
     }
+
+pub returns-clause-writes : goal.returns-clause-writes
+returns-clause-writes g c = writes_next (writes_next (writes_next c.in_ok-bring_table.ensures.writes c.in_ok-bring_table-2.ensures.writes) c.in_ok-bring_table-3.ensures.writes) c.in_ok-bring_table-4.ensures.writes

@@ -2,7 +2,7 @@ use Rattle.std.proofs.Common.{◌≡◌, ◌∙◌, [], ◌∷◌}
 use Rattle.bh_tables.specs.Typed.{Tables}
 use Rattle.bh_base.specs.Connections.{tables}
 use Rattle.bh_moved.specs.Rows.{tenant_row}
-use Rattle.bh_moved.proofs.Calling.{read_inside, read_tables}
+use Rattle.bh_moved.proofs.Calling.{read_inside, read_tables, writes_next}
 use Rattle.bh_moved.proofs.Chains.{names_chain}
 use Rattle.bh_moved.proofs.rows.bring_names.Goals as goal
 
@@ -35,3 +35,6 @@ returns-clause-brought g c reading absent clean =
       is = names_chain t from (tenant_row t moving.numbers ∷ []) second third (tables g.T.Store g.Q.Shelf c.args.to.now) (tables g.T.Store g.Q.Shelf c.bring_account.new.to) (tables g.T.Store g.Q.Shelf c.bring_table.new.to) (tables g.T.Store g.Q.Shelf c.bring_table-2.new.to) _ two three
           (c.in_ok-bring_account.ensures.holds absent clean_a).is (keys.brought reading_k tt clean_k).is (buckets.brought reading_b tt clean_b).is last.is;
     }
+
+pub returns-clause-writes : goal.returns-clause-writes
+returns-clause-writes g c = writes_next (writes_next (writes_next c.in_ok-bring_account.ensures.writes c.in_ok-bring_table.ensures.writes) c.in_ok-bring_table-2.ensures.writes) c.in_ok-bring_table-3.ensures.writes

@@ -1,10 +1,10 @@
-use Rattle.std.proofs.Common.{◌≡◌, inl, inr, sym, subst}
+use Rattle.std.proofs.Common.{◌≡◌, inl, inr, sym, ap, subst, ◌∙◌}
 use Rattle.std.proofs.lemmas.Result.{on_ok_weaker}
 use Rattle.sqlite.specs.Held.{state}
-use Rattle.bh_base.specs.Layer.{standing}
+use Rattle.bh_base.specs.Layer.{Standing, standing}
 use Rattle.bh_open.specs.Opening.{Opens}
 use Rattle.bh_open.specs.Versions.{schema_of}
-use Rattle.bh_open.proofs.Steps.{opens_brought, opens_same, left_over}
+use Rattle.bh_open.proofs.Steps.{opens_brought, opens_same, left_over, taken_same}
 use Rattle.bh_open.proofs.open.bring.Goals as goal
 
 pub returns-in-First-clause-opens : goal.returns-in-First-clause-opens
@@ -51,7 +51,35 @@ returns-in-Fourth-clause-crash g c =
     let old = state g.S.Store c.args.connection.now in
     left_over old (state g.S.Store c.bring_over-in-Fourth.new.connection) c.bring_over-in-Fourth.ensures.follows (λ clean. inr (inr (inr (subst (λ v. (standing old).now.schema ≡ schema_of v) c.in-Fourth.is (c.requires.schema clean))))) c.bring_over-in-Fourth.ensures.crash
 
+pub returns-in-First-clause-unplaced : goal.returns-in-First-clause-unplaced
+returns-in-First-clause-unplaced g c = on_ok_weaker c.bring_over.result (λ settles clean. (settles clean).unplaced) c.bring_over.ensures.settles
+
+pub returns-in-Second-clause-unplaced : goal.returns-in-Second-clause-unplaced
+returns-in-Second-clause-unplaced g c = on_ok_weaker c.bring_over-in-Second.result (λ settles clean. (settles clean).unplaced) c.bring_over-in-Second.ensures.settles
+
+pub returns-in-Third-clause-unplaced : goal.returns-in-Third-clause-unplaced
+returns-in-Third-clause-unplaced g c = on_ok_weaker c.bring_over-in-Third.result (λ settles clean. (settles clean).unplaced) c.bring_over-in-Third.ensures.settles
+
+pub returns-in-Fourth-clause-unplaced : goal.returns-in-Fourth-clause-unplaced
+returns-in-Fourth-clause-unplaced g c = on_ok_weaker c.bring_over-in-Fourth.result (λ settles clean. (settles clean).unplaced) c.bring_over-in-Fourth.ensures.settles
+
+pub see_unplaced-requires : goal.see_unplaced-requires
+see_unplaced-requires g c = record { schema = λ clean. subst (λ v. (standing (state g.S.Store c.args.connection.now)).now.schema ≡ schema_of v) c.in-Fifth.is (c.requires.schema clean) }
+
 pub returns-in-Fifth-clause-opens : goal.returns-in-Fifth-clause-opens
-returns-in-Fifth-clause-opens g c clean =
+returns-in-Fifth-clause-opens g c = on_ok_weaker c.see_unplaced.result (λ none clean.
     let old = standing (state g.S.Store c.args.connection.now) in
-    subst (λ v. Opens v old old) (sym c.in-Fifth.is) (opens_same old (subst (λ v. old.now.schema ≡ schema_of v) c.in-Fifth.is (c.requires.schema clean)) (c.requires.outside clean) (c.requires.committed clean))
+    let new = standing (state g.S.Store c.see_unplaced.new.connection) in
+    let was = c.see_unplaced.ensures.follows.clean clean in
+    let same : new ≡ old = c.see_unplaced.ensures.back clean ∙ taken_same old (c.requires.outside was) (c.requires.committed was) in
+    subst (λ (x : Standing). Opens c.args.version old x) (sym same)
+    (subst (λ v. Opens v old old) (sym c.in-Fifth.is) (opens_same old (subst (λ v. old.now.schema ≡ schema_of v) c.in-Fifth.is (c.requires.schema was)) (c.requires.outside was) (c.requires.committed was)))) c.see_unplaced.ensures.none
+
+pub returns-in-Fifth-clause-unplaced : goal.returns-in-Fifth-clause-unplaced
+returns-in-Fifth-clause-unplaced g c = on_ok_weaker c.see_unplaced.result (λ none clean.
+    let old = standing (state g.S.Store c.args.connection.now) in
+    let was = c.see_unplaced.ensures.follows.clean clean in
+    ap (λ (x : Standing). x.now.trees 34) (c.see_unplaced.ensures.back clean ∙ taken_same old (c.requires.outside was) (c.requires.committed was)) ∙ none clean) c.see_unplaced.ensures.none
+
+pub returns-in-Fifth-clause-crash : goal.returns-in-Fifth-clause-crash
+returns-in-Fifth-clause-crash g c intact db left = inl (c.see_unplaced.ensures.survives intact db left)

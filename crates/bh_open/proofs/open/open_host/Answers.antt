@@ -1,4 +1,5 @@
-use Rattle.std.proofs.Common.{Ok, Err, IfOk, IfErr, ◌≡◌, subst}
+use Rattle.std.proofs.Common.{Ok, Err, IfOk, IfErr, ◌≡◌, [], ap, ◌∙◌, subst}
+use Rattle.sqlite.specs.Effect.{Database}
 use Rattle.sqlite.specs.Held.{state}
 use Rattle.bh_base.specs.Layer.{standing, IsStateClean}
 use Rattle.bh_open.specs.Opening.{Finds, Opens}
@@ -30,6 +31,14 @@ returns-in-Ok-found-clause-shows g c =
     let opens : IsStateClean new → Opens c.in-Ok-found.found.version (standing old) (standing new) = subst (λ r. IfOk r (λ f. IsStateClean new → Opens f.version (standing old) (standing new))) c.in-Ok-found.is c.in-Ok.ensures.opens in
     let told : IsStateClean new → Finds (standing old).now (Ok c.in-Ok-found.found) = subst (λ r. IsStateClean new → Finds (standing old).now r) c.in-Ok-found.is c.in-Ok.ensures.finds in
     shows old new c.in-Ok-found.found opens told
+
+pub returns-in-Ok-found-clause-unplaced : goal.returns-in-Ok-found-clause-unplaced
+returns-in-Ok-found-clause-unplaced g c clean =
+    let old = standing (state g.S.Store c.args.connection) in
+    let new = state g.S.Store c.find_and_bring.new.connection in
+    let opens = subst (λ r. IfOk r (λ f. IsStateClean new → Opens f.version old (standing new))) c.in-Ok-found.is c.in-Ok.ensures.opens clean in
+    let none : (standing new).now.trees 34 ≡ [] = subst (λ r. IfOk r (λ f. IsStateClean new → (standing new).now.trees 34 ≡ [])) c.in-Ok-found.is c.in-Ok.ensures.unplaced clean in
+    (none, ap (λ (db : Database). db.trees 34) opens.committed ∙ none)
 
 pub returns-in-Ok-found-clause-opened : goal.returns-in-Ok-found-clause-opened
 returns-in-Ok-found-clause-opened g c clean any =

@@ -1,64 +1,7 @@
-use Rattle.bh_base.specs.Connections.{state, without_packs}
-use Rattle.sqlite.specs.Steps.{over_memory}
-use Rattle.bh_create.proofs.Memory.{is_intact, is_open}
-use Rattle.bh_storage.specs.Calls.{Seen, IsAtRest}
-use Rattle.bh_schema.specs.Storage.{seen_in}
-use Rattle.bh_script.specs.Answers.{first_tables}
-use Rattle.bh_script.specs.Lines.{lines}
-use Rattle.bh_script.proofs.Answering.{fails, nothing_sent, failing_text, answers_failing, made_first, by_new_host, script_alone, seen_new}
+use Rattle.std.proofs.Common.{refl}
+use Rattle.sqlite_disk.specs.contracts.memory.MemoryDisk.TheImpl.{ghosts}
+use Rattle.bh_shelf.proofs.Clean.{packs_clean}
 use Rattle.bh_script.proofs.script.answer_script.Goals as goal
-use Rattle.std.proofs.Common.{refl, sym, ap, subst, ◌∙◌}
 
-pub answer_lines-requires-clause-clean : goal.answer_lines-requires-clause-clean
-answer_lines-requires-clause-clean g c = λ storage. (is_intact storage.storage.host.connection, is_open storage.storage.host.connection)
-
-pub answer_lines-requires-clause-rest : goal.answer_lines-requires-clause-rest
-answer_lines-requires-clause-rest g c = subst (IsAtRest _) (sym (seen_new c.in_ok-storage.storage.memo (seen_in c.in_ok-storage.storage.storage.host.limits (state over_memory without_packs c.in_ok-storage.storage.storage.host.connection)) c.args.tuning c.in_ok-storage.storage.storage.host.cache c.in_ok-storage.ensures.memo c.in_ok-storage.ensures.cache)) (c.in_ok-storage.ensures.made.rest _)
-
-pub returns-in_err-storage-clause-answers : goal.returns-in_err-storage-clause-answers
-returns-in_err-storage-clause-answers g c =
-    let old = g.W.Sink.contents c.args.writer.now.inner in
-    let first = first_tables c.args.limits c.args.digest in
-    let text = failing_text 1 (lines c.args.bytes.now) in
-    by_new_host c.args.limits c.args.digest c.args.bytes.now first first c.from_residual.result old old refl
-    (text, answers_failing 1 (lines c.args.bytes.now) first, fails c.from_residual.result old old text c.from_residual.ensures.0 (nothing_sent old text))
-
-pub returns-in_err-routes-clause-answers : goal.returns-in_err-routes-clause-answers
-returns-in_err-routes-clause-answers g c =
-    let old = g.W.Sink.contents c.args.writer.now.inner in
-    let first = first_tables c.args.limits c.args.digest in
-    let text = failing_text 1 (lines c.args.bytes.now) in
-    by_new_host c.args.limits c.args.digest c.args.bytes.now first first c.from_residual-in_err-routes.result old old refl
-    (text, answers_failing 1 (lines c.args.bytes.now) first, fails c.from_residual-in_err-routes.result old old text c.from_residual-in_err-routes.ensures.0 (nothing_sent old text))
-
-pub returns-clause-answers : goal.returns-clause-answers
-returns-clause-answers g c =
-    let made = c.in_ok-storage.ensures in
-    by_new_host c.args.limits c.args.digest c.args.bytes.now _ _ c.answer_lines.result (g.W.Sink.contents c.args.writer.now.inner) (g.W.Sink.contents c.answer_lines.new.writer.inner)
-    (made_first _ c.args.limits c.args.digest _ (ap (λ (x : Seen). x.now) (seen_new c.in_ok-storage.storage.memo (seen_in c.in_ok-storage.storage.storage.host.limits (state over_memory without_packs c.in_ok-storage.storage.storage.host.connection)) c.args.tuning c.in_ok-storage.storage.storage.host.cache c.in_ok-storage.ensures.memo c.in_ok-storage.ensures.cache) ∙ made.made.tables) made.limits) c.answer_lines.ensures.answers
-
-pub returns-in_err-storage-clause-alone : goal.returns-in_err-storage-clause-alone
-returns-in_err-storage-clause-alone g c =
-    let old = g.W.Sink.contents c.args.writer.now.inner in
-    let first = first_tables c.args.limits c.args.digest in
-    let text = failing_text 1 (lines c.args.bytes.now) in
-    script_alone c.args.limits c.args.digest c.args.bytes.now c.from_residual.result old old
-    (by_new_host c.args.limits c.args.digest c.args.bytes.now first first c.from_residual.result old old refl
-    (text, answers_failing 1 (lines c.args.bytes.now) first, fails c.from_residual.result old old text c.from_residual.ensures.0 (nothing_sent old text)))
-
-pub returns-in_err-routes-clause-alone : goal.returns-in_err-routes-clause-alone
-returns-in_err-routes-clause-alone g c =
-    let old = g.W.Sink.contents c.args.writer.now.inner in
-    let first = first_tables c.args.limits c.args.digest in
-    let text = failing_text 1 (lines c.args.bytes.now) in
-    script_alone c.args.limits c.args.digest c.args.bytes.now c.from_residual-in_err-routes.result old old
-    (by_new_host c.args.limits c.args.digest c.args.bytes.now first first c.from_residual-in_err-routes.result old old refl
-    (text, answers_failing 1 (lines c.args.bytes.now) first, fails c.from_residual-in_err-routes.result old old text c.from_residual-in_err-routes.ensures.0 (nothing_sent old text)))
-
-pub returns-clause-alone : goal.returns-clause-alone
-returns-clause-alone g c =
-    let made = c.in_ok-storage.ensures in
-    let old = g.W.Sink.contents c.args.writer.now.inner in
-    let new = g.W.Sink.contents c.answer_lines.new.writer.inner in
-    script_alone c.args.limits c.args.digest c.args.bytes.now c.answer_lines.result old new
-    (by_new_host c.args.limits c.args.digest c.args.bytes.now _ _ c.answer_lines.result old new (made_first _ c.args.limits c.args.digest _ (ap (λ (x : Seen). x.now) (seen_new c.in_ok-storage.storage.memo (seen_in c.in_ok-storage.storage.storage.host.limits (state over_memory without_packs c.in_ok-storage.storage.storage.host.connection)) c.args.tuning c.in_ok-storage.storage.storage.host.cache c.in_ok-storage.ensures.memo c.in_ok-storage.ensures.cache) ∙ made.made.tables) made.limits) c.answer_lines.ensures.answers)
+pub answer_with-requires-clause-honest : goal.answer_with-requires-clause-honest
+answer_with-requires-clause-honest g c = λ it. packs_clean ghosts (λ _. refl) it.packs

@@ -1,12 +1,14 @@
+use Rattle.std.proofs.Common.{true, length, ap}
 use Rattle.sqlite.specs.Held.{state}
-use Rattle.bh_tables.proofs.Places.{blocks}
 use Rattle.bh_tables.proofs.BlockTexts.{blocks_counted}
-use Rattle.bh_sweep.proofs.Totals.{counted}
+use Rattle.bh_sweep.proofs.Totals.{passing}
+use Rattle.bh_tables.proofs.Statements.{all_pass}
+use Rattle.bh_base.proofs.Calls.{totalled_so}
 use Rattle.bh_base.specs.Connections.{backing}
 use Rattle.bh_sweep.proofs.rows.block_rows.Goals as goal
 
 pub returns : goal.returns
 returns g c =
     let h = c.query_all.ensures in
-    let q = counted blocks (backing g.P.Shelf c.args.connection.now.packs) (state g.S.Store c.args.connection.now.database) (state g.S.Store c.query_all.new.self) c.requires.inside (λ v. v.items) c.query_all.result blocks_counted h.ok h.err h.survives in
+    let q = totalled_so _ _ (λ t. ap length (all_pass t.blocks)) (passing (λ _. true) (backing g.P.Shelf c.args.connection.now.packs) (state g.S.Store c.args.connection.now.database) (state g.S.Store c.query_all.new.self) c.requires.inside (λ v. v.items) c.query_all.result blocks_counted h.ok h.err h.survives) in
     record { within = q.within; opens = q.opens; same = q.same; rows = q.rows; trouble = q.trouble }

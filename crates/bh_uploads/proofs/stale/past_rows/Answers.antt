@@ -1,4 +1,4 @@
-use Rattle.std.proofs.Common.{◌≡◌, ℕ, List, map, Result, Ok, Err, IfOk, ap, ◌∙◌}
+use Rattle.std.proofs.Common.{refl, ◌≡◌, ℕ, List, map, Result, Ok, Err, IfOk, ap, ◌∙◌}
 use Rattle.sqlite.specs.Held.{state}
 use Rattle.sqlite.specs.Order.{Row}
 use Rattle.sqlite.specs.declared.error.Error.{Error}
@@ -11,8 +11,9 @@ use Rattle.bh_base.specs.Layer.{IsStateClean}
 use Rattle.bh_schema.specs.Working.{tables_at}
 use Rattle.bh_base.proofs.Calls.{question, ready}
 use Rattle.bh_base.specs.Connections.{backing}
+use Rattle.bh_base.specs.Placed.{filled_trees}
 use Rattle.bh_base.specs.Shown.{shown}
-use Rattle.bh_base.proofs.Alone.{told}
+use Rattle.bh_base.proofs.Beneath.{told}
 use Rattle.bh_uploads.proofs.stale.past_rows.Goals as goal
 
 -- in sound tables they are those that SQL finds
@@ -23,12 +24,13 @@ as_past rows_in clean tables moment limit (Ok x) h = λ is sound. h is ∙ ap (m
 as_past rows_in clean tables moment limit (Err e) h = tt
 
 pub returns : goal.returns
+unfolding filled_trees
 returns g c =
     let h = rw (c.number.ensures, c.number-2.ensures) at c.query_all.ensures in
     let old = state g.S.Store c.args.connection.now.database in
     let a = backing g.P.Shelf c.args.connection.now.packs in
     let new = state g.S.Store c.query_all.new.self in
-    let q = question (shown a old) (shown a new) (λ v. v.items) _ c.query_all.result c.requires.inside (told a old new (ready (shown a old) c.requires.inside) (λ v. v.items) _ c.query_all.result h.survives (λ bare.
+    let q = question (shown a old) (shown a new) (λ v. v.items) (λ t. map shown_owner (asked_uploads c.args.limit c.args.moment t.buckets t.uploads)) c.query_all.result c.requires.inside (told a old new (ready (shown a old) c.requires.inside) (λ v. v.items) (λ t. map shown_owner (asked_uploads c.args.limit c.args.moment t.buckets t.uploads)) c.query_all.result h.survives (λ _. refl) (λ bare.
     past_shown old new bare c.args.moment c.args.limit (λ v. v.items) c.query_all.result h.ok h.err h.survives)) in
     record {
       reads = record { within = q.within; opens = q.opens; same = q.same };

@@ -1,4 +1,3 @@
-use Rattle.bh_base.specs.Connections.{without_packs}
 use Rattle.std.proofs.Common.{[], refl, sym, subst}
 use Rattle.sqlite.specs.Files.{over_files}
 use Rattle.bh_http.proofs.BodyLemmas.{gives_none, going_may}
@@ -19,8 +18,8 @@ pub returns-in-Some-clause-operates : goal.returns-in-Some-clause-operates
 returns-in-Some-clause-operates g c =
     let new = c.operate_in_blocks.new.self in
     let limits = c.args.self.now.limits in
-    subst (λ o. Operates (offer_view (recalling.seen over_files without_packs new).now) c.args.tenant.now (λ given. operated (kept.seen limits o).limits c.args.at given c.args.operation.now)
-    (storage.IsIntact over_files without_packs new.storage.host × storage.IsOpen over_files without_packs new.storage.host) (g.B.Body.coming c.args.body.now) (g.B.Body.coming c.operate_in_blocks.new.body) (kept.seen limits o).now (recalling.seen over_files without_packs new).now c.operate_in_blocks.result) (sym c.in-Some.is)
+    subst (λ o. Operates (offer_view (recalling.seen over_files g.P.Shelf new).now) c.args.tenant.now (λ given. operated (kept.seen g.P.Shelf limits o).limits c.args.at given c.args.operation.now)
+    (storage.IsIntact over_files g.P.Shelf new.storage.host × storage.IsOpen over_files g.P.Shelf new.storage.host) (g.B.Body.coming c.args.body.now) (g.B.Body.coming c.operate_in_blocks.new.body) (kept.seen g.P.Shelf limits o).now (recalling.seen over_files g.P.Shelf new).now c.operate_in_blocks.result) (sym c.in-Some.is)
     c.operate_in_blocks.ensures.operates
 
 pub returns-in-None-clause-operates : goal.returns-in-None-clause-operates

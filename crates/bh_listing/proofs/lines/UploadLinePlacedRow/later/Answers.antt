@@ -1,20 +1,22 @@
-use Rattle.std.proofs.Common.{map}
+use Rattle.std.proofs.Common.{refl, map}
 use Rattle.sqlite.specs.Held.{state}
 use Rattle.bh_base.specs.Connections.{backing}
+use Rattle.bh_base.specs.Placed.{filled_trees}
 use Rattle.bh_base.specs.Shown.{shown}
-use Rattle.bh_base.proofs.Alone.{told}
+use Rattle.bh_base.proofs.Beneath.{told}
 use Rattle.bh_base.proofs.Calls.{ready, question}
 use Rattle.bh_listing.specs.Uploads.{shown_listed, later_rows}
 use Rattle.bh_listing.proofs.UploadTexts.{later_shown}
 use Rattle.bh_listing.proofs.lines.UploadLinePlacedRow.later.Goals as goal
 
 pub returns : goal.returns
+unfolding filled_trees
 returns g c =
     let at = c.args.at.now in
     let old = state g.S.Store c.args.connection.now.database in
     let a = backing g.P.Shelf c.args.connection.now.packs in
     let new = state g.S.Store c.query.new.database in
     let h = c.query.ensures in
-    let q = question (shown a old) (shown a new) (λ v. v.items) (λ t. map shown_listed (later_rows at.tenant.now at.bucket.now at.key.now at.after at.count t.uploads)) c.query.result c.requires.inside (told a old new (ready (shown a old) c.requires.inside) (λ v. v.items) (λ t. map shown_listed (later_rows at.tenant.now at.bucket.now at.key.now at.after at.count t.uploads)) c.query.result h.survives (λ bare.
+    let q = question (shown a old) (shown a new) (λ v. v.items) (λ t. map shown_listed (later_rows at.tenant.now at.bucket.now at.key.now at.after at.count t.uploads)) c.query.result c.requires.inside (told a old new (ready (shown a old) c.requires.inside) (λ v. v.items) (λ t. map shown_listed (later_rows at.tenant.now at.bucket.now at.key.now at.after at.count t.uploads)) c.query.result h.survives (λ _. refl) (λ bare.
     later_shown at.tenant.now at.bucket.now at.key.now at.after at.count old new bare (λ v. v.items) c.query.result h.ok h.err h.survives)) in
     record { reads = record { within = q.within; opens = q.opens; same = q.same }; rows = q.rows; trouble = q.trouble }

@@ -1,11 +1,11 @@
 use Rattle.std.proofs.Common.{map}
 use Rattle.sqlite.specs.Held.{state}
 use Rattle.bh_base.specs.Connections.{backing}
-use Rattle.bh_base.specs.Shown.{shown}
-use Rattle.bh_base.proofs.Alone.{told}
+use Rattle.bh_base.specs.Shown.{named, shown}
+use Rattle.bh_base.proofs.Beneath.{told}
 use Rattle.bh_base.proofs.Calls.{ready, question}
 use Rattle.bh_listing.specs.Versions.{shown_numbered, older_rows}
-use Rattle.bh_listing.proofs.VersionTexts.{older_shown}
+use Rattle.bh_listing.proofs.VersionTexts.{older_shown, older_alike}
 use Rattle.bh_listing.proofs.lines.VersionLinePlacedRow.later.Goals as goal
 
 pub returns : goal.returns
@@ -15,6 +15,6 @@ returns g c =
     let a = backing g.P.Shelf c.args.connection.now.packs in
     let new = state g.S.Store c.query.new.database in
     let h = c.query.ensures in
-    let q = question (shown a old) (shown a new) (λ v. v.items) (λ t. map shown_numbered (older_rows at.tenant.now at.bucket.now at.key.now at.after at.count t.versions)) c.query.result c.requires.inside (told a old new (ready (shown a old) c.requires.inside) (λ v. v.items) (λ t. map shown_numbered (older_rows at.tenant.now at.bucket.now at.key.now at.after at.count t.versions)) c.query.result h.survives (λ bare.
+    let q = question (shown a old) (shown a new) (λ v. v.items) (λ t. map shown_numbered (older_rows at.tenant.now at.bucket.now at.key.now at.after at.count t.versions)) c.query.result c.requires.inside (told a old new (ready (shown a old) c.requires.inside) (λ v. v.items) (λ t. map shown_numbered (older_rows at.tenant.now at.bucket.now at.key.now at.after at.count t.versions)) c.query.result h.survives (λ _. older_alike at.tenant.now at.bucket.now at.key.now at.after at.count (named a old.in_transaction) old.now) (λ bare.
     older_shown at.tenant.now at.bucket.now at.key.now at.after at.count old new bare (λ v. v.items) c.query.result h.ok h.err h.survives)) in
     record { reads = record { within = q.within; opens = q.opens; same = q.same }; rows = q.rows; trouble = q.trouble }

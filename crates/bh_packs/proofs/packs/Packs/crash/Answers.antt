@@ -4,7 +4,7 @@ use Rattle.bh_packs.proofs.packs.Packs.crash.Goals as goal
 
 pub returns-clause-kept : goal.returns-clause-kept
 returns-clause-kept g c = λ place bytes k. record {
-  settled = c.loop-number.invariant place.pack place.offset bytes k.settled;
+  settled = c.loop-number.invariant.settled place.pack place.offset bytes k.settled;
   size = k.size;
   sum = k.sum;
 }
@@ -12,7 +12,7 @@ returns-clause-kept g c = λ place bytes k. record {
 pub returns-clause-given : goal.returns-clause-given
 returns-clause-given g c = λ place bytes k. record {
   written = settled_written_in g.D.Disk (pack_at c.loop-number.self place.pack) place.offset bytes
-      (c.loop-number.invariant place.pack place.offset bytes k.settled);
+      (c.loop-number.invariant.settled place.pack place.offset bytes k.settled);
   size = k.size;
   sum = k.sum;
 }

@@ -8,6 +8,7 @@ loop-reached-preserved g c =
     record {
       keeps = keeps_then g.D.Disk c.args.self.now c.loop-reached.self c.add_empty.new.self before.keeps c.add_empty.ensures.keeps;
       holds = λ n. c.add_empty.ensures.holds n ∙ before.holds n;
+      removed = c.add_empty.ensures.removed ∙ before.removed;
     }
 
 pub returns-in_err-add_empty-clause-keeps : goal.returns-in_err-add_empty-clause-keeps

@@ -11,6 +11,7 @@ loop-number-preserved g c =
     record {
       keeps = keeps_then g.D.Disk c.args.self.now c.loop-number.self c.sync_at.new.self before.keeps c.sync_at.ensures.keeps;
       holds = λ n. c.sync_at.ensures.holds n ∙ before.holds n;
+      removed = c.sync_at.ensures.removed ∙ before.removed;
       done = below_more P c.loop-number.number
           (λ n h at bytes w. (c.sync_at.ensures.keeps n).settled at bytes (before.done n h at bytes w))
           (λ at bytes w. c.in_ok-sync_at.ensures.settled at bytes ((before.keeps c.loop-number.number).written at bytes w));

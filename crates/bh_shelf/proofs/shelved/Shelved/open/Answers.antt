@@ -46,10 +46,10 @@ returns-clause-opened g c =
     on_ok_weaker c.open-2.result has c.open-2.ensures.opened
 
 pub returns-in_err-open-clause-clean : goal.returns-in_err-open-clause-clean
-returns-in_err-open-clause-clean g c = clean_keeps g.D.Disk c.args.self.now.packs c.open.new.self c.open.ensures.keeps
+returns-in_err-open-clause-clean g c = clean_keeps g.D.Disk c.args.self.now.packs c.open.new.self c.open.ensures.keeps c.open.ensures.removed
 
 pub returns-clause-clean : goal.returns-clause-clean
-returns-clause-clean g c = clean_keeps g.D.Disk c.args.self.now.packs c.open.new.self c.open.ensures.keeps
+returns-clause-clean g c = clean_keeps g.D.Disk c.args.self.now.packs c.open.new.self c.open.ensures.keeps c.open.ensures.removed
 
 pub returns-in_err-reach-clause-others : goal.returns-in_err-reach-clause-others
 returns-in_err-reach-clause-others g c = λ clean.

@@ -28,7 +28,7 @@ returns-in_err-place-clause-stood g c =
     let old = c.args.self.now in stood_keeps g.D.Disk old.packs c.append.new.self c.append.ensures.keeps old.marks old.sound
 
 pub returns-in_err-place-clause-clean : goal.returns-in_err-place-clause-clean
-returns-in_err-place-clause-clean g c = clean_keeps g.D.Disk c.args.self.now.packs c.append.new.self c.append.ensures.keeps
+returns-in_err-place-clause-clean g c = clean_keeps g.D.Disk c.args.self.now.packs c.append.new.self c.append.ensures.keeps c.append.ensures.removed
 
 pub invariant_of-self-2 : goal.invariant_of-self-2
 invariant_of-self-2 g c =
@@ -74,7 +74,7 @@ returns-in_err-write-clause-stood g c = λ clean.
     (λ n. let same = ap (λ (ends : Ends). ends.stood) (c.in_err-write.ensures.failed n) in omega (arith, same))
 
 pub returns-in_err-write-clause-clean : goal.returns-in_err-write-clause-clean
-returns-in_err-write-clause-clean g c = clean_keeps g.D.Disk c.args.self.now.packs c.append.new.self c.append.ensures.keeps
+returns-in_err-write-clause-clean g c = clean_keeps g.D.Disk c.args.self.now.packs c.append.new.self c.append.ensures.keeps c.append.ensures.removed
 
 pub returns-clause-placed : goal.returns-clause-placed
 returns-clause-placed g c = λ some.
@@ -140,4 +140,4 @@ returns-clause-stood g c = λ clean.
     stood_adds g.D.Disk old.packs new c.append.ensures.keeps old.marks after old.sound clean (λ n. let same = stays n in omega (arith, same))
 
 pub returns-clause-clean : goal.returns-clause-clean
-returns-clause-clean g c = clean_keeps g.D.Disk c.args.self.now.packs c.append.new.self c.append.ensures.keeps
+returns-clause-clean g c = clean_keeps g.D.Disk c.args.self.now.packs c.append.new.self c.append.ensures.keeps c.append.ensures.removed

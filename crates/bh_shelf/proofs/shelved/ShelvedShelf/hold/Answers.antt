@@ -14,4 +14,4 @@ pub returns-clause-stood : goal.returns-clause-stood
 returns-clause-stood g c = stood_keeps g.D.Disk c.args.self.now.packs c.hold.new.self c.hold.ensures.keeps c.args.self.now.marks c.args.self.now.sound
 
 pub returns-clause-clean : goal.returns-clause-clean
-returns-clause-clean g c = clean_keeps g.D.Disk c.args.self.now.packs c.hold.new.self c.hold.ensures.keeps
+returns-clause-clean g c = clean_keeps g.D.Disk c.args.self.now.packs c.hold.new.self c.hold.ensures.keeps c.hold.ensures.removed

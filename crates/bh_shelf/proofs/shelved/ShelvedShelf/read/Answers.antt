@@ -1,6 +1,6 @@
 use Rattle.std.proofs.lemmas.Result.{on_ok_weaker}
 use Rattle.bh_shelf.specs.Laws.{clean_at}
-use Rattle.bh_shelf.proofs.SoundLemmas.{sound_keeps, clean_keeps, seen_keeps, kept_keeps, stood_keeps, seen_given}
+use Rattle.bh_shelf.proofs.SoundLemmas.{sound_keeps, clean_keeps, seen_keeps, kept_keeps, stood_keeps, seen_written}
 use Rattle.bh_shelf.proofs.shelved.ShelvedShelf.read.Goals as goal
 
 pub invariant_of-self : goal.invariant_of-self
@@ -9,9 +9,10 @@ invariant_of-self g c = record { sound = sound_keeps g.D.Disk c.args.self.now.pa
 pub returns-clause-bytes : goal.returns-clause-bytes
 returns-clause-bytes g c =
     let old = c.args.self.now in
-    on_ok_weaker c.read.result (λ read clean bytes placed.
+    on_ok_weaker c.read.result (λ read clean bytes there.
     let here = clean_at g.D.Disk c.read.new.self clean c.args.place.pack in
-    read here bytes (seen_given g.D.Disk old.packs old.marks old.sound c.args.place bytes ((c.read.ensures.keeps c.args.place.pack).clean here) placed)) c.read.ensures.bytes
+    let is = seen_written g.D.Disk old.packs old.marks old.sound c.args.place bytes ((c.read.ensures.keeps c.args.place.pack).clean here) there in
+    read here bytes is.0 is.1) c.read.ensures.bytes
 
 pub returns-clause-seen : goal.returns-clause-seen
 returns-clause-seen g c = seen_keeps g.D.Disk c.args.self.now.packs c.read.new.self c.read.ensures.keeps c.args.self.now.marks c.args.self.now.sound
@@ -23,4 +24,4 @@ pub returns-clause-stood : goal.returns-clause-stood
 returns-clause-stood g c = stood_keeps g.D.Disk c.args.self.now.packs c.read.new.self c.read.ensures.keeps c.args.self.now.marks c.args.self.now.sound
 
 pub returns-clause-clean : goal.returns-clause-clean
-returns-clause-clean g c = clean_keeps g.D.Disk c.args.self.now.packs c.read.new.self c.read.ensures.keeps
+returns-clause-clean g c = clean_keeps g.D.Disk c.args.self.now.packs c.read.new.self c.read.ensures.keeps c.read.ensures.removed

@@ -3,7 +3,7 @@ use Rattle.bh_packs.specs.Packs.{pack_at}
 use Rattle.bh_shelf.specs.declared.marks.Ends.{Ends}
 use Rattle.bh_shelf.specs.Marks.{kept_of, seen_of, stood_of}
 use Rattle.bh_shelf.proofs.MarkLemmas.{one_and_others}
-use Rattle.bh_shelf.proofs.SoundLemmas.{sound_stays, sound_removed, contents_stay, none_seen, others_stay}
+use Rattle.bh_shelf.proofs.SoundLemmas.{sound_stays, sound_removed, clean_stays, clean_removed, contents_stay, none_seen, others_stay}
 use Rattle.bh_shelf.proofs.shelved.ShelvedShelf.remove.Goals as goal
 
 pub invariant_of-self : goal.invariant_of-self
@@ -64,6 +64,23 @@ pub returns-clause-stood : goal.returns-clause-stood
 returns-clause-stood g c = λ clean.
     let old = c.args.self.now in
     others_stay g.D.Disk old.packs c.remove.new.self (stood_of old.marks) (stood_of c.clear.new.self) c.args.pack c.remove.ensures.others (λ n other. ap (λ (ends : Ends). ends.stood) (c.clear.ensures.others n other))
+
+pub returns-in_err-file-clause-clean : goal.returns-in_err-file-clause-clean
+returns-in_err-file-clause-clean g c =
+    let old = c.args.self.now in
+    let new = c.remove.new.self in
+    let P : ℕ → Type 0 = λ n. pack_at new n ≡ pack_at old.packs n in
+    clean_stays g.D.Disk old.packs new (one_and_others P c.args.pack c.in_err-file.ensures.stays c.remove.ensures.others) c.in_err-file.ensures.none
+
+pub returns-in_err-delete-clause-clean : goal.returns-in_err-delete-clause-clean
+returns-in_err-delete-clause-clean g c =
+    let file = c.in_ok-file in
+    clean_removed g.D.Disk c.args.self.now.packs c.remove.new.self c.args.pack file.file file.ensures.file file.ensures.noted c.remove.ensures.others
+
+pub returns-clause-clean : goal.returns-clause-clean
+returns-clause-clean g c =
+    let file = c.in_ok-file in
+    clean_removed g.D.Disk c.args.self.now.packs c.remove.new.self c.args.pack file.file file.ensures.file file.ensures.noted c.remove.ensures.others
 
 pub returns-in_err-delete-clause-held : goal.returns-in_err-delete-clause-held
 returns-in_err-delete-clause-held g c = λ some. absurd (omega (arith, some, c.in_ok-file.ensures.unheld))

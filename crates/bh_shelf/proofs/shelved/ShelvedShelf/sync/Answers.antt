@@ -28,7 +28,7 @@ pub returns-in_err-settle-clause-ends : goal.returns-in_err-settle-clause-ends
 returns-in_err-settle-clause-ends g c = λ n. let same = ap (λ (marks : Marks). written_of marks n) c.settle.ensures.marks in omega (arith, same)
 
 pub returns-in_err-settle-clause-clean : goal.returns-in_err-settle-clause-clean
-returns-in_err-settle-clause-clean g c = let old = c.args.self.now in let mid = c.settle.new.self in clean_keeps g.D.Disk old.packs mid.packs c.settle.ensures.keeps
+returns-in_err-settle-clause-clean g c = let old = c.args.self.now in let mid = c.settle.new.self in clean_keeps g.D.Disk old.packs mid.packs c.settle.ensures.keeps c.settle.ensures.removed
 
 pub returns-clause-stands : goal.returns-clause-stands
 returns-clause-stands g c = rw c.note.ensures.packs (
@@ -71,7 +71,7 @@ returns-clause-ends g c = λ n.
 
 pub returns-clause-clean : goal.returns-clause-clean
 returns-clause-clean g c = rw c.note.ensures.packs (
-    let old = c.args.self.now in let mid = c.settle.new.self in clean_keeps g.D.Disk old.packs mid.packs c.settle.ensures.keeps)
+    let old = c.args.self.now in let mid = c.settle.new.self in clean_keeps g.D.Disk old.packs mid.packs c.settle.ensures.keeps c.settle.ensures.removed)
 
 pub returns-clause-holds : goal.returns-clause-holds
 returns-clause-holds g c = rw c.note.ensures.packs c.settle.ensures.holds

@@ -40,5 +40,7 @@ returns-clause-fit g c clean10 =
       retains = record { fit = refl; rises = tt };
       tallies = record { fit = refl; rises = tt };
       garbage = record { fit = refl; rises = tt };
-      unfilled = (refl, (refl, (refl, (refl, (refl, (refl, tt))))));
+      packs = record { fit = refl; rises = tt };
+      places = record { fit = refl; rises = tt };
+      unfilled = (refl, (refl, (refl, (refl, tt))));
     }
