@@ -1,6 +1,6 @@
 //! Packs and the folder of their files, with what the database knows of them.
 
-ghost use Rattle.std.specs.Prelude.{◌≡◌, ◌≤◌, ℕ, List, length, Some, IsTrue, OnOk};
+ghost use Rattle.std.specs.Prelude.{◌≡◌, ◌<◌, ◌≤◌, ℕ, List, length, Some, IsTrue, OnOk};
 ghost use Rattle.sqlite_disk.specs.Disk.{Holds};
 ghost use Rattle.bh_packs.specs.Packs.{Keeps, KeepsHolds as AreHeld};
 ghost use Rattle.bh_packs.specs.Stands.{Stands};
@@ -91,7 +91,8 @@ impl<D: Disk + Drop, F: Folder<D>> Shelved<D, F> {
 
     /// Up to where a pack is kept, in bytes.
     pub fn kept_to(&self, pack: usize) -> usize
-        ensures { EndsBy (⟦<Shelved<D, F> as Shelf>⟧.kept self.now) pack result }
+        ensures ends { EndsBy (⟦<Shelved<D, F> as Shelf>⟧.kept self.now) pack result }
+        ensures whole { 0 < result → (bytes : List ℕ) × (⟦<Shelved<D, F> as Shelf>⟧.kept self.now pack 0 result ≡ Some bytes) }
     {
         self.marks.kept_to(pack)
     }
