@@ -45,6 +45,13 @@ module _ (a : Backing) (s : State) where
       ap tables_in rest.settled ∙ sym (host_shows (filled a.kept s.committed) (subst IsHost rest.settled rest.host)) in
       (filled a.kept s.committed, (s.committed.trees, a.stood, may up, (λ pack offset size bytes it. it), same), (live up).1.lists, tables)
 
+-- two calls, each of which leaves the tables as they were
+pub left_both : (a b c : State) → (IsStateClean b → IsStateClean a) → (IsIntact c → IsIntact b) → (IsStateClean b → tables_in (standing b).now ≡ tables_in (standing a).now) → LeavesTables (tables_in (standing a).now) a b → LeavesTables (tables_in (standing b).now) b c → LeavesTables (tables_in (standing a).now) a c
+left_both a b c clean was same one two intact db leaves lists = elim (two intact db leaves lists) [
+  | inl before ↦ one (was intact) db before lists
+  | inr (up, host, is) ↦ let mid : IsStateClean b = record { intact = was intact; is_open = up } in inr ((clean mid).is_open, host, is ∙ same mid)
+]
+
 -- so what it leaves after packs went was possible before
 pub left_still : (old new : State) → LeavesTables (tables_in (standing old).now) old new → (IsIntact new → IsIntact old) → (IsStateClean old → left_in old (tables_in (standing old).now)) → ShowsNothingNew old new
 unfolding left_in

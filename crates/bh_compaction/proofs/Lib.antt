@@ -1,0 +1,6 @@
+mod Texts
+mod Told
+mod Found
+mod Chains
+mod Replacing
+mod Others
