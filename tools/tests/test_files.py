@@ -416,6 +416,12 @@ def test_check_of_no_file(on):
     on.expect("check without a file", ["check"], 2, None)
 
 
+def test_names_of_broken_rows():
+    """They differ, since each names a file. A slow program is asked each seventh row only, and may not meet two of one name."""
+    names = [name for name, *_ in [*BROKEN, *BROKEN_LOCKS]]
+    assert not [it for it in names if names.count(it) > 1]
+
+
 @pytest.mark.cost(60)
 def test_check_of_rows(on, every, checked):
     """A check of a file in which something isn't so."""
