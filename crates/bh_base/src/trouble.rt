@@ -2,6 +2,8 @@ ghost use Rattle.std.specs.Prelude.{◌≡◌, true, None, IfOk, IfErr};
 ghost use Rattle.sqlite.specs.declared.error.Error.TheVariants.{SqliteFailure};
 ghost use Rattle.sqlite.specs.declared.error.ErrorCode.TheVariants.{DiskFull};
 ghost use Rattle.sqlite_disk.specs.Refusal.{is_no_room as finds_no_room};
+ghost use Rattle.std.specs.declared.io.Error.{Error as Fault};
+ghost use Rattle.bh_packs.specs.declared.trouble.Trouble.TheVariants.{File};
 ghost use Rattle.bh_rows.specs.Means.{is_trouble};
 
 use bh_packs::place::Place;
@@ -24,7 +26,8 @@ fn code_of(error: &io::Error) -> ErrorCode
 
 /// A pack's failure as one of the database, with its code.
 pub fn error_of(trouble: Trouble) -> Error
-    ensures { is_trouble result ≡ true }
+    ensures trouble { is_trouble result ≡ true }
+    ensures full { (e : Fault) → trouble ≡ File e → finds_no_room e ≡ true → result ≡ SqliteFailure DiskFull }
 {
     match trouble {
         Trouble::Memory => Error::SqliteFailure(ErrorCode::OutOfMemory),
