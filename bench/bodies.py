@@ -18,7 +18,7 @@ import sys
 import tempfile
 import time
 
-from server import SHARED_MEMORY, PlainServer, Server, need, proved_program
+from server import SHARED_MEMORY, PlainServer, Server, need, on_disk, proved_program
 
 SIZES = [(1 << 10, 300), (1 << 16, 200), (1 << 20, 40), (1 << 24, 8)]
 COUNTS = [100, 1000, 10000]
@@ -58,7 +58,7 @@ def growth(program):
                 count += 1
             keys = [n * 7919 % objects for n in range(300)]
             gets = [server.get(f"/k{n}", body_of(n)) for n in keys]
-            length = sum(os.path.getsize(os.path.join(folder, name)) for name in os.listdir(folder))
+            length = sum(on_disk(server.file))
             print(f"{objects:>9} {statistics.median(puts):>9.3f} {statistics.median(gets):>9.3f} {length / 1e6:>9.1f}", flush=True)
 
 

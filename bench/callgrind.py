@@ -1,14 +1,13 @@
 """Counts the instructions of the functions of a program by valgrind's callgrind: of a run, or of a server's answers."""
 import os
 import re
-import shutil
 import socket
 import subprocess
 import sys
 import time
 
 from events import request
-from server import make_host
+from server import copied, make_host
 
 KEY = ("green$k1", "greensecret")
 
@@ -70,8 +69,5 @@ def filled(program, folder, first, *options):
 
 def served(program, file, last, *options):
     """The functions of a server with these options that answers these, on a copy of a host."""
-    copy = f"{file}-copy"
-    for end in ("", "-wal"):
-        if os.path.exists(file + end):
-            shutil.copy(file + end, copy + end)
+    copy = copied(file, os.path.dirname(file), os.path.basename(file) + "-copy")
     return counted(os.path.dirname(file), *serving(program, copy, last, *options))

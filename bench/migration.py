@@ -16,7 +16,7 @@ import sys
 import tempfile
 
 from opening import fill, listens, make, sum_of, used
-from server import SHARED_MEMORY, Server, proved_program
+from server import SHARED_MEMORY, Server, host, proved_program
 
 PAGE, HEAD, FRAME = 4096, 32, 4096 + 24
 TURNS = 9
@@ -26,8 +26,12 @@ TABLES = {5: ["unneeded"], 4: ["garbage", "rights", "upload_notes", "notes", "pl
 
 
 def set_back(file, version):
-    """Makes a host's file, whose log is empty, one of an earlier version."""
+    """Makes a host's file, whose log is empty, one of an earlier version, in which all bytes of blocks are in rows."""
+    whole = host.opened(file)
+    rows = whole.execute("SELECT bytes, digest, ord FROM blocks").fetchall() if version == 4 else []
+    whole.close()
     it = sqlite3.connect(file, isolation_level=None)
+    it.executemany("UPDATE blocks SET bytes = ? WHERE digest = ? AND ord = ?", rows)
     drops = [f"DROP TABLE IF EXISTS {table}" for number, tables in TABLES.items() if number > version for table in tables]
     for text in (*drops, f"UPDATE host SET version = {version}", "PRAGMA wal_checkpoint(TRUNCATE)"):
         it.execute(text)

@@ -20,11 +20,11 @@ import sys
 import tempfile
 import time
 
-from server import SHARED_MEMORY, Server, await_listener, free_port, make_host, proved_program
+from server import SHARED_MEMORY, Server, await_listener, free_port, make_host, on_disk, proved_program
 
 OBJECT = 4 << 20
-# Bytes that the log may have where it isn't copied into the file yet: fewer than 10,000 pages of 4 KiB.
-LOGGED = 32 << 20
+# Bytes that the log may have where it isn't copied into the file yet: fewer than 3,800 pages of 4 KiB.
+LOGGED = 12 << 20
 PAGES = [(4096, True), (4096, False), (16384, True), (65536, True), (65536, False)]
 # Files from this size on are made with sums alone.
 MANY_MEGABYTES = 1000
@@ -94,16 +94,16 @@ def used(program, file):
 
 
 def row(program, file, name, size, has_sums):
-    length, log = (os.path.getsize(file + tail) / 1e6 for tail in ("", "-wal"))
+    length, log, packs = (it / 1e6 for it in on_disk(file))
     times = [listens(program, file) for _ in range(3)]
-    print(f"| {length:.0f} | {log:.0f} | {size // 1024} KiB{'' if has_sums else ', no sums'} | {name} | {min(it[0] for it in times):.2f} | "
+    print(f"| {length:.0f} | {log:.0f} | {packs:.0f} | {size // 1024} KiB{'' if has_sums else ', no sums'} | {name} | {min(it[0] for it in times):.2f} | "
           f"{min(it[1] for it in times):.2f} | {max(it[2] for it in times):.0f} | {used(program, file):.2f} |", flush=True)
 
 
 def main():
     program = proved_program(sys.argv[1:2])
     sizes = [int(it) for it in sys.argv[2:]] or [10, 100]
-    print("| File, MB | Log, MB | Pages | after | until it listens, s | of a processor, s | resident, MB | `usage`, s |\n|---|---|---|---|---|---|---|---|")
+    print("| File, MB | Log, MB | Packs, MB | Pages | after | until it listens, s | of a processor, s | resident, MB | `usage`, s |\n|---|---|---|---|---|---|---|---|---|")
     for megabytes in sizes:
         for size, has_sums in PAGES if megabytes < MANY_MEGABYTES else [it for it in PAGES if it[1]]:
             folder = tempfile.mkdtemp(prefix="opening-", dir=SHARED_MEMORY)

@@ -4,7 +4,7 @@
     bench/overwrites.py [--seconds S] [--keep-garbage BYTES].. [PROGRAM]
 
 PROGRAM: crates/bucketd/out/bucketd. S: 60. BYTES: a server that keeps so many bytes that nobody needs, as 0 or 1GiB, one after another;
-without the option one that keeps what it keeps if nothing is said. It tells the most bytes that the host's file and log had, beside what
+without the option one that keeps what it keeps if nothing is said. It tells the most bytes that file, log and packs had, beside what
 is needed, in how many seconds the rest was swept, and the milliseconds of another tenant's GETs of 1 KiB, one after another, alone and
 beside that. Then, of the first server, the rate of GETs by 8 clients, in turns without and with somebody who asks for the page of metrics
 ten times a second. Files lie in a new folder of the current one, since a disk is measured. It needs Debian's wrk, and fails if the file
@@ -60,11 +60,6 @@ def swept(server, keep):
     return None
 
 
-def on_disk(server):
-    """Bytes of the host's file and of its log."""
-    return sum(os.path.getsize(server.file + tail) for tail in host.TAILS if os.path.exists(server.file + tail))
-
-
 def overwrite(server, is_over, written):
     """Puts, of which each block is new."""
     body = bytearray(os.urandom(SIZE))
@@ -80,7 +75,7 @@ def gets(server, seconds):
     took, most, ends = [], 0, time.monotonic() + seconds
     while time.monotonic() < ends:
         took.append(server.get("/key0", BODY))
-        most = max(most, on_disk(server))
+        most = max(most, sum(host.on_disk(server.file)))
     return sorted(took), most
 
 

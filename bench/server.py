@@ -8,7 +8,7 @@ import time
 TOP = os.path.dirname(os.path.dirname(os.path.abspath(__file__)))
 sys.path.insert(0, os.path.join(TOP, "tools"))
 import host  # noqa: E402
-from host import COUNT, SHARED_MEMORY, await_listener, command, free_port, make_host, proved_program, request  # noqa: E402, F401
+from host import COUNT, SHARED_MEMORY, await_listener, command, copied, free_port, make_host, on_disk, proved_program, removed, request  # noqa: E402, F401
 
 PLAIN = """
 import socket, sys

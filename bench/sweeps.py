@@ -8,13 +8,12 @@ nothing; and a report, each from its start to its end. Objects are of one block 
 up little, and are put by `bucketd serve`. The least of three runs on copies of the file counts.
 """
 import os
-import shutil
 import subprocess
 import sys
 import tempfile
 import time
 
-from server import SHARED_MEMORY, Server, proved_program
+from server import SHARED_MEMORY, Server, copied, proved_program
 
 DUE = 1000
 EACH = 100
@@ -50,9 +49,7 @@ def milliseconds(program, file, words, wanted):
 
 
 def one_run(program, file, words, wanted):
-    for end in ("", "-wal"):
-        if os.path.exists(file + end):
-            shutil.copy(file + end, f"{file}-copy{end}")
+    copied(file, os.path.dirname(file), os.path.basename(file) + "-copy")
     begun = time.perf_counter()
     done = subprocess.run([program, words[0], "--file", f"{file}-copy", *words[1:]], capture_output=True, text=True)
     spent = 1000 * (time.perf_counter() - begun)

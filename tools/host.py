@@ -8,6 +8,7 @@ import resource
 import shutil
 import signal
 import socket
+import sqlite3
 import struct
 import subprocess
 import sys
@@ -26,8 +27,8 @@ PATIENCE = 300
 # Where files need no disk. A whole run has a folder of its own there, which goes with it.
 SHARED_MEMORY = os.environ.get("QUICK_FOLDER") or ("/dev/shm" if os.path.isdir("/dev/shm") else None)
 EIO, ENOSPC = 5, 28
-# Ends of the names of a host's files: its rows, and its log.
-TAILS = ("", "-wal")
+# Ends of the names of a host's files: its rows, and its log. Beside them is the folder of its packs, if it has one.
+TAILS, PACKS = ("", "-wal"), ".packs"
 
 
 # ---- programs
@@ -111,12 +112,14 @@ def names(folder):
 
 
 def copied(file, folder, name=None):
-    """A host's file and its log at another place, where no other host is left."""
+    """A host's file, its log and its packs at another place, where no other host is left."""
     copy = os.path.join(folder, name or os.path.basename(file))
     removed(copy)
     for tail in TAILS:
         if os.path.exists(file + tail):
             shutil.copy(file + tail, copy + tail)
+    if os.path.isdir(packs_of(file)):
+        shutil.copytree(packs_of(file), packs_of(copy))
     return copy
 
 
@@ -124,6 +127,70 @@ def removed(file):
     for tail in (*TAILS, "-shm"):
         if os.path.exists(file + tail):
             os.remove(file + tail)
+    shutil.rmtree(packs_of(file), ignore_errors=True)
+
+
+def moved(file, to):
+    """Gives a host's file, whose log is empty, and its packs another name."""
+    if os.path.isdir(packs_of(file)):
+        os.rename(packs_of(file), to + PACKS)
+    os.rename(file, to)
+
+
+def packs_of(file):
+    """The folder of a host's packs, which lies where links to its file lead."""
+    return os.path.realpath(file) + PACKS
+
+
+def pack_of(file, number):
+    """The file of a pack by the number that its row has."""
+    return os.path.join(packs_of(file), f"{number + 1:08d}")
+
+
+def files(folder):
+    """The names in a folder but those of folders with packs."""
+    return [it for it in names(folder) if not it.endswith(PACKS)]
+
+
+def contents_of(folder):
+    """The bytes of each file in a folder; of one that isn't there none."""
+    return {it: read(folder, it) for it in names(folder)} if os.path.isdir(folder) else {}
+
+
+def on_disk(file):
+    """The bytes of a host's file, of its log and of its packs."""
+    rows, log = (os.path.getsize(file + tail) if os.path.exists(file + tail) else 0 for tail in TAILS)
+    packs = packs_of(file)
+    return rows, log, sum(os.path.getsize(os.path.join(packs, it)) for it in names(packs)) if os.path.isdir(packs) else 0
+
+
+def opened(file):
+    """A host's file as SQLite itself reads it. If some of its blocks are in packs, a view in place of their table has their bytes."""
+    database = sqlite3.connect(file)
+    if "placed" in {name for (name,) in database.execute("SELECT name FROM sqlite_master")} and database.execute("SELECT 1 FROM placed").fetchone():
+        database.create_function("in_pack", 3, lambda pack, place, size: bytes_in(pack_of(file, pack), place, size))
+        database.execute("CREATE TEMP VIEW blocks AS SELECT digest, ord, CASE WHEN pack IS NULL THEN bytes ELSE in_pack(pack, place, size) END AS bytes"
+                         " FROM main.blocks LEFT JOIN main.placed USING (digest, ord)")
+    return database
+
+
+def bytes_in(file, place, size):
+    with open(file, "rb") as it:
+        it.seek(place)
+        return it.read(size)
+
+
+def killed_under(server, loads, seconds):
+    """Begins these threads, which ask a server, and kills it after so many seconds, once one of them has done something."""
+    for it in loads:
+        it.start()
+    time.sleep(seconds)
+    begun = time.monotonic()
+    while not any(it.done for it in loads) and time.monotonic() - begun < PATIENCE:
+        time.sleep(0.05)
+    server.end(signal.SIGKILL)
+    for it in loads:
+        it.join(PATIENCE)
 
 
 @contextmanager
@@ -174,8 +241,9 @@ def make_host(program, file, tenants, *options, quota=1 << 40, **env):
     with open(name + ".lock", "w") as lock:
         fcntl.flock(lock, fcntl.LOCK_EX)
         if not os.path.exists(name):
-            os.rename(new_host(program, name + ".new", tenants, options, quota, env), name)  # (its log is empty: commands copy it into the file)
-        shutil.copy(name, file)
+            # Its log is empty, since commands copy it into the file.
+            moved(new_host(program, name + ".new", tenants, options, quota, env), name)
+        copied(name, os.path.dirname(file), os.path.basename(file))
     return file
 
 

@@ -1,9 +1,10 @@
-"""A host's file and its log as pages, and the trees in them, read as far as damage lets them be: SQLite's file format, whose pages
-here end in a sum of their bytes. Nothing is written."""
+"""A host's file and its log as pages, the trees in them, and its packs, read as far as damage lets them be: SQLite's file format, whose
+pages here end in a sum of their bytes. Nothing of these is written; `NewPacks` makes the packs of a new host."""
 import fcntl
 import os
 import struct
 from dataclasses import dataclass
+from itertools import chain
 from typing import Optional
 
 PAGE = 4096
@@ -13,6 +14,8 @@ MASK = (1 << 32) - 1
 COUNT = 0xFF000000
 # The bytes of a database file that SQLite locks.
 LOCKS = (0x40000000, 512)
+# The end of a folder's name that has a host's packs. The most bytes of a block, and of a pack.
+PACKS, LARGEST, PACK = ".packs", 1 << 20, 1 << 30
 
 
 class Refused(Exception):
@@ -357,3 +360,67 @@ class Tree:
             return [(it, -1, 1 << 64) for it in children]
         bounds = [low, *(varint(page, it + 4)[0] for it in places), high]
         return list(zip(children, bounds, bounds[1:]))
+
+
+# ---- packs
+
+
+def sum_of_place(data):
+    """The sum of a place in a pack, as a signed number: SipHash-1-3 of eight zeros and its bytes, and never 0."""
+    most, data = (1 << 64) - 1, bytes(8) + data
+    a, b, c, d = 0x736F6D6570736575, 0x646F72616E646F6D, 0x6C7967656E657261, 0x7465646279746573
+    words = struct.iter_unpack("<Q", data + bytes(7 - len(data) % 8) + bytes([len(data) % 256]))
+    for word, rounds in chain(((it, (1,)) for (it,) in words), ((None, (1, 2, 3)),)):
+        c ^= 0xFF if word is None else 0
+        d ^= word or 0
+        for _ in rounds:
+            a, c = a + b & most, c + d & most
+            b, d = (b << 13 | b >> 51) & most ^ a, (d << 16 | d >> 48) & most ^ c
+            a, c = (a << 32 & most | a >> 32) + d & most, c + b & most
+            b, c, d = (b << 17 | b >> 47) & most ^ c, (c << 32 | c >> 32) & most, (d << 21 | d >> 43) & most ^ a
+        a ^= word or 0
+    found = a ^ b ^ c ^ d or 1
+    return found - (1 << 64) if found >> 63 else found
+
+
+class Packs:
+    """The packs of a host's file, beside it where links to it lead: they are only read."""
+
+    def __init__(self, file):
+        self.folder = os.path.realpath(file) + PACKS
+
+    def bytes_at(self, pack, place, size):
+        """Some bytes of a pack; fewer where they can't be read."""
+        try:
+            with open(os.path.join(self.folder, f"{pack + 1:08d}"), "rb", buffering=0) as it:
+                return os.pread(it.fileno(), min(size, LARGEST), place)
+        except (OSError, OverflowError):
+            return b""
+
+
+class NewPacks:
+    """The packs of a new host, beside its file. `rows`: of each its number, length and live bytes; `placed`: the blocks that they have."""
+
+    def __init__(self, file):
+        self.folder, self.out, self.rows, self.placed = file + PACKS, None, [], []
+
+    def add(self, block, data, sum):
+        """Adds a block's bytes."""
+        if not self.rows or self.rows[-1][1] + len(data) > PACK:
+            self.close()
+            os.makedirs(self.folder, 0o700, exist_ok=True)
+            name = os.path.join(self.folder, f"{len(self.rows) + 1:08d}")
+            self.out = open(name, "xb", opener=lambda path, flags: os.open(path, flags, 0o600))
+            self.rows.append([len(self.rows), 0, 0])
+        row = self.rows[-1]
+        self.placed.append((*block, row[0], row[1], len(data), sum or sum_of_place(data)))
+        self.out.write(data)
+        row[1:] = [row[1] + len(data)] * 2
+
+    def close(self):
+        """Closes the last pack, once it is on the disk."""
+        if self.out:
+            self.out.flush()
+            os.fsync(self.out.fileno())
+            self.out.close()
+            self.out = None

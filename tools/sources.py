@@ -27,9 +27,10 @@ def functions(lines):
     """The functions of a file that have a body of their own lines."""
     found, owner, trait = [], "", ""
     for at, line in enumerate(lines):
-        if impl := IMPL.match(line):
+        if impl := IMPL.match(head_of(lines, at)):
             owner = impl["type"].rpartition(":")[2]
-            trait = "".join(re.findall(r"(?<!')\b\w+\b(?!::)", (impl["trait"] or "") + (impl["of"] or "")))
+            of = re.sub(r"(?<=\w)<[^<>]*>", "", (impl["of"] or "")[1:-1])  # of `Folder<PackFile<S>>` the name is FolderPackFile
+            trait = "".join(re.findall(r"(?<!')\b\w+\b(?!::)", f"{impl['trait'] or ''} {of}"))
         elif line == "}":
             owner = trait = ""
         head = FUNCTION.match(line)
@@ -38,6 +39,12 @@ def functions(lines):
             is_private = not owner and not head[1] and not head[2]
             found.append(Function(head[3], owner, trait, is_private, at, *body))
     return found
+
+
+def head_of(lines, at):
+    """A line, and the next one where the head of an `impl` goes on with its type."""
+    more = lines[at + 1].strip() if at + 1 < len(lines) else ""
+    return f"{lines[at]} {more}" if more.startswith("for ") else lines[at]
 
 
 def body_of(lines, first, indent):

@@ -21,9 +21,12 @@
 #include <sys/uio.h>
 #include <unistd.h>
 
-// A write or a new length that the file's next sync makes sure of: where, what stood there, and the file's length before it.
+// A write or a new length that the file's next sync makes sure of: which file it is, where, what stood there, and the file's length
+// before it.
 struct change {
     int file, is_cut;
+    dev_t disk;
+    ino_t number;
     off_t at, length;
     size_t size, had;
     char *old;
@@ -81,7 +84,7 @@ static void note(int file, off_t at, size_t size, int is_cut) {
     struct stat found;
     struct change *it = calloc(1, sizeof *it);
     if (!it || fstat(file, &found) != 0) _exit(3);
-    *it = (struct change){file, is_cut, at, found.st_size, size, 0, NULL, unsynced};
+    *it = (struct change){file, is_cut, found.st_dev, found.st_ino, at, found.st_size, size, 0, NULL, unsynced};
     if (size > 0) {
         ssize_t had;
         it->old = calloc(1, size);
@@ -91,10 +94,14 @@ static void note(int file, off_t at, size_t size, int is_cut) {
     unsynced = it;
 }
 
+// A file was synced, by whichever of its descriptors.
 static void forget(int file) {
+    struct stat synced;
+    if (!unsynced) return;
+    if (fstat(file, &synced) != 0) _exit(3);
     for (struct change **it = &unsynced; *it;) {
         struct change *found = *it;
-        if (found->file != file) {
+        if (found->disk != synced.st_dev || found->number != synced.st_ino) {
             it = &found->before;
             continue;
         }
@@ -125,6 +132,16 @@ static void lose(int tears) {
         if (kind == 2) put_back(it, drawn(it->size), it->size, 0);
         if (kind == 3) put_back(it, 0, drawn(it->size), (char)0xa5);
         if (kind == 4) put_back(it, 0, it->size, 0);
+    }
+}
+
+// Before a descriptor is closed whose file has changes that weren't synced, they get another one, which stays.
+static void keep(int file) {
+    int kept = -1;
+    for (struct change *it = unsynced; it; it = it->before) {
+        if (it->file != file) continue;
+        if (kept < 0 && (kept = fcntl(file, F_DUPFD_CLOEXEC, 500)) < 0) _exit(3);
+        it->file = kept;
     }
 }
 
@@ -223,6 +240,12 @@ int ftruncate(int file, off_t length) {
 
 int ftruncate64(int file, off_t length) { return ftruncate(file, length); }
 
+int close(int file) {
+    OF(int, close, int);
+    if (unsynced) keep(file);
+    return of(file);
+}
+
 int rename(const char *from, const char *to) {
     OF(int, rename, const char *, const char *);
     return is_refused_now() ? -1 : of(from, to);
@@ -230,5 +253,15 @@ int rename(const char *from, const char *to) {
 
 int unlink(const char *name) {
     OF(int, unlink, const char *);
+    return is_refused_now() ? -1 : of(name);
+}
+
+int mkdir(const char *name, mode_t mode) {
+    OF(int, mkdir, const char *, mode_t);
+    return is_refused_now() ? -1 : of(name, mode);
+}
+
+int rmdir(const char *name) {
+    OF(int, rmdir, const char *);
     return is_refused_now() ? -1 : of(name);
 }

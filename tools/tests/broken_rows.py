@@ -24,7 +24,7 @@ BROKEN = [
     ("a tally's objects", "UPDATE tallies SET objects = 0", "tallies: not how many versions, markers and objects the tenant has, row 1 of tenants"),
     ("a tally that is missing", "DELETE FROM tallies", "tallies: not as many rows as tenants"),
     ("a place of a block that has its bytes", "INSERT INTO packs VALUES (1, 8, 4); INSERT INTO placed SELECT digest, ord, 1, 0, 4, 7 FROM blocks WHERE rowid = 1",
-     "placed: past the length of its pack, of a block with bytes in its row, or without packs, row 1"),
+     "placed: empty, past the length of its pack, of a block with bytes in its row, or without packs, row 1"),
     ("a note", "INSERT INTO notes SELECT tenant, seq, x'00' FROM versions", "notes: a row, and this program fills no such table, row 1"),
     ("a note of an upload", "INSERT INTO upload_notes SELECT tenant, upload, x'00' FROM uploads", "upload_notes: a row, and this program fills no such table, row 1"),
     ("rights", "INSERT INTO rights SELECT tenant, name, 'all' FROM keys", "rights: a row, and this program fills no such table, row 1"),

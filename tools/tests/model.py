@@ -4,8 +4,10 @@ import base64
 import copy
 import hashlib
 import json
-import sqlite3
+import os
 from urllib.parse import quote
+
+from host import opened, pack_of
 
 BLOCK = 65536
 # The least size of a part but the last, with which the hosts are made.
@@ -300,9 +302,9 @@ class Drawn:
 
 
 def faults_of(file):
-    """What SQLite itself finds wrong in a host's file: pages, references without a block, blocks that aren't their digest's,
-    places of a body that are left out, and how many bytes nobody needs, where the file counts them (from version 5 on)."""
-    it = sqlite3.connect(file)
+    """What SQLite itself finds wrong in a host's file: pages, references without a block, blocks that aren't their digest's, places of
+    a body that are left out, what rows of packs count, and how many bytes nobody needs, where the file counts them (from version 5 on)."""
+    it = opened(file)
     it.text_factory = bytes
     faults = [f"integrity: {row[0]!r}" for row in it.execute("PRAGMA integrity_check") if row[0] != b"ok"]
     faults += [f"a block is missing: {row}" for row in it.execute(
@@ -315,8 +317,25 @@ def faults_of(file):
     if it.execute("SELECT count(*) FROM sqlite_master WHERE name = 'unneeded'").fetchone()[0]:
         counts, found = it.execute("SELECT bytes FROM unneeded").fetchall(), unneeded_in(it)
         faults += [] if counts == [(found,)] else [f"nobody needs {found} bytes, and it counts {counts}"]
+        faults += [] if packed_in(it) == packs_in(it) else [f"blocks in packs have {packed_in(it)}, and their rows count {packs_in(it)}"]
+        faults += [f"pack {pack} has fewer than {length} bytes" for pack, length in it.execute("SELECT pack, length FROM packs") if size_of(pack_of(file, pack)) < length]
     it.close()
     return faults
+
+
+def size_of(file):
+    return os.path.getsize(file) if os.path.exists(file) else -1
+
+
+def packs_in(database):
+    """What the rows of packs with live bytes count: of each its live bytes, and whether no block ends past its length."""
+    rows = database.execute("SELECT pack, live, length >= (SELECT max(place + size) FROM placed WHERE placed.pack = packs.pack) FROM packs WHERE live > 0")
+    return {pack: (live, bool(is_within)) for pack, live, is_within in rows}
+
+
+def packed_in(database):
+    """The same of the blocks that are in each pack."""
+    return {pack: (size, True) for pack, size in database.execute("SELECT pack, sum(size) FROM placed GROUP BY pack")}
 
 
 def unneeded_in(database):

@@ -1,7 +1,6 @@
 """What a long run is made of (test_soak.py): a server that its clients know to end, a clock that jumps, tenants that change and read what
 they have, and now and then go with all of it, an operator, and what was done so far."""
 import json
-import os
 import random
 import re
 import socket
@@ -510,8 +509,3 @@ def measures_of(program):
     """The sizes of bodies that are drawn, how many versions a tenant has at most, all of which are read when a server begins, and how
     often it goes."""
     return ([0, 10, 3_000, 70_000, 200_000, 1_000_000, 3_000_000], 40, REMOVALS) if is_quick(program) else ([0, 10, 3_000, 10_000], 8, SLOW_REMOVALS)
-
-
-def bytes_of(file):
-    """The bytes of a host's file, and of its log."""
-    return [os.path.getsize(file + tail) if os.path.exists(file + tail) else 0 for tail in ("", "-wal")]

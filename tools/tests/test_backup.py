@@ -17,7 +17,7 @@ import pytest
 
 import host
 from faults import FAULTS, calls_of, holding, is_begun_alone, series
-from host import PATIENCE, Server, command, copied, fill, free_port, is_quick, make_host, names, read, run, small_disk
+from host import PACKS, PATIENCE, Server, command, contents_of, copied, fill, free_port, is_quick, make_host, names, on_disk, packs_of, read, removed, run, small_disk
 
 PAGE = 4096
 TENANTS = ["green", "blue"]
@@ -72,6 +72,15 @@ def wanted(first):
     return first[1]
 
 
+def is_copy(copy, file):
+    """Whether a backup has the bytes of a file, and its packs those that the rows name."""
+    had, has = (contents_of(packs_of(it)) for it in (file, copy))
+    database = sqlite3.connect(f"file:{file}?immutable=1", uri=True)  # (its log was copied into it)
+    lengths = database.execute("SELECT pack + 1, length FROM packs").fetchall()
+    database.close()
+    return read(copy) == read(file) and set(has) <= set(had) and all(has[f"{pack:08d}"][:length] == had[f"{pack:08d}"][:length] for pack, length in lengths)
+
+
 def answers(program, file):
     """All that a host tells of its tenants, on a copy, so that its own file stays as it is."""
     with tempfile.TemporaryDirectory(dir=os.path.dirname(file)) as folder:
@@ -93,18 +102,18 @@ def test_backup(expect, program, top, file, wanted):
     before = set(names(top))
     told = backup(program, top)
     expect("a backup", told == (*DONE, ""), told)
-    expect("it is all that is new", set(names(top)) - before == {"b"}, names(top))
+    expect("it and its packs are all that is new", {"b"} <= set(names(top)) - before <= {"b", "b" + PACKS}, names(top))
     mode = stat.S_IMODE(os.stat(os.path.join(top, "b")).st_mode)
     expect("its mode", mode == 0o600, oct(mode))
-    expect("its bytes are those of the file", read(os.path.join(top, "b")) == read(file), "others")
+    expect("its bytes are those of the file", is_copy(os.path.join(top, "b"), file), "others")
     found = answers(program, os.path.join(top, "b"))
     expect("its host answers as the first", found == wanted, [it for it in zip(found, wanted) if it[0] != it[1]])
     expect("and the first as before", answers(program, file) == wanted, "otherwise")
     put(program, file, {"after": b"after"})
     expect("what comes later isn't in it", answers(program, os.path.join(top, "b")) == wanted, "otherwise")
     expect("a backup of the backup", backup(program, top, "b", "c") == (*DONE, ""), names(top))
-    expect("has its bytes", read(os.path.join(top, "c")) == read(os.path.join(top, "b")), "others")
-    os.remove(os.path.join(top, "c"))
+    expect("has its bytes", is_copy(os.path.join(top, "c"), os.path.join(top, "b")), "others")
+    removed(os.path.join(top, "c"))
 
 
 def foreign(file):
@@ -117,8 +126,8 @@ def foreign(file):
 
 def stays(expect, program, top, name, says, file="a", to="b", text="fault"):
     """A backup that is refused, and changes nothing."""
-    state = lambda: {it: (os.lstat(os.path.join(top, it)).st_mode, os.path.isfile(os.path.join(top, it)) and read(os.path.join(top, it)))
-                     for it in names(top) if not it.endswith("-wal")}
+    bytes_of = lambda it: read(it) if os.path.isfile(it) else contents_of(it) if it.endswith(PACKS) else None
+    state = lambda: {it: (os.lstat(os.path.join(top, it)).st_mode, bytes_of(os.path.join(top, it))) for it in names(top) if not it.endswith("-wal")}
     before = state()
     told = backup(program, top, file, to)
     expect(name, told[:2] == (text, 1) and says in told[2] and state() == before, f"{told}, {names(top)}")
@@ -137,14 +146,17 @@ def test_refused(expect, program, top, file):
     os.mkdir(os.path.join(top, "folder"))
     stays(expect, program, top, "a folder", "unable to create folder: the file exists already", to="folder")
     stays(expect, program, top, "a folder that isn't there", "No such file or directory", to="gone/b")
-    for tail in ("-wal", "-journal", ".partial", ".moving"):
-        stays(expect, program, top, f"a name that ends in {tail}", f"unable to create n{tail}: the name ends in -wal, -journal, .partial or .moving", to="n" + tail)
+    for tail in ("-wal", "-journal", ".partial", ".moving", ".packs"):
+        stays(expect, program, top, f"a name that ends in {tail}", f"unable to create n{tail}: the name ends in -wal, -journal, .partial, .moving or .packs", to="n" + tail)
     for tail in ("-wal", "-journal"):
         beside = os.path.join(top, "n" + tail)
         shutil.copy(file, beside)
-        stays(expect, program, top, f"a file with {tail} behind the name", "unable to create n: a log or a journal of that name exists", to="n")
+        stays(expect, program, top, f"a file with {tail} behind the name", "unable to create n: a log, a journal or packs of that name exist already", to="n")
         expect("which stays", read(beside) == read(file), "not")
         os.remove(beside)
+    os.mkdir(os.path.join(top, "n.packs"))
+    stays(expect, program, top, "a folder of packs behind the name", "unable to create n: a log, a journal or packs of that name exist already", to="n")
+    os.rmdir(os.path.join(top, "n.packs"))
     stays(expect, program, top, "a host that isn't there", "bucketd: missing: there is no such file\n", "missing", "n", "47 NotAHostFile")
     open(os.path.join(top, "empty"), "w").close()
     stays(expect, program, top, "an empty file", "bucketd: empty: not a host: the file is empty", "empty", "n", "47 NotAHostFile")
@@ -171,9 +183,9 @@ def test_at_once(expect, program, top, file):
     with holding(left):
         stays(expect, program, top, "another backup to that name", "unable to create n: unable to open its .partial file: it is locked", to="n")
     told = backup(program, top, to="n")
-    expect("one that was killed is written over", told == (*DONE, "") and read(os.path.join(top, "n")) == read(file), told)
-    expect("and nothing of it is left", not [it for it in names(top) if it.startswith("n.")], names(top))
-    os.remove(os.path.join(top, "n"))
+    expect("one that was killed is written over", told == (*DONE, "") and is_copy(os.path.join(top, "n"), file), told)
+    expect("and nothing of it is left", not [it for it in names(top) if it.startswith("n.") and it != "n" + PACKS], names(top))
+    removed(os.path.join(top, "n"))
 
 
 def stopped(program, first, wanted, library, fault, number):
@@ -186,13 +198,18 @@ def stopped(program, first, wanted, library, fault, number):
         if os.path.exists(os.path.join(folder, "b")):
             return f"there is a backup, {names(folder)}"
         told = backup(program, folder)
+        # Stopped between the names of its packs and of its file it left packs of that name, which may be a host's: they are told, and
+        # removed by hand.
+        if "packs of that name exist already" in told[2] and {"b.partial", "b" + PACKS} <= set(names(folder)):
+            shutil.rmtree(os.path.join(folder, "b" + PACKS))
+            told = backup(program, folder)
         # What a lost sync left of a file may be no database's first bytes: then it is told, and removed by hand.
         if fault.does != "stop" and "not an SQLite database" in told[2]:
             os.remove(os.path.join(folder, "b.partial"))
             told = backup(program, folder)
-        if told != (*DONE, "") or names(folder) not in (["a", "a-wal", "b"], ["a", "b"]):
+        if told != (*DONE, "") or set(names(folder)) - {"a-wal", "a" + PACKS, "b" + PACKS} != {"a", "b"}:
             return f"the next one ended with {told}, {names(folder)}"
-        if read(os.path.join(folder, "b")) != read(os.path.join(folder, "a")):
+        if not is_copy(os.path.join(folder, "b"), os.path.join(folder, "a")):
             return "the next one has other bytes"
         return None if number % 16 or answers(program, os.path.join(folder, "b")) == wanted else "the next one's host answers otherwise"
 
@@ -204,7 +221,7 @@ def failed(program, first, wanted, library, fault, number):
         told = backup(program, folder, **fault.env(library, number))
         there = os.path.exists(os.path.join(folder, "b"))
         if told[:2] == DONE:
-            return None if there and read(os.path.join(folder, "b")) == read(os.path.join(folder, "a")) else f"it is told, {names(folder)}"
+            return None if there and is_copy(os.path.join(folder, "b"), os.path.join(folder, "a")) else f"it is told, {names(folder)}"
         if fault.does == "half" or told[1] != 1 or told[0] not in ("fault", "48 Unavailable") or there:
             return f"it ended with {told}, {names(folder)}"
         # Where each later call fails, too, what was written can't be removed.
@@ -236,14 +253,13 @@ def test_killed(expect, program, top, file):
     whole_time = time.monotonic() - begun
     wrong = []
     for n in range(20 if is_quick(program) else 3):
-        if os.path.exists(os.path.join(top, "k")):
-            os.remove(os.path.join(top, "k"))
+        removed(os.path.join(top, "k"))
         it = subprocess.Popen([program, "backup", "--file", "a", "--to", "k"], stdout=subprocess.PIPE, stderr=subprocess.DEVNULL, text=True, cwd=top)
         time.sleep(whole_time * n / 20)
         it.kill()
         told = it.communicate()[0]
         there = os.path.exists(os.path.join(top, "k"))
-        if told and not there or there and read(os.path.join(top, "k")) != read(file):
+        if told and not there or there and not is_copy(os.path.join(top, "k"), file):
             wrong.append((n, told, names(top)))
     expect("killed after a time", not wrong, wrong)
 
@@ -347,7 +363,8 @@ def test_of_a_server(expect, program, top, file):
     os.remove(os.path.join(folder, "mine.partial"))
     expect("no name", tell(program, folder, port, '{"op":"backup"}') == ("bad line", 1), names(folder))
     expect("from a client's port", server.exchange(backup_told(folder, "other").encode() + b"\n").startswith(b"HTTP/1.1 400"), names(folder))
-    expect("none of these is there", not any("gone" in name or "other" in name or name.endswith(".partial") for name in names(folder)), names(folder))
+    there = {"host", *(f"copy{turn}" for turn in range(4))}
+    expect("none of these is there", {it.removesuffix("-wal").removesuffix(PACKS) for it in names(folder)} == there, names(folder))
     expect("and it answers still", server.ask("green", "GET", "/plans/n0").status == 200, server.is_up())
     for name, reason in (("copy1", "the file exists already"), ("mine", "its .partial file is another program's database: remove it")):
         expect(f"it says why on standard error, of {name}", f"bucketd: unable to create {folder}/{name}: {reason}" in server.lines(), server.lines())
@@ -407,7 +424,7 @@ def test_small_disk(expect, program, top, file):
         if place is None:
             pytest.skip("no small file system can be mounted here: the user isn't root")
         told = backup(program, top, to="small/b")
-        expect("a disk that has no room for it", told[:2] == ("fault", 1) and "unable to create small/b: No space left on device" in told[2], told)
+        expect("a disk that has no room for it", told[:2] == ("fault", 1) and "unable to create small/b: " in told[2] and "No space left on device" in told[2], told)
         expect("has nothing of it", names(place) == [], names(place))
         port = free_port()
         server = Server(program, file, "--force", "--operator-port", str(port))
@@ -420,7 +437,7 @@ def test_small_disk(expect, program, top, file):
 @pytest.mark.proved
 def test_full_disk(expect, program, top, file):
     """A host that serves on a full disk: its log isn't copied into its file, and it goes on."""
-    with small_disk(os.path.join(top, "full"), os.path.getsize(file) + (4 << 20)) as place:
+    with small_disk(os.path.join(top, "full"), sum(on_disk(file)) + (4 << 20)) as place:
         if place is None:
             pytest.skip("no small file system can be mounted here: the user isn't root")
         port, body = free_port(), os.urandom(1 << 20)

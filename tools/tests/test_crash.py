@@ -606,15 +606,15 @@ def codes_of(server):
 
 @pytest.fixture
 def full_host(program, folder, disk_folder):
-    """A server on a disk of 2 MiB by a clock of its own, its model, and a file that gives some room once it is gone."""
+    """A server on a disk of 3 MiB by a clock of its own, its model, and a file that gives some room once it is gone."""
     need("gcc")
-    with small_disk(os.path.join(disk_folder, "small"), "2m") as place:
+    with small_disk(os.path.join(disk_folder, "small"), "3m") as place:
         if place is None:
             pytest.skip("no small file system can be mounted here: the user isn't root")
         file, clock = os.path.join(place, "host"), Clock(folder, time.time())
         host, ballast = made(program, file), os.path.join(place, "ballast")
         with open(ballast, "wb") as out:
-            out.write(bytes(200_000))
+            out.write(bytes(1_000_000))
         clock.set(clock.now + 60)
         with Server(program, file, "--log", **clock.env) as server:
             yield server, host, clock, file, ballast

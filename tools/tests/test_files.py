@@ -14,6 +14,7 @@ import time
 
 import pytest
 
+import host
 from broken_rows import BROKEN, BROKEN_LOCKS, LOCKED, WITHOUT_PARENT
 from faults import holding
 from host import PATIENCE, SCRIPTS, TOP, Server, copied, fill, is_quick, make_host, program_of, quick_folder, read, small_disk
@@ -179,8 +180,8 @@ def test_sweeps(on):
 
 
 def opened(on, file):
-    """A host's file as SQLite itself reads it: a copy, with what its log has."""
-    return sqlite3.connect(copied(on.path(file), on.folder, "copy"))
+    """A host's file as SQLite itself reads it: a copy, with what its log and its packs have."""
+    return host.opened(copied(on.path(file), on.folder, "copy"))
 
 
 def rows_of(on, file, *queries):
@@ -487,6 +488,11 @@ def check_broken(on, file, changes):
     """What a check says of a host's file after each of some changes."""
     for name, change, told in changes:
         new = broken(on, name, file, change)
+        if "INTO packs" in change:
+            # The pack that it names, as long as its row says: a host that lacks one isn't checked.
+            os.mkdir(on.path(new + host.PACKS), 0o700)
+            with open(on.path(os.path.join(new + host.PACKS, "00000002")), "wb") as out:
+                out.write(bytes(8))
         on.expect(f"check of {new}", check(new), 1, told + "\n", same=new)
 
 
@@ -652,11 +658,12 @@ def test_modes(on):
 
 
 def rebuilt(on, name, file="a", change="", texts=lambda it: it):
-    """The name of a file that SQLite itself wrote: a host's tables and rows after a change of the tables' texts, and then one of SQL."""
+    """The name of a file that SQLite itself wrote: a host's tables and rows after a change of the tables' texts, and then one of SQL. All
+    bytes of its blocks are in rows."""
     old = opened(on, file)
     made = [t for (t,) in old.execute("SELECT sql FROM sqlite_master WHERE sql IS NOT NULL ORDER BY rowid")]
     tables = [t for (t,) in old.execute("SELECT name FROM sqlite_master WHERE type = 'table'")]
-    rows = [(t, r) for t in tables for r in old.execute(f"SELECT * FROM {t}").fetchall()]
+    rows = [(t, r) for t in tables if t not in ("packs", "placed") for r in old.execute(f"SELECT * FROM {t}").fetchall()]
     old.close()
     new = sqlite3.connect(on.path(name))
     new.executescript(";".join(texts(made)))

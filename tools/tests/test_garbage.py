@@ -6,7 +6,6 @@ A server counts again after requests that may write, and after orders.
 import os
 import random
 import signal
-import sqlite3
 import subprocess
 import time
 
@@ -14,7 +13,7 @@ import pytest
 
 import model
 from conftest import amount, need
-from host import PATIENCE, TAILS, Clock, command, copied, is_fast, is_quick, make_host, removed
+from host import PATIENCE, Clock, command, copied, is_fast, is_quick, killed_under, make_host, on_disk, opened, removed
 from kept_hosts import HOSTS, UNNEEDED, kept_names
 from s3_requests import Client, Gateway, build_gateway, write_keys
 from test_crash import Load, made
@@ -460,13 +459,9 @@ def test_no_place(expect, program, folder):
 # ---- one object, over and over
 
 
-def on_disk(file):
-    return sum(os.path.getsize(file + tail) for tail in TAILS if os.path.exists(file + tail))
-
-
 @pytest.mark.cost(60)
 def test_disk(expect, program, disk_folder, full):
-    """A tenant of 17 MiB overwrites an object of 8 MiB: file and log have at most 1.3 times what is needed and 128 MiB."""
+    """A tenant of 17 MiB overwrites an object of 8 MiB: file, log and packs have at most 1.3 times what is needed, 128 MiB, and a pack."""
     if not is_fast(program):
         return expect.skip("the disk that overwrites take", "the bytes that begin a sweep take a slow program too long")
     file, needed = make_host(program, os.path.join(disk_folder, "host"), ["green"], quota=QUOTA), LARGE
@@ -475,8 +470,9 @@ def test_disk(expect, program, disk_folder, full):
         count, most, ends = 0, 0, time.monotonic() + amount("OVERWRITE_SECONDS", 60 if full else 12)
         while count <= 20 or time.monotonic() < ends:
             it.put(count, LARGE)
-            count, most = count + 1, max(most, on_disk(file))
-        allowed = 1.3 * needed + 128 * MIB
+            count, most = count + 1, max(most, sum(on_disk(file)))
+        # (a pack of 64 MiB goes only once nothing in it is needed)
+        allowed = 1.3 * needed + 192 * MIB
         expect(f"{count} puts: at most {most / MIB:.0f} MiB", most <= allowed, f"{allowed / MIB:.0f} are allowed")
         found, took = it.falls(DEFAULT)
         expect("afterwards", found <= DEFAULT and took < SOON, f"{found} after {took:.1f} s")
@@ -485,7 +481,7 @@ def test_disk(expect, program, disk_folder, full):
 def read_back(file, folder):
     """The bytes that nobody needs, as SQLite finds them in a copy of a file and its log."""
     copy = copied(file, folder, "counted")
-    database = sqlite3.connect(copy)
+    database = opened(copy)
     found = model.unneeded_in(database)
     database.close()
     removed(copy)
@@ -503,15 +499,7 @@ def test_kills(expect, program, disk_folder, folder, full):
     for number in range(1, kills + 1):
         with Kept(program, file, chance.choice(["0", "100kB", "1MB"])) as it:
             loads = [Load(it, tenant, model.Drawn(random.Random(chance.random()), sizes)) for tenant in host.tenants.values()]
-            for load in loads:
-                load.start()
-            time.sleep(chance.uniform(0.1, 1.5 if is_quick(program) else 6))
-            begun = time.monotonic()
-            while not any(load.done for load in loads) and time.monotonic() - begun < PATIENCE:
-                time.sleep(0.05)
-            it.end(signal.SIGKILL)
-            for load in loads:
-                load.join(PATIENCE)
+            killed_under(it, loads, chance.uniform(0.1, 1.5 if is_quick(program) else 6))
         wrong, done = [load.wrong for load in loads if load.wrong], done + sum(load.done for load in loads)
         told, counts = command(program, file, "check"), read_back(file, folder)
         with Kept(program, file, MUCH) as it:

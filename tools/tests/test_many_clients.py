@@ -12,7 +12,7 @@ import time
 
 import pytest
 
-from host import PATIENCE, Answer, Clock, all_of, differing, event, fill, is_fast, is_quick, make_host, names, request, resets, script, small_disk, without_moments
+from host import PATIENCE, Answer, Clock, all_of, differing, event, files, fill, is_fast, is_quick, make_host, names, request, resets, script, small_disk, without_moments
 from test_operators import Operated
 from test_serve import Served
 
@@ -142,7 +142,7 @@ def test_drawn_orders(expect, program, folder, full, number):
         await_lines(server, 1 + len(TENANTS) + count)
         resets_told = sum(" - - " in it and it.split()[-2] == "0" for it in server.lines())
         expect("each has a line in the log", resets_told == ended.count("reset"), server.lines()[-5:])
-        expect("no files are left", names(folder) == ["host", "host-wal"], names(folder))
+        expect("no files are left", files(folder) == ["host", "host-wal"], names(folder))
         for it in silent:
             it.close()
 
@@ -231,7 +231,7 @@ def test_clients_that_do_not_read(expect, program, folder):
         time.sleep(server.timeout + 1)
         cut = Answer(all_of(deaf[-1]), "GET")
         expect("one that reads nothing is cut off", len(cut.body) < len(data) and data.startswith(cut.body), f"{len(cut.body)} of {len(data)} bytes")
-        expect("no files are left", names(folder) == ["host", "host-wal"], names(folder))
+        expect("no files are left", files(folder) == ["host", "host-wal"], names(folder))
 
 
 def test_silent_operator(expect, program, folder):

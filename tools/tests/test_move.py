@@ -15,7 +15,7 @@ import pytest
 
 from conftest import need
 from faults import FAULTS, calls_of, is_begun_alone, series
-from host import Answer, Clock, Server, command, copied, is_quick, make_host, names, read, request, run
+from host import PACKS, Answer, Clock, Server, command, contents_of, copied, is_quick, make_host, names, on_disk, packs_of, read, request, run
 from two_tenants import BUCKETS, DATED, KEYS, Drawn
 
 START = 1_800_000_000
@@ -95,9 +95,9 @@ def import_(program, folder, file="b", given="t", **env):
 
 
 def held(folder, name):
-    """A host's bytes, and how many its log has: its header is written anew at each open."""
+    """A host's bytes, those of its packs, and how many its log has: its header is written anew at each open."""
     path = os.path.join(folder, name)
-    return read(path), os.path.getsize(path + "-wal") if os.path.exists(path + "-wal") else 0
+    return read(path), contents_of(packs_of(path)), on_disk(path)[1]
 
 
 def make(program, clock, folder, name, tenants, *options):
@@ -141,9 +141,9 @@ def test_moved(expect, program, clock, folder, seed, options_a, options_b):
     expect("an export", told[:2] == ("export", 0), told)
     expect("which leaves the first host's file", held(folder, "a") == before, "not")
     expect("its mode", stat.S_IMODE(os.stat(os.path.join(folder, "t")).st_mode) == 0o600, "another")
-    expect("nothing lies beside it", not [it for it in os.listdir(folder) if it.startswith("t.") or it.startswith("t-")], os.listdir(folder))
+    expect("nothing lies beside it but its packs", not [it for it in os.listdir(folder) if it.startswith(("t.", "t-")) and it != "t" + PACKS], os.listdir(folder))
     expect("the exported host", command(program, os.path.join(folder, "t"), "check")[0] == "sound", command(program, os.path.join(folder, "t"), "check"))
-    seen = answers(program, clock, shutil.copy(os.path.join(folder, "t"), os.path.join(folder, "seen")), "green", everything, at + half)
+    seen = answers(program, clock, copied(os.path.join(folder, "t"), folder, "seen"), "green", everything, at + half)
     same = answers(program, clock, copied(a, folder, "seen-a"), "green", everything, at + half)
     expect("it shows what the first host shows of the tenant", seen == same, differences(seen, same, everything))
     alone = command(program, os.path.join(folder, "seen"), "usage", "--tenant", "red", "--force")
@@ -233,7 +233,7 @@ def test_in_the_way(expect, program, folder):
     told = export(program, folder, to="n")
     expect("a folder in its way", told[:2] == ("fault", 1) and os.path.isdir(os.path.join(folder, "n.moving")), told)
     os.rmdir(os.path.join(folder, "n.moving"))
-    for tail in ("-wal", "-journal", ".partial", ".moving"):
+    for tail in ("-wal", "-journal", ".partial", ".moving", ".packs"):
         told = export(program, folder, to="n" + tail)
         expect(f"a name that ends in {tail}", told[:2] == ("fault", 1) and "the name ends in " in told[2] and not os.path.exists(os.path.join(folder, "n" + tail)), told)
 
@@ -278,6 +278,11 @@ def test_locked_and_dated(expect, program, clock, folder):
         expect(f"it is where {words[0]} is given", told[:2] == ("tenant grey", 0), told)
 
 
+def is_packed_alike(one, other):
+    """Whether two exports of one tenant have the same packs."""
+    return contents_of(packs_of(os.path.join(one, "t"))) == contents_of(packs_of(os.path.join(other, "t")))
+
+
 def stopped_export(program, folder, library, fault, number):
     """An export that is killed before a call, or is refused it: what is found otherwise, or None. A file of its name is the whole
     one."""
@@ -288,7 +293,7 @@ def stopped_export(program, folder, library, fault, number):
         if there != (told[:2] == ("export", 0)) and fault.lives:
             return f"it ended with {told}, {os.listdir(it)}"
         if there:
-            return None if read(it, "t") == read(folder, "t") else f"a file of other bytes, {told}"
+            return None if read(it, "t") == read(folder, "t") and is_packed_alike(it, folder) else f"a file of other bytes, {told}"
         left = [name for name in os.listdir(it) if name.startswith("t.")]
         if fault.lives and left and not is_begun_alone(it, left, told[2]):
             return f"it left {left}"

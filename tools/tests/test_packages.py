@@ -443,7 +443,7 @@ def port_rules(expect, debian):
 
 def kept(debian):
     """What the administrator has: sums of the host, of keys and of what was changed."""
-    return debian.run("sh", "-c", "sha256sum /var/lib/bucketd/host* /etc/bucketd/*").stdout
+    return debian.run("sh", "-c", "find /var/lib/bucketd/host* /etc/bucketd -type f | sort | xargs sha256sum").stdout
 
 
 def upgraded(expect, debian, packages):
@@ -479,8 +479,8 @@ def removed(expect, debian, packages, before):
     had = debian.run("sha256sum", "/var/lib/bucketd/host").stdout
     done = debian.run("apt-get", "purge", "-y", "bucketd", "bucketd-gateway")
     left = debian.paths() - before - ACCOUNTS
-    hosts = {"var/lib/bucketd", "var/lib/bucketd/host", "var/lib/bucketd/host-wal"}
-    expect("purged: a host alone is left", done.returncode == 0 and {"var/lib/bucketd/host"} <= left <= hosts, f"{left} {done.stdout[-2000:]}")
+    others = {it for it in left if it not in ("var/lib/bucketd", "var/lib/bucketd/host-wal") and not it.startswith("var/lib/bucketd/host.packs")}
+    expect("purged: a host alone is left", done.returncode == 0 and others == {"var/lib/bucketd/host"}, f"{left} {done.stdout[-2000:]}")
     expect("it says so", "the host stays: /var/lib/bucketd" in done.stdout, done.stdout)
     expect("the host is the same, and its user's", debian.run("sha256sum", "/var/lib/bucketd/host").stdout == had and debian.state("/var/lib/bucketd/host") == "600 bucketd bucketd")
 

@@ -26,7 +26,7 @@ LATE, EARLY = "10000", "200"
 def first(program):
     """A host with some megabytes."""
     file = make_host(program, os.path.join(host.quick_folder("progress-"), "a"), ["green"])
-    with Server(program, file, "--force") as server:
+    with Server(program, file, "--force", BUCKETD_PACKS="no") as server:  # (an opening of packs is over before a line is due)
         told = [server.ask("green", "PUT", "/plans").status, server.ask("green", "PUT", "/plans/a", os.urandom(BYTES)).status]
     assert told == [200, 200], told
     command(program, file, "usage", "--tenant", "green", "--force")

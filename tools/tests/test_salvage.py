@@ -9,6 +9,7 @@ import json
 import os
 import random
 import re
+import shutil
 import sqlite3
 import struct
 import subprocess
@@ -18,7 +19,7 @@ from collections import Counter, defaultdict
 import pytest
 
 from faults import holding
-from host import TOP, Server, copied, fill, is_quick, make_host, names, read, removed, small_disk
+from host import PACKS, TOP, Server, contents_of, copied, fill, is_quick, make_host, names, opened, pack_of, packs_of, read, removed, small_disk
 from host_pages import PAGE, Pages, cells_of, is_sealed, mended_page, varint
 
 TOOL = os.path.join(TOP, "tools/salvage")
@@ -69,7 +70,7 @@ class State:
     """All that a host's file and log have, as SQLite reads it: versions and parts with the digests of their bytes."""
 
     def __init__(self, file, folder):
-        database = sqlite3.connect(copied(file, folder, "read"))
+        database = opened(copied(file, folder, "read"))
         self.read = lambda table: database.execute(f"SELECT * FROM {table}").fetchall()
         blocks, bodies = {it[:2]: it[2] for it in self.read("blocks")}, defaultdict(bytes)
         for tenant, body, _, *name, _ in self.read("refs ORDER BY tenant, body, place"):
@@ -81,10 +82,11 @@ class State:
         self.parts = {(it[0], f"{it[1]:016x}", it[2]): (*it[3:6], bodies[it[0], it[6]]) for it in self.read("parts")}
         self.keys, self.buckets = {it[:2]: it[2] for it in self.read("keys")}, {it[:2]: it[2:] for it in self.read("buckets")}
         self.locks, self.tenants = set(self.read("locks")), {it[0]: it[1:5] for it in self.read("tenants")}
+        self.placed = {it[:2]: it[2:5] for it in self.read("placed")}
         self.roots = dict(database.execute("SELECT name, rootpage FROM sqlite_master"))
         self.bodies = {names[it[:2]]: it for it in self.read("versions")}
-        named = {"versions": "tenant, seq", "buckets": "tenant, bucket", "refs": "tenant, body, place", "blocks": "digest, ord"}
-        self.rowids = {table: {tuple(name): row for *name, row in database.execute(f"SELECT {columns}, rowid FROM {table}")} for table, columns in named.items()}
+        named = {"versions": "tenant, seq", "buckets": "tenant, bucket", "refs": "tenant, body, place", "blocks": "digest, ord", "placed": "digest, ord"}
+        self.rowids = {table: {tuple(name): row for *name, row in database.execute(f"SELECT {columns}, rowid FROM main.{table}")} for table, columns in named.items()}
         self.refs = defaultdict(list)
         for it in self.read("refs"):
             self.refs[it[:2]].append((it[:3], it[3:5]))
@@ -119,8 +121,14 @@ def chain(pages, number, at):
     return row, found
 
 
+def pages_in_pack(pack, place, size):
+    """The pages of a pack on which a block lies, of as many bytes as those of the file: their numbers are below 0."""
+    assert pack == 0
+    return {-1 - it for it in range(place // PAGE, (place + size - 1) // PAGE + 1)}
+
+
 class Places:
-    """Which pages are of which kind, and on which pages each version lies with all that it needs."""
+    """Which pages are of which kind, and on which pages each version lies with all that it needs. Those of the pack have numbers below 0."""
 
     def __init__(self, file, state):
         pages = Pages(file)
@@ -134,10 +142,12 @@ class Places:
         known = {it for numbers in self.kinds.values() for it in numbers}
         self.kinds["free"] = sorted(pages.free())
         self.kinds["further"] = sorted(set(range(1, pages.count + 1)) - known - set(self.kinds["free"]))
+        self.kinds["pack"] = [-1 - it for it in range(os.path.getsize(pack_of(file, 0)) // PAGE)] if state.placed else []
         at = {table: {name: homes[table][row] for name, row in rows.items()} for table, rows in state.rowids.items()}
         self.versions = {}
         for name, it in state.bodies.items():
             needed = [at["versions"][it[:2]], at["buckets"][name[:2]], *(at["refs"][ref] | at["blocks"][block] for ref, block in state.refs[it[:2]])]
+            needed += [pages_in_pack(*state.placed[block]) | at["placed"][block] for _, block in state.refs[it[:2]] if block in state.placed]
             self.versions[name] = frozenset().union(*needed)
 
 
@@ -148,7 +158,7 @@ WAYS = ("flip", "flips", "run", "zeros", "another page")
 
 
 def hurt(draw, data, number):
-    """Damages a page of a file's bytes."""
+    """Damages a page of a file's or a pack's bytes."""
     at, way = (number - 1) * PAGE, draw.choice(WAYS)
     if way in ("flip", "flips"):
         for _ in range(1 if way == "flip" else draw.randrange(8, 40)):
@@ -257,7 +267,7 @@ class Salvages:
             database.execute("PRAGMA wal_checkpoint(TRUNCATE)")
         database.close()
         removed(self.flat + "-wal")
-        self.old = State(self.flat, folder)
+        self.packs, self.old = os.path.isdir(packs_of(self.flat)), State(self.flat, folder)
         self.moments = [*self.states(folder)]
         self.places = Places(self.flat, self.old)
 
@@ -271,8 +281,9 @@ class Salvages:
                 out.write(log[:end])
             yield State(place, folder)
 
-    def salvaged(self, data, log, *options):
-        """Its status, what it says, the new host's state, and its list, of a file and log with these bytes."""
+    def salvaged(self, data, log, *options, pack=None):
+        """Its status, what it says, the new host's state, and its list, of a file and log with these bytes, and a pack where it isn't as it
+        was."""
         file, new, listed = (os.path.join(self.folder, "work", it) for it in ("file", "new", "list"))
         for it in (file, new, listed):
             removed(it)
@@ -280,36 +291,59 @@ class Salvages:
             if it is not None:
                 with open(name, "wb") as out:
                     out.write(it)
+        if self.packs:
+            shutil.copytree(packs_of(self.flat), packs_of(file))
+        if pack is not None:
+            with open(pack_of(file, 0), "wb") as out:
+                out.write(pack)
+        packs = contents_of(packs_of(file))
         done = salvage(self.program, file, new, "--lost", listed, *options)
         is_same = read(file) == data and (log is None or read(file + "-wal") == log)
-        left = set(names(os.path.join(self.folder, "work"))) - {"file", "file-wal", "new", "list"}
+        is_same &= contents_of(packs_of(file)) == packs
+        left = set(names(os.path.join(self.folder, "work"))) - {"file", "file-wal", "file" + PACKS, "new", "new" + PACKS, "list"}
         said = f"status {done.returncode}: {done.stderr[-500:]}" + ("" if is_same else ", and the file was changed") + f" left {left}" * bool(left)
         if done.returncode not in (0, 1) or not is_same or left:
             return None, said, None, None
         lines = read(listed).decode().splitlines()
         is_told = len(lines) == len(done.stdout.splitlines()) and done.returncode == int(bool(lines))
+        self.told = done.returncode, done.stdout
         return done.returncode if is_told else None, said, State(new, self.folder), Listed(lines)
 
+    def lists_alike(self):
+        """Whether a run that makes no new host has the status and the lines of the last one, and leaves nothing."""
+        folder = os.path.join(self.folder, "work")
+        before = names(folder)
+        done = subprocess.run([sys.executable, TOOL, "--file", os.path.join(folder, "file"), "--program", "/bin/false"], capture_output=True, text=True)
+        return (done.returncode, done.stdout) == self.told and names(folder) == before
+
     def draw(self, number):
-        """Salvages a host that is damaged by this draw: what was done to it, what is wrong with the new one, and how much it has."""
+        """Salvages a host that is damaged by this draw: what was done to it, what is wrong with the new one, and how much it has. Of each
+        tenth the list is made alone, too."""
+        done, wrong, new, listed = self.damaged(number)
+        if number % 10 == 0 and not wrong and not self.lists_alike():
+            wrong = ["it lists otherwise where it makes no new host"]
+        return done, wrong, new, listed
+
+    def damaged(self, number):
+        """Of a draw what was done to the host, what is wrong with the new one, and that and its list."""
         draw = random.Random(f"damage {number}")
         if draw.random() < 0.15:
             data, log = read(self.logged), bytearray(read(self.logged + "-wal"))
             done = hurt_log(draw, log)
-            _, said, new, listed = self.salvaged(data, bytes(log))
-            wrong = [said] if new is None else flaws(self.old, new, listed, (), self.moments)
+            status, said, new, listed = self.salvaged(data, bytes(log))
+            wrong = [said] if status is None else flaws(self.old, new, listed, (), self.moments)
             return done, wrong, new, listed
         data, kinds = bytearray(read(self.flat)), sorted(self.places.kinds)
-        kind = kinds[number % len(kinds)]
+        pack, kind = bytearray(read(pack_of(self.flat, 0))) if self.old.placed else None, kinds[number % len(kinds)]
         numbers = [draw.choice(self.places.kinds[kind] or [1])] + [draw.randrange(len(data) // PAGE) + 1 for _ in range(draw.choice((0, 0, 0, 1, 4)))]
-        done = ", ".join(hurt(draw, data, it) for it in numbers)
+        done = ", ".join(hurt(draw, data, it) if it > 0 else hurt(draw, pack, -it) for it in numbers)
         if draw.random() < 0.1:
             del data[draw.randrange(len(data) // 2, len(data)) :]
             numbers += range(len(data) // PAGE + 1, max(map(max, filter(None, self.places.kinds.values()))) + 1)
             done += f", cut to {len(data)} bytes"
-        _, said, new, listed = self.salvaged(bytes(data), None)
+        status, said, new, listed = self.salvaged(bytes(data), None, pack=pack)
         spared = [name for name, pages in self.places.versions.items() if not pages & set(numbers)]
-        wrong = [said] if new is None else flaws(self.old, new, listed, spared)
+        wrong = [said] if status is None else flaws(self.old, new, listed, spared)
         return f"{kind}: {done}", wrong, new, listed
 
 

@@ -18,9 +18,9 @@ import time
 import pytest
 
 from conftest import amount
-from host import PATIENCE, command, copied, is_quick, removed
+from host import PATIENCE, command, copied, is_quick, on_disk, removed
 from model import Refused
-from soak import KEEPS, MUCH, OPEN, REFUSED, SPARE, Jumping, Life, Operator, Removal, Spare, Tally, Tenant, Wrong, bytes_of, measures_of, settle_removal
+from soak import KEEPS, MUCH, OPEN, REFUSED, SPARE, Jumping, Life, Operator, Removal, Spare, Tally, Tenant, Wrong, measures_of, settle_removal
 from test_crash import ENDS, SWEEP, faults, made, settle
 from test_operators import figures
 
@@ -70,7 +70,7 @@ class Soak:
             self.told = int(self.passed())
             done = {"requests": sum(self.tally.of(REQUESTS).values())} | self.tally.of(EVENTS)
             told = ", ".join(f"{count} {kind}" for kind, count in done.items() if count)
-            self.expect(f"{self.told} s: {told}; file and log have {sum(bytes_of(self.file)) >> 10} KiB", not self.wrong, self.wrong)
+            self.expect(f"{self.told} s: {told}; file, log and packs have {sum(on_disk(self.file)) >> 10} KiB", not self.wrong, self.wrong)
 
     def live(self, seconds):
         """A server for so long, or until its sync fails. It is killed at the end, or stopped."""
@@ -130,7 +130,8 @@ class Soak:
             self.wrong.append(f"the server ended: {status} {out} {said[-300:]}")
         else:
             self.tally.add("stops" if number == signal.SIGTERM else "kills")
-        (size, log), needed = bytes_of(self.file), sum(self.host.needed().values())
+        (rows, log, packs), needed = on_disk(self.file), sum(self.host.needed().values())
+        size = rows + packs
         self.most, self.largest, self.longest = max(self.most, size / max(needed, 1 << 20)), max(self.largest, size), max(self.longest, log)
 
     def has_all(self):
@@ -174,7 +175,7 @@ class Soak:
         tally = self.tally
         yield "requests: " + ", ".join(f"{count} {kind}" for kind, count in tally.of(REQUESTS).items())
         yield "events: " + ", ".join(f"{count} {kind}" for kind, count in tally.of(EVENTS).items())
-        yield (f"at a server's end the file had at most {self.largest / 1e6:.1f} MB, and at most {self.most:.1f} times the bytes that were needed"
+        yield (f"at a server's end the file and its packs had at most {self.largest / 1e6:.1f} MB, and at most {self.most:.1f} times the bytes that were needed"
                f" (or 1 MiB, if those were fewer); its log had at most {self.longest / 1e6:.1f} MB")
         yield f"of {len(tally.gets)} gets half were answered within {1000 * tally.slowest(0.5):.1f} ms, 99 % within {1000 * tally.slowest(0.99):.1f} ms"
 

@@ -1,5 +1,5 @@
 -- From what an event does to what an open after a stop finds.
-use Rattle.std.proofs.Common.{◌≡◌, ◌⊎◌, inl, inr, List, [], Some, None, refl, sym, ap, subst, ◌∙◌}
+use Rattle.std.proofs.Common.{◌≡◌, ◌⊎◌, inl, inr, List, Some, None, refl, sym, ap, subst, ◌∙◌}
 use Rattle.std.proofs.Math.Logic.{∥∥₁_map}
 use Rattle.sqlite_disk.specs.declared.Disk.{Ghosts}
 use Rattle.sqlite_store.specs.declared.store.FileStore.{FileStore}
@@ -9,26 +9,26 @@ use Rattle.sqlite.specs.State.{State}
 use Rattle.bh_types.specs.Limits.{HostLimits}
 use Rattle.bh_model.specs.State.{Octets}
 use Rattle.bh_event.specs.Events.{Arrival}
-use Rattle.bh_tables.specs.Hosts.{tables_shown, tables_opened}
+use Rattle.bh_shelf.specs.Contents.{Contents, Within}
+use Rattle.bh_shelf.specs.declared.shelf.Shelf.{Ghosts as Shelves}
+use Rattle.bh_tables.specs.Hosts.{tables_shown}
 use Rattle.bh_tables.specs.Schema.{host_schema}
 use Rattle.bh_tables.specs.Typed.{Tables}
-use Rattle.bh_tables.proofs.HostTests.{others_open, other_schema, unlike_second, unlike_third, unlike_fourth}
+use Rattle.bh_tables.proofs.HostTests.{other_schema, unlike_second, unlike_third, unlike_fourth}
 use Rattle.bh_view.specs.Bodies.{IsSoundHost}
 use Rattle.bh_storage.specs.Calls.{Seen, IsAtRest}
 use Rattle.bh_storage.specs.declared.storage.Storage as storage
 use Rattle.bh_cache.specs.Kept.{KeptBlocks}
-use Rattle.bh_shelf.specs.Contents.{nothing}
-use Rattle.bh_shelf.specs.declared.no_shelf.NoShelf.{NoShelf}
-use Rattle.bh_base.specs.Connections.{without_packs}
+use Rattle.bh_base.specs.Connections.{backing}
 use Rattle.bh_base.specs.Layer.{standing}
-use Rattle.bh_base.specs.Shown.{shown}
-use Rattle.bh_bare.specs.Bare.{no_packs}
-use Rattle.bh_bare.proofs.Bare.{unplaced_same, kept_bare, left_bare, left_alone}
+use Rattle.bh_base.specs.Placed.{filled, IsWhole}
+use Rattle.bh_base.specs.Shown.{Backing, shown}
 use Rattle.bh_schema.specs.declared.host.Host.{Host}
-use Rattle.bh_schema.specs.Storage.{IsIntact, IsOpen, seen, seen_in, beside, left, left_in}
+use Rattle.bh_schema.specs.Storage.{IsIntact, IsOpen, seen, seen_in, beside, left}
 use Rattle.bh_schema.proofs.Storing.{sound_host}
 use Rattle.bh_open.specs.Versions.{IsEarlierSchema, IsHostsSchema, IsTypedIfEarlier}
 use Rattle.bh_open.specs.declared.open.Opened.{Opened}
+use Rattle.bh_open.proofs.Beside.{beside_present}
 use Rattle.bh_host.specs.Runs.{Told, MayRemain}
 use Rattle.bh_host.specs.Turns.{Applied, WouldApply}
 use Rattle.bh_kept.specs.Over.{StandsOver, KeptStandsOver}
@@ -38,7 +38,8 @@ use Rattle.bh_schema.specs.declared.host.Digester as digester
 use Rattle.bh_kept.specs.declared.host.BlockSize as size
 use Rattle.bh_kept.specs.declared.host.KeptHost.{KeptHost}
 use Rattle.bh_again.specs.Found as storages
-use Rattle.bh_again.specs.Stops.{seen_again, IsCleanAgain, CameBack, ComesBack, AllLeft, AllShown, kept_of, IsLeft, IsOlder, IsReopened, IsReady, AfterStop, AfterGroup, AfterReply, AfterKeptStop, AfterKeptReply, AfterKeptGroup, OpensSound, StaysSound}
+use Rattle.bh_again.specs.Stops.{seen_again, IsCleanAgain, CameBack, ComesBack, AllLeft, AllShown, MayFind, kept_of, IsLeft, IsOlder, IsReopened, IsReady, AfterStop, AfterGroup, AfterReply, AfterKeptStop, AfterKeptReply, AfterKeptGroup, OpensSound, StaysSound}
+use Rattle.bh_again.proofs.Packs.{LeavesKept, left_filled, stood_left, keeps_bytes}
 use Rattle.bh_again.proofs.Remaining.{remains_last}
 
 -- ---- a database of the present version, and one of sound tables
@@ -52,109 +53,113 @@ not_earlier db is (inr (inr (inr fourth))) = unlike_fourth db is fourth
 present_typed : (db : Database) → db.schema ≡ host_schema → IsTypedIfEarlier db
 present_typed db is = record { first = λ first. absurd (other_schema db is first); second = λ second. absurd (unlike_second db is second); third = λ third. absurd (unlike_third db is third); fourth = λ fourth. absurd (unlike_fourth db is fourth) }
 
-present_opens : (db : Database) → db.schema ≡ host_schema → tables_opened db ≡ tables_shown db
-present_opens db is = others_open db (other_schema db is) (unlike_second db is) (unlike_third db is) (unlike_fourth db is)
-
-present_back : {D : Type 0} {g : Ghosts D} (opened : Opened (FileStore D g)) (db : Database) → db.schema ≡ host_schema → ComesBack db opened → CameBack (tables_shown db) opened
-present_back opened db is it = subst (λ (x : Tables). CameBack x opened) (present_opens db is) (it.came_back (present_typed db is))
+present_back : {D : Type 0} {g : Ghosts D} (packs : Contents) (opened : Opened (FileStore D g)) (db : Database) → db.schema ≡ host_schema → ComesBack packs db opened
+    → CameBack packs (tables_shown (filled packs db)) opened
+present_back packs opened db is it = subst (λ (x : Tables). CameBack packs x opened) (beside_present packs db is) (it.came_back (present_typed db is))
 
 sound_schema : (digest : Octets → Octets) (db : Database) → IsSoundHost digest (tables_shown db) → db.schema ≡ host_schema
 sound_schema digest db sound = (sound_host db sound.sound).schema
 
-kept_shown : (kept : KeptBlocks) (l : HostLimits) (s : State) → (beside kept (seen_in l (shown no_packs s))).kept ≡ tables_shown (standing (shown no_packs s)).kept
-unfolding seen_in beside
-kept_shown kept l s = refl
+-- each place of a sound host has its bytes
+sound_whole : (digest : Octets → Octets) (db : Database) → IsSoundHost digest (tables_shown db) → IsWhole db
+sound_whole digest db sound = (sound_host db sound.sound).held.blocks
 
-module _ {D G : Type 0} {g : Ghosts D} (host : Host (FileStore D g) NoShelf G) where
-  left_unplaced : (db : Database) → IsLeft host db → db.trees 34 ≡ [] → left over_files without_packs host (tables_shown db)
-  left_unplaced db it none = subst (λ (d : Database). left over_files without_packs host (tables_shown d)) (unplaced_same nothing db none) (left_bare (file_state host.connection.database) db it.0 it.1.lists)
+kept_shown : (a : Backing) (kept : KeptBlocks) (l : HostLimits) (s : State) → (beside kept (seen_in l (shown a s))).kept ≡ tables_shown (filled a.kept (standing s).kept)
+unfolding seen_in beside standing
+kept_shown a kept l s = refl
 
-  module _ (digest : Octets → Octets) (all : AllLeft (IsSoundHost digest) host) where
-    left_sound : (db : Database) → IsLeft host db → IsSoundHost digest (tables_shown db)
-    unfolding left_in
-    left_sound db it = left_alone (file_state host.connection.database) (IsSoundHost digest) (λ d sound. sound_host d sound.sound) all (tables_shown db) (db, it.0, it.1.lists, refl)
+module _ {D P G : Type 0} {g : Ghosts D} (h : Shelves P) (host : Host (FileStore D g) P G) (digest : Octets → Octets) (all : AllLeft h (IsSoundHost digest) host) where
+  found_sound : (packs : Contents) → Within (h.stood host.connection.packs) packs → (db : Database) → IsLeft host db → IsSoundHost digest (tables_shown (filled packs db))
+  found_sound packs within db it = all (tables_shown (filled packs db)) (left_filled h host packs within db it)
 
-    left_schema : (db : Database) → IsLeft host db → db.schema ≡ host_schema
-    left_schema db it = sound_schema digest db (left_sound db it)
+  left_schema : (db : Database) → IsLeft host db → db.schema ≡ host_schema
+  left_schema db it =
+      let stood = h.stood host.connection.packs in
+      sound_schema digest (filled stood db) (found_sound stood (λ pack offset size bytes has. has) db it)
 
-    all_shown : AllShown (IsSoundHost digest) host
-    all_shown db it = subst (IsSoundHost digest) (sym (present_opens db (left_schema db it))) (left_sound db it)
+  all_shown : LeavesKept h → AllShown h (IsSoundHost digest) host
+  all_shown laws db it packs may =
+      subst (IsSoundHost digest) (sym (beside_present packs db (left_schema db it))) (found_sound packs (stood_left h host laws packs may) db it)
 
-    none_older : (x : Tables) → ¬ IsOlder host x
-    none_older x older = not_earlier older.db (left_schema older.db older.may) older.schema
+  none_older : (packs : Contents) (x : Tables) → ¬ IsOlder h host packs x
+  none_older packs x older = not_earlier older.db (left_schema older.db older.may) older.schema
 
-pub opens_sound : {D G : Type 0} {g : Ghosts D} (digest : Octets → Octets) → OpensSound g G digest
-opens_sound digest host all = (all_shown host digest all, none_older host digest all)
+pub opens_sound : {D P G : Type 0} {g : Ghosts D} (h : Shelves P) → LeavesKept h → (digest : Octets → Octets) → OpensSound g h G digest
+opens_sound h laws digest host all = (all_shown h host digest all laws, none_older h host digest all)
 
-pub stays_sound : {D G : Type 0} {g : Ghosts D} (digest : Octets → Octets) → StaysSound g G digest
-stays_sound digest old new adds were intact x leaves = elim (adds intact x leaves) [
+pub stays_sound : {D P G : Type 0} {g : Ghosts D} (h : Shelves P) (digest : Octets → Octets) → StaysSound g h G digest
+stays_sound h digest old new adds were intact x leaves = elim (adds intact x leaves) [
   | inl before ↦ were x before
   | inr sound ↦ sound
 ]
 
 -- ---- after a stop
 
-module _ {D G : Type 0} {g : Ghosts D} (digest : Octets → Octets) (host : Host (FileStore D g) NoShelf G) (opened : Opened (FileStore D g))
-    (ready : IsReady digest host) (again : IsReopened host opened) (clean : IsCleanAgain opened) where
+module _ {D P G : Type 0} {g : Ghosts D} (h : Shelves P) (laws : LeavesKept h) (digest : Octets → Octets) (host : Host (FileStore D g) P G) (opened : Opened (FileStore D g))
+    (packs : Contents) (ready : IsReady h digest host) (again : IsReopened h host opened) (clean : IsCleanAgain opened) (may : MayFind h host packs) where
   -- of a store that no fault has shut, what stood before the stop
-  came_back : IsOpen over_files without_packs host → CameBack (seen over_files without_packs host).now opened
+  came_back : IsOpen over_files h host → CameBack packs (seen over_files h host).now opened
   came_back up =
-      let it = ready (again.intact clean, up) in
-      let s = file_state host.connection.database in
-      let shows = kept_shown host.cache host.limits s in
-      let kept = kept_bare s (sound_host (standing (shown no_packs s)).kept (subst (IsSoundHost digest) (sym it.committed ∙ shows) it.sound).sound) in
-      let stood : tables_shown (kept_of host) ≡ (seen over_files without_packs host).now = sym (ap tables_shown kept) ∙ sym shows ∙ it.committed in
-      let schema = sound_schema digest (kept_of host) (subst (IsSoundHost digest) (sym stood) it.sound) in
-      subst (λ (x : Tables). CameBack x opened) stood (present_back opened (kept_of host) schema (again.came_back clean up))
+      let it = ready (again.intact clean may.clean, up) in
+      let a = backing h host.connection.packs in
+      let db = kept_of host in
+      let shows : (seen over_files h host).kept ≡ tables_shown (filled a.kept db) = kept_shown a host.cache host.limits (file_state host.connection.database) in
+      let whole = sound_whole digest (filled a.kept db) (subst (IsSoundHost digest) (sym it.committed ∙ shows) it.sound) in
+      let stood : tables_shown (filled packs db) ≡ (seen over_files h host).now = ap tables_shown (keeps_bytes h host laws packs may whole) ∙ sym shows ∙ it.committed in
+      let schema = sound_schema digest (filled packs db) (subst (IsSoundHost digest) (sym stood) it.sound) in
+      subst (λ (x : Tables). CameBack packs x opened) stood (present_back packs opened db schema (again.came_back clean up packs))
 
-  merely_rests : AllLeft (IsSoundHost digest) host → ∥ IsAtRest (IsSoundHost digest) (seen_again opened) ∥₁
+  merely_rests : AllLeft h (IsSoundHost digest) host → ∥ IsAtRest (IsSoundHost digest) (seen_again packs opened) ∥₁
   merely_rests all = ∥∥₁_map (again.merely clean) (λ it.
-      (present_back opened it.0 (left_schema host digest all it.0 it.1) it.2).rest digest (left_sound host digest all it.0 it.1))
+      (present_back packs opened it.0 (left_schema h host digest all it.0 it.1) (it.2 packs)).rest digest
+      (found_sound h host digest all packs (stood_left h host laws packs may) it.0 it.1))
 
   -- what is said of all that a crash may leave is said of what an open finds, or that was brought over
-  found : (P : Tables → Type 0) → ((x : Tables) → left over_files without_packs host x → P x) → ∥ (P (seen_again opened).now ⊎ IsOlder host (seen_again opened).now) ∥₁
-  found P says = ∥∥₁_map (again.merely clean) (λ it. each it.0 it.1 it.2)
+  found : (Says : Tables → Type 0) → ((x : Tables) → left over_files h host x → Says x) → ∥ (Says (seen_again packs opened).now ⊎ IsOlder h host packs (seen_again packs opened).now) ∥₁
+  found Says says = ∥∥₁_map (again.merely clean) (λ it. each it.0 it.1 (it.2 packs))
     where
-      each : (db : Database) → IsLeft host db → ComesBack db opened → P (seen_again opened).now ⊎ IsOlder host (seen_again opened).now
-      each db may back = told back.schema
+      each : (db : Database) → IsLeft host db → ComesBack packs db opened → Says (seen_again packs opened).now ⊎ IsOlder h host packs (seen_again packs opened).now
+      each db it back = told back.schema
         where
-          older : IsEarlierSchema db.schema → P (seen_again opened).now ⊎ IsOlder host (seen_again opened).now
-          older earlier = inr (record { db = db; may = may; schema = earlier; shown = λ typed. (back.came_back typed).tables })
+          older : IsEarlierSchema db.schema → Says (seen_again packs opened).now ⊎ IsOlder h host packs (seen_again packs opened).now
+          older earlier = inr (record { db = db; may = it; schema = earlier; shown = λ typed. (back.came_back typed).tables })
 
-          told : IsHostsSchema db.schema → P (seen_again opened).now ⊎ IsOlder host (seen_again opened).now
+          told : IsHostsSchema db.schema → Says (seen_again packs opened).now ⊎ IsOlder h host packs (seen_again packs opened).now
           told (inl first) = older (inl first)
           told (inr (inl second)) = older (inr (inl second))
           told (inr (inr (inl third))) = older (inr (inr (inl third)))
           told (inr (inr (inr (inl fourth)))) = older (inr (inr (inr fourth)))
-          told (inr (inr (inr (inr fifth)))) = inl (subst P (sym (present_back opened db fifth back).tables) (says (tables_shown db) (left_unplaced host db may (back.unplaced fifth))))
+          told (inr (inr (inr (inr fifth)))) =
+              let shows : (seen_again packs opened).now ≡ tables_shown (filled packs db) = (present_back packs opened db fifth back).tables in
+              inl (subst Says (sym shows) (says (tables_shown (filled packs db)) (left_filled h host packs (stood_left h host laws packs may) db it)))
 
 -- ---- after an event on a storage that stands over a host
 
-module _ {D G H : Type 0} {g : Ghosts D} (IsIntactOf IsOpenOf : H → Type 0) (seen_of : H → Seen) (left_of : H → Tables → Type 0) (digest : Octets → Octets)
-    (old new : H) (host : Host (FileStore D g) NoShelf G) (opened : Opened (FileStore D g)) (over : StandsOver without_packs IsIntactOf IsOpenOf (IsSoundHost digest) seen_of left_of new host)
-    (ready : storages.IsReady IsIntactOf IsOpenOf seen_of left_of digest new) (again : IsReopened host opened) (clean : IsCleanAgain opened) where
+module _ {D P G H : Type 0} {g : Ghosts D} (h : Shelves P) (laws : LeavesKept h) (IsIntactOf IsOpenOf : H → Type 0) (seen_of : H → Seen) (left_of : H → Tables → Type 0) (digest : Octets → Octets)
+    (old new : H) (host : Host (FileStore D g) P G) (opened : Opened (FileStore D g)) (packs : Contents) (over : StandsOver h IsIntactOf IsOpenOf (IsSoundHost digest) seen_of left_of new host)
+    (ready : storages.IsReady IsIntactOf IsOpenOf seen_of left_of digest new) (again : IsReopened h host opened) (clean : IsCleanAgain opened) (may : MayFind h host packs) where
   whole : IsIntactOf new
-  whole = over.intact.1 (again.intact clean)
+  whole = over.intact.1 (again.intact clean may.clean)
 
-  host_ready : IsReady digest host
+  host_ready : IsReady h digest host
   host_ready c = let it = ready (over.intact.1 c.0, over.opened.1 c.1) in subst (IsAtRest (IsSoundHost digest)) (over.same it) it
 
-  came : IsOpenOf new → CameBack (seen_of new).now opened
-  came up = subst (λ (s : Seen). CameBack s.now opened) (sym (over.same (ready (whole, up)))) (came_back digest host opened host_ready again clean (over.opened.0 up))
+  came : IsOpenOf new → CameBack packs (seen_of new).now opened
+  came up = subst (λ (s : Seen). CameBack packs s.now opened) (sym (over.same (ready (whole, up)))) (came_back h laws digest host opened packs host_ready again clean may (over.opened.0 up))
 
-  rests : IsOpenOf new → IsAtRest (IsSoundHost digest) (seen_again opened)
+  rests : IsOpenOf new → IsAtRest (IsSoundHost digest) (seen_again packs opened)
   rests up = (came up).rest digest (ready (whole, up)).sound
 
-  merely : storages.AddsSound IsIntactOf IsOpenOf seen_of left_of digest old new → storages.AllLeft IsIntactOf IsOpenOf seen_of left_of (IsSoundHost digest) old → ∥ IsAtRest (IsSoundHost digest) (seen_again opened) ∥₁
-  merely adds were = merely_rests digest host opened host_ready again clean (λ x leaves. elim (adds whole x ((over.leaves x).1 leaves)) [
+  merely : storages.AddsSound IsIntactOf IsOpenOf seen_of left_of digest old new → storages.AllLeft IsIntactOf IsOpenOf seen_of left_of (IsSoundHost digest) old → ∥ IsAtRest (IsSoundHost digest) (seen_again packs opened) ∥₁
+  merely adds were = merely_rests h laws digest host opened packs host_ready again clean may (λ x leaves. elim (adds whole x ((over.leaves x).1 leaves)) [
     | inl before ↦ were x before
     | inr sound ↦ sound
   ])
 
-  found_of : (P : Tables → Type 0) → ((x : Tables) → left_of new x → P x) → ∥ (P (seen_again opened).now ⊎ IsOlder host (seen_again opened).now) ∥₁
-  found_of P says = found digest host opened host_ready again clean P (λ x leaves. says x ((over.leaves x).1 leaves))
+  found_of : (Says : Tables → Type 0) → ((x : Tables) → left_of new x → Says x) → ∥ (Says (seen_again packs opened).now ⊎ IsOlder h host packs (seen_again packs opened).now) ∥₁
+  found_of Says says = found h laws digest host opened packs host_ready again clean may Says (λ x leaves. says x ((over.leaves x).1 leaves))
 
-  leaves : (event : Arrival) (told : Told) → IsApplied IsIntactOf IsOpenOf seen_of left_of event told old new → storages.IsLeftBy IsIntactOf IsOpenOf seen_of left_of (IsOlder host) event told old new (seen_again opened).now
+  leaves : (event : Arrival) (told : Told) → IsApplied IsIntactOf IsOpenOf seen_of left_of event told old new → storages.IsLeftBy IsIntactOf IsOpenOf seen_of left_of (IsOlder h host packs) event told old new (seen_again packs opened).now
   leaves event (None, reply) applied = (
     λ up. (came up).tables ∙ (applied.applied whole up).1,
     found_of (λ x. left_of old x ⊎ (IsOpenOf old × WouldApply event (seen_of old).now x)) (applied.crash whole),
@@ -164,12 +169,12 @@ module _ {D G H : Type 0} {g : Ghosts D} (IsIntactOf IsOpenOf : H → Type 0) (s
       subst (λ (x : Tables). Applied event (seen_of old).now x (Some m) reply) (sym (came did.1).tables) did.2
 
   pub survives : (event : Arrival) (told : Told) → IsApplied IsIntactOf IsOpenOf seen_of left_of event told old new
-      → storages.Survives IsIntactOf IsOpenOf seen_of left_of digest (storages.IsLeftBy IsIntactOf IsOpenOf seen_of left_of (IsOlder host) event told old new) old new (seen_again opened)
+      → storages.Survives IsIntactOf IsOpenOf seen_of left_of digest (storages.IsLeftBy IsIntactOf IsOpenOf seen_of left_of (IsOlder h host packs) event told old new) old new (seen_again packs opened)
   survives event told applied = record { tables = leaves event told applied; rest = rests; merely = merely }
 
   -- a reply went out since
   leaves_since : (event : Arrival) (told : Told) (ended : End) → HasAnswered IsIntactOf IsOpenOf seen_of left_of event told ended old new
-      → storages.IsLeftSince IsIntactOf IsOpenOf seen_of left_of (IsOlder host) event told old new (seen_again opened).now
+      → storages.IsLeftSince IsIntactOf IsOpenOf seen_of left_of (IsOlder h host packs) event told old new (seen_again packs opened).now
   leaves_since event (None, reply) ended did =
       let applied = did.applied whole in
       let was = did.kept.intact whole in (
@@ -187,60 +192,64 @@ module _ {D G H : Type 0} {g : Ghosts D} (IsIntactOf IsOpenOf : H → Type 0) (s
       )
 
   pub survives_since : (event : Arrival) (told : Told) (ended : End) → HasAnswered IsIntactOf IsOpenOf seen_of left_of event told ended old new
-      → storages.Survives IsIntactOf IsOpenOf seen_of left_of digest (storages.IsLeftSince IsIntactOf IsOpenOf seen_of left_of (IsOlder host) event told old new) old new (seen_again opened)
+      → storages.Survives IsIntactOf IsOpenOf seen_of left_of digest (storages.IsLeftSince IsIntactOf IsOpenOf seen_of left_of (IsOlder h host packs) event told old new) old new (seen_again packs opened)
   survives_since event told ended did = record { tables = leaves_since event told ended did; rest = rests; merely = merely }
 
   -- after events that were applied together
   pub all_survive : (events : List Arrival) (tolds : List Told) → storages.HaveApplied IsIntactOf IsOpenOf seen_of left_of events tolds old new
-      → storages.Survives IsIntactOf IsOpenOf seen_of left_of digest (storages.AreLeftBy IsIntactOf IsOpenOf seen_of left_of (IsOlder host) events tolds old new) old new (seen_again opened)
+      → storages.Survives IsIntactOf IsOpenOf seen_of left_of digest (storages.AreLeftBy IsIntactOf IsOpenOf seen_of left_of (IsOlder h host packs) events tolds old new) old new (seen_again packs opened)
   all_survive events tolds applied =
       let ran = applied whole in
-      let x = (seen_again opened).now in
-      let may = found_of (MayRemain events tolds (left_of old) ran.end) ran.crash in
+      let x = (seen_again packs opened).now in
+      let remains = found_of (MayRemain events tolds (left_of old) ran.end) ran.crash in
       record {
         tables = record {
           end = ran.end;
           ran = ran.ran;
           opened = λ up. (came up).tables ∙ ran.now up;
-          acknowledged = remains_last events tolds (left_of old) (seen_of old).now ran.end x (IsOlder host x) ran.ran may;
-          crash = may;
+          acknowledged = remains_last events tolds (left_of old) (seen_of old).now ran.end x (IsOlder h host packs x) ran.ran remains;
+          crash = remains;
         };
         rest = rests;
         merely = merely;
       }
 
 -- a host stands over itself
-itself : {D G : Type 0} {g : Ghosts D} (digest : Octets → Octets) (host : Host (FileStore D g) NoShelf G) → StandsOver without_packs (IsIntact over_files without_packs) (IsOpen over_files without_packs) (IsSoundHost digest) (seen over_files without_packs) (left over_files without_packs) host host
-itself digest host = record { intact = (λ i. i, λ i. i); opened = (λ o. o, λ o. o); leaves = λ x. (λ l. l, λ l. l); same = λ rest. refl }
+itself : {D P G : Type 0} {g : Ghosts D} (h : Shelves P) (digest : Octets → Octets) (host : Host (FileStore D g) P G)
+    → StandsOver h (IsIntact over_files h) (IsOpen over_files h) (IsSoundHost digest) (seen over_files h) (left over_files h) host host
+itself h digest host = record { intact = (λ i. i, λ i. i); opened = (λ o. o, λ o. o); leaves = λ x. (λ l. l, λ l. l); same = λ rest. refl }
 
-pub after_stop : {D G : Type 0} {g : Ghosts D} (digest : Octets → Octets) → AfterStop g G digest
-after_stop digest event told old new opened applied ready again clean =
-    survives (IsIntact over_files without_packs) (IsOpen over_files without_packs) (seen over_files without_packs) (left over_files without_packs) digest old new new opened (itself digest new) ready again clean event told applied
+pub after_stop : {D P G : Type 0} {g : Ghosts D} (h : Shelves P) → LeavesKept h → (digest : Octets → Octets) → AfterStop g h G digest
+after_stop h laws digest event told old new opened packs applied ready again clean may =
+    survives h laws (IsIntact over_files h) (IsOpen over_files h) (seen over_files h) (left over_files h) digest old new new opened packs (itself h digest new) ready again clean may event told applied
 
-pub after_group : {D G : Type 0} {g : Ghosts D} (digest : Octets → Octets) → AfterGroup g G digest
-after_group digest events tolds old new opened applied ready again clean =
-    all_survive (IsIntact over_files without_packs) (IsOpen over_files without_packs) (seen over_files without_packs) (left over_files without_packs) digest old new new opened (itself digest new) ready again clean events tolds applied
+pub after_group : {D P G : Type 0} {g : Ghosts D} (h : Shelves P) → LeavesKept h → (digest : Octets → Octets) → AfterGroup g h G digest
+after_group h laws digest events tolds old new opened packs applied ready again clean may =
+    all_survive h laws (IsIntact over_files h) (IsOpen over_files h) (seen over_files h) (left over_files h) digest old new new opened packs (itself h digest new) ready again clean may events tolds applied
 
-pub after_reply : {D G : Type 0} {g : Ghosts D} (digest : Octets → Octets) → AfterReply g G digest
-after_reply digest event told ended old new opened did ready again clean =
-    survives_since (IsIntact over_files without_packs) (IsOpen over_files without_packs) (seen over_files without_packs) (left over_files without_packs) digest old new new opened (itself digest new) ready again clean event told ended did
+pub after_reply : {D P G : Type 0} {g : Ghosts D} (h : Shelves P) → LeavesKept h → (digest : Octets → Octets) → AfterReply g h G digest
+after_reply h laws digest event told ended old new opened packs did ready again clean may =
+    survives_since h laws (IsIntact over_files h) (IsOpen over_files h) (seen over_files h) (left over_files h) digest old new new opened packs (itself h digest new) ready again clean may event told ended did
 
 -- ---- after one on a host that is served
 
-pub after_kept_stop : {D G K : Type 0} {g : Ghosts D} {d : digester.Ghosts G} {k : size.Ghosts K} (digest : Octets → Octets) (s : storage.Ghosts (KeptHost D NoShelf G K g without_packs d k)) → s.IsSoundStore ≡ IsSoundHost digest → KeptStandsOver without_packs s → AfterKeptStop digest s
-after_kept_stop digest s sound stands event told old new it opened applied stays is again clean =
-    survives s.IsIntact s.IsOpen s.seen s.left digest old new it.storage.host opened
-    (subst (λ (P : Tables → Type 0). StandsOver without_packs s.IsIntact s.IsOpen P s.seen s.left new it.storage.host) sound (stands new it is))
-    (subst (λ (P : Tables → Type 0). s.IsIntact new × s.IsOpen new → IsAtRest P (s.seen new)) sound stays.ready) again clean event told applied
+pub after_kept_stop : {D P G K : Type 0} {g : Ghosts D} (h : Shelves P) → LeavesKept h → {d : digester.Ghosts G} {k : size.Ghosts K} (digest : Octets → Octets) (s : storage.Ghosts (KeptHost D P G K g h d k)) → s.IsSoundStore ≡ IsSoundHost digest
+    → KeptStandsOver h s → AfterKeptStop digest s
+after_kept_stop h laws digest s sound stands event told old new it opened packs did stays is again clean may =
+    survives h laws s.IsIntact s.IsOpen s.seen s.left digest old new it.storage.host opened packs
+    (subst (λ (Sound : Tables → Type 0). StandsOver h s.IsIntact s.IsOpen Sound s.seen s.left new it.storage.host) sound (stands new it is))
+    (subst (λ (Sound : Tables → Type 0). s.IsIntact new × s.IsOpen new → IsAtRest Sound (s.seen new)) sound stays.ready) again clean may event told did
 
-pub after_kept_reply : {D G K : Type 0} {g : Ghosts D} {d : digester.Ghosts G} {k : size.Ghosts K} (digest : Octets → Octets) (s : storage.Ghosts (KeptHost D NoShelf G K g without_packs d k)) → s.IsSoundStore ≡ IsSoundHost digest → KeptStandsOver without_packs s → AfterKeptReply digest s
-after_kept_reply digest s sound stands event told ended old new it opened did stays is again clean =
-    survives_since s.IsIntact s.IsOpen s.seen s.left digest old new it.storage.host opened
-    (subst (λ (P : Tables → Type 0). StandsOver without_packs s.IsIntact s.IsOpen P s.seen s.left new it.storage.host) sound (stands new it is))
-    (subst (λ (P : Tables → Type 0). s.IsIntact new × s.IsOpen new → IsAtRest P (s.seen new)) sound stays.ready) again clean event told ended did
+pub after_kept_reply : {D P G K : Type 0} {g : Ghosts D} (h : Shelves P) → LeavesKept h → {d : digester.Ghosts G} {k : size.Ghosts K} (digest : Octets → Octets) (s : storage.Ghosts (KeptHost D P G K g h d k)) → s.IsSoundStore ≡ IsSoundHost digest
+    → KeptStandsOver h s → AfterKeptReply digest s
+after_kept_reply h laws digest s sound stands event told ended old new it opened packs did stays is again clean may =
+    survives_since h laws s.IsIntact s.IsOpen s.seen s.left digest old new it.storage.host opened packs
+    (subst (λ (Sound : Tables → Type 0). StandsOver h s.IsIntact s.IsOpen Sound s.seen s.left new it.storage.host) sound (stands new it is))
+    (subst (λ (Sound : Tables → Type 0). s.IsIntact new × s.IsOpen new → IsAtRest Sound (s.seen new)) sound stays.ready) again clean may event told ended did
 
-pub after_kept_group : {D G K : Type 0} {g : Ghosts D} {d : digester.Ghosts G} {k : size.Ghosts K} (digest : Octets → Octets) (s : storage.Ghosts (KeptHost D NoShelf G K g without_packs d k)) → s.IsSoundStore ≡ IsSoundHost digest → KeptStandsOver without_packs s → AfterKeptGroup digest s
-after_kept_group digest s sound stands events tolds old new it opened applied stays is again clean =
-    all_survive s.IsIntact s.IsOpen s.seen s.left digest old new it.storage.host opened
-    (subst (λ (P : Tables → Type 0). StandsOver without_packs s.IsIntact s.IsOpen P s.seen s.left new it.storage.host) sound (stands new it is))
-    (subst (λ (P : Tables → Type 0). s.IsIntact new × s.IsOpen new → IsAtRest P (s.seen new)) sound stays.ready) again clean events tolds applied
+pub after_kept_group : {D P G K : Type 0} {g : Ghosts D} (h : Shelves P) → LeavesKept h → {d : digester.Ghosts G} {k : size.Ghosts K} (digest : Octets → Octets) (s : storage.Ghosts (KeptHost D P G K g h d k)) → s.IsSoundStore ≡ IsSoundHost digest
+    → KeptStandsOver h s → AfterKeptGroup digest s
+after_kept_group h laws digest s sound stands events tolds old new it opened packs did stays is again clean may =
+    all_survive h laws s.IsIntact s.IsOpen s.seen s.left digest old new it.storage.host opened packs
+    (subst (λ (Sound : Tables → Type 0). StandsOver h s.IsIntact s.IsOpen Sound s.seen s.left new it.storage.host) sound (stands new it is))
+    (subst (λ (Sound : Tables → Type 0). s.IsIntact new × s.IsOpen new → IsAtRest Sound (s.seen new)) sound stays.ready) again clean may events tolds did

@@ -1,9 +1,9 @@
 -- From a crash to the host that is opened after it.
 use mathlib.Core.HLevel.{⊥_prop}
-use Rattle.std.proofs.Common.{◌≡◌, inl, inr, ℕ, ◌≤◌, zero, suc, true, IsTrue, List, [], ◌∷◌, map, length, refl, sym, ap, subst, ◌∙◌, arith}
+use Rattle.std.proofs.Common.{◌≡◌, ◌⊎◌, inl, inr, ℕ, ◌≤◌, zero, suc, true, cond, IsTrue, List, [], ◌∷◌, map, length, refl, sym, ap, subst, ◌∙◌, arith}
 use Rattle.std.specs.List.{list_all}
 use Rattle.std.proofs.Math.Logic.{∥∥₁_elim, ∥∥₁_map}
-use Rattle.std.proofs.lemmas.Bool.{and_parts, eqb-true}
+use Rattle.std.proofs.lemmas.Bool.{cases_Bool, and_parts, eqb-true}
 use Rattle.sqlite_disk.specs.declared.Disk.{Ghosts}
 use Rattle.sqlite_store.specs.declared.store.FileStore.{FileStore}
 use Rattle.sqlite.specs.Effect.{Database, IsDatabase}
@@ -16,16 +16,20 @@ use Rattle.bh_types.specs.Limits.{HostLimits, AreLimits}
 use Rattle.bh_types.specs.declared.block_digest.BlockDigest.{BlockDigest}
 use Rattle.bh_types.specs.declared.block_digest.BlockDigest.TheVariants.{Sha256, Fast}
 use Rattle.bh_model.specs.State.{Octets}
-use Rattle.bh_tables.specs.Hosts.{is_of_version, with_version, tables_opened}
+use Rattle.bh_shelf.specs.Contents.{Contents}
+use Rattle.bh_tables.specs.Hosts.{is_of_version, with_version, tables_shown, tables_opened}
 use Rattle.bh_tables.specs.Schema.{host_schema}
 use Rattle.bh_tables.specs.Typed.{HostRow, Tables, tables_in, first_tables_in}
-use Rattle.bh_tables.proofs.HostTests.{host_opens, first_opens, second_opens, third_opens, fourth_opens, opened_host}
+use Rattle.bh_tables.proofs.HostTests.{host_opens, first_opens, second_opens, third_opens, fourth_opens, opened_host, others_open, other_schema, unlike_second, unlike_third, unlike_fourth}
 use Rattle.bh_view.specs.Bodies.{IsSoundHost}
 use Rattle.bh_view.specs.View.{latest_of}
 use Rattle.bh_storage.specs.Calls.{IsAtRest}
 use Rattle.bh_base.specs.Layer.{standing, IsIntact, IsOpen, IsStateClean, Leaves, KeepsDisk}
+use Rattle.bh_base.specs.Placed.{filled}
 use Rattle.bh_schema.proofs.Committing.{same_database}
+use Rattle.bh_schema.proofs.Storing.{sound_host}
 use Rattle.bh_open.specs.Opening.{digest_in, IsRowOf, IsHostOf}
+use Rattle.bh_open.specs.Packed.{is_earlier_host, tables_beside}
 use Rattle.bh_open.specs.Versions.{IsHostsSchema, IsTypedIfEarlier}
 use Rattle.bh_open.specs.declared.found.HostVersion.TheVariants.{First, Second, Third, Fourth, Fifth}
 use Rattle.bh_open.specs.declared.open.Opened.{Opened}
@@ -33,20 +37,18 @@ use Rattle.bh_again.specs.Stops.{seen_again, IsCleanAgain, ComesBack}
 
 -- ---- a host that was opened, once its database is known
 
-module _ {D : Type 0} {g : Ghosts D} (opened : Opened (FileStore D g)) (clean : IsCleanAgain opened) (db : Database)
+module _ {D : Type 0} {g : Ghosts D} (packs : Contents) (opened : Opened (FileStore D g)) (clean : IsCleanAgain opened) (db : Database)
     (schema : IsHostsSchema db.schema)
-    (unplaced : db.schema ≡ host_schema → db.trees 34 ≡ [])
-    (shows : IsCleanAgain opened → IsTypedIfEarlier db → (seen_again opened).now ≡ tables_opened db)
-    (rest : (digest : Octets → Octets) → IsCleanAgain opened → IsTypedIfEarlier db → IsSoundHost digest (seen_again opened).now → IsAtRest (IsSoundHost digest) (seen_again opened))
-    (latest : (digest : Octets → Octets) → IsCleanAgain opened → IsTypedIfEarlier db → IsSoundHost digest (seen_again opened).now → opened.latest ≡ latest_of (seen_again opened).now)
-    (named : (digest : Octets → Octets) → IsCleanAgain opened → IsTypedIfEarlier db → IsSoundHost digest (seen_again opened).now → digest_number opened.digest ≡ digest_in (seen_again opened).now) where
-  comes : ComesBack db opened
+    (shows : IsCleanAgain opened → IsTypedIfEarlier db → (seen_again packs opened).now ≡ tables_beside packs db)
+    (rest : (digest : Octets → Octets) → IsCleanAgain opened → IsTypedIfEarlier db → IsSoundHost digest (seen_again packs opened).now → IsAtRest (IsSoundHost digest) (seen_again packs opened))
+    (latest : (digest : Octets → Octets) → IsCleanAgain opened → IsTypedIfEarlier db → IsSoundHost digest (seen_again packs opened).now → opened.latest ≡ latest_of (seen_again packs opened).now)
+    (named : (digest : Octets → Octets) → IsCleanAgain opened → IsTypedIfEarlier db → IsSoundHost digest (seen_again packs opened).now → digest_number opened.digest ≡ digest_in (seen_again packs opened).now) where
+  comes : ComesBack packs db opened
   comes = record {
     schema = schema;
-    unplaced = unplaced;
     came_back = λ typed.
         let is = shows clean typed in
-        let here : (digest : Octets → Octets) → IsSoundHost digest (tables_opened db) → IsSoundHost digest (seen_again opened).now = λ digest sound. subst (IsSoundHost digest) (sym is) sound in
+        let here : (digest : Octets → Octets) → IsSoundHost digest (tables_beside packs db) → IsSoundHost digest (seen_again packs opened).now = λ digest sound. subst (IsSoundHost digest) (sym is) sound in
         record {
           tables = is;
           rest = λ digest sound. rest digest clean typed (here digest sound);
@@ -55,8 +57,8 @@ module _ {D : Type 0} {g : Ghosts D} (opened : Opened (FileStore D g)) (clean : 
         };
   }
 
-  pub comes_back : (it : Database) → db ≡ it → ComesBack it opened
-  comes_back it is = subst (λ (x : Database). ComesBack x opened) is comes
+  pub comes_back : (it : Database) → db ≡ it → ComesBack packs it opened
+  comes_back it is = subst (λ (x : Database). ComesBack packs x opened) is comes
 
 -- ---- what a crash leaves of a connection that no fault has shut
 
@@ -160,11 +162,31 @@ hosts_database digest db sound =
       ]
     ]
 
--- so they aren't refused as none
-pub never_none : (digest : Octets → Octets) (old mid : State) → ∥ old.may_leave mid.committed.trees ∥₁ → Opens mid × IsLive mid → ((db : Database) → Leaves old db.trees × IsDatabase db → IsSoundHost digest (tables_opened db))
-    → ((limits : HostLimits) → ¬ IsHostOf limits (standing mid).now) → ⊥
+-- one of the present version opens as it is
+pub present_opens : (db : Database) → db.schema ≡ host_schema → tables_opened db ≡ tables_shown db
+present_opens db is = others_open db (other_schema db is) (unlike_second db is) (unlike_third db is) (unlike_fourth db is)
+
+-- so beside packs they are a host's, or, with the bytes of these, a host's
+beside_database : (digest : Octets → Octets) (packs : Contents) (db : Database) → IsSoundHost digest (tables_beside packs db)
+    → ((limits : HostLimits) × IsHostOf limits db) ⊎ ((limits : HostLimits) × IsHostOf limits (filled packs db))
+unfolding tables_beside
+beside_database digest packs db sound = elim (cases_Bool (is_earlier_host db)) [
+  | inl earlier ↦ inl (hosts_database digest db (subst (λ b. IsSoundHost digest (cond b (tables_opened db) (tables_shown (filled packs db)))) earlier sound))
+  | inr present ↦
+      let here : IsSoundHost digest (tables_shown (filled packs db)) = subst (λ b. IsSoundHost digest (cond b (tables_opened db) (tables_shown (filled packs db)))) present sound in
+      let opens = present_opens (filled packs db) (sound_host (filled packs db) here.sound).schema in
+      inr (hosts_database digest (filled packs db) (subst (IsSoundHost digest) (sym opens) here))
+]
+
+-- and they aren't refused as none
+pub never_none : (digest : Octets → Octets) (packs : Contents) (old mid : State) → ∥ old.may_leave mid.committed.trees ∥₁ → Opens mid × IsLive mid
+    → ((db : Database) → Leaves old db.trees × IsDatabase db → IsSoundHost digest (tables_beside packs db))
+    → ((limits : HostLimits) → ¬ IsHostOf limits (standing mid).now) → ((limits : HostLimits) → ¬ IsHostOf limits (filled packs (standing mid).now)) → ⊥
 unfolding Leaves standing
-never_none digest old mid left opens sound none = ∥∥₁_elim left ⊥_prop (λ may.
+never_none digest packs old mid left opens sound none without = ∥∥₁_elim left ⊥_prop (λ may.
     let was = sound mid.committed (may, (opens.1 opens.0.is_open).1) in
-    let it = hosts_database digest mid.now (subst (λ (db : Database). IsSoundHost digest (tables_opened db)) (sym opens.0.clean) was) in
-    none it.0 it.1)
+    let it = beside_database digest packs mid.now (subst (λ (db : Database). IsSoundHost digest (tables_beside packs db)) (sym opens.0.clean) was) in
+    elim it [
+      | inl host ↦ none host.0 host.1
+      | inr host ↦ without host.0 host.1
+    ])

@@ -1,4 +1,5 @@
 mod Restart
+mod Packs
 mod Back
 mod Remaining
 mod After

@@ -1,3 +1,4 @@
 pub mod Copies
 pub mod Leftovers
 pub mod Names
+pub mod Packs

@@ -1,4 +1,5 @@
 use bh_file::OpenFault;
+use bh_packs::trouble::Trouble;
 use sqlite::Error;
 use std::alloc::AllocError;
 use std::{fmt, io};
@@ -8,11 +9,13 @@ use std::{fmt, io};
 pub enum BackupFault {
     /// Memory ran out.
     Memory,
-    /// The name ends as that of a file beside a host's: `-wal`, `-journal`, `.partial` or `.moving`.
+    /// The name ends as that of a file beside a host's: `-wal`, `-journal`, `.partial`, `.moving` or
+    /// `.packs`.
     Reserved,
     /// The name is taken: no file is overwritten.
     Taken,
-    /// There is a log or a journal at the place of the copy's own, which would be read with it.
+    /// There is a log, a journal or a folder of packs at the place of the copy's own, which would be read
+    /// with it.
     Beside,
     /// The `.partial` file, in which it is written, can't be opened.
     Unopened(OpenFault),
@@ -25,6 +28,10 @@ pub enum BackupFault {
     Unmoved(OpenFault),
     /// The log of the host's file can't be copied into the file.
     Log(Error),
+    /// The packs of the host can't be copied.
+    Packs(Trouble),
+    /// There is a `.partial.packs` that no backup left.
+    ForeignPacks,
     /// The host's file can't be read, or the backup can't be written, synced or renamed.
     System(io::Error),
     /// It is complete, but its directory can't be synced: after a crash it may be gone.
@@ -48,11 +55,11 @@ impl fmt::Display for BackupFault {
         match self {
             BackupFault::Memory => f.write_str("out of memory"),
             BackupFault::Reserved => f.write_str(
-                "the name ends in -wal, -journal, .partial or .moving, which name files beside a host: choose another",
+                "the name ends in -wal, -journal, .partial, .moving or .packs, which name files beside a host: choose another",
             ),
             BackupFault::Taken => f.write_str("the file exists already"),
             BackupFault::Beside => {
-                f.write_str("a log or a journal of that name exists already: remove it")
+                f.write_str("a log, a journal or packs of that name exist already: remove them")
             }
             BackupFault::Unopened(reason) => {
                 write!(f, "unable to open its .partial file: {reason}")
@@ -69,6 +76,12 @@ impl fmt::Display for BackupFault {
             BackupFault::Log(error) => {
                 write!(f, "unable to copy the host's log into its file: {error}")
             }
+            BackupFault::Packs(trouble) => {
+                write!(f, "unable to copy the host's packs: {trouble}")
+            }
+            BackupFault::ForeignPacks => f.write_str(
+                "its .partial.packs is no folder of packs that a backup left: remove it",
+            ),
             BackupFault::System(error) => write!(f, "{error}"),
             BackupFault::Unsettled(error) => write!(
                 f,

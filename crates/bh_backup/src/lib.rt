@@ -1,4 +1,4 @@
-//! Backups: copies of a host's file in a new file.
+//! Backups: copies of a host's file in a new file, and of its packs beside it.
 #![tactic(auto)]
 
 mod connections;
@@ -7,6 +7,7 @@ mod fault;
 pub mod laws;
 mod leftovers;
 mod names;
+mod packs;
 mod saving;
 
 pub use connections::back_up;
@@ -14,4 +15,4 @@ pub use disks::copy_disk;
 pub use fault::BackupFault;
 pub use leftovers::{made_here, refuse_foreign};
 pub use names::refuse_taken;
-pub use saving::{Saved, save, save_files};
+pub use saving::{HostCopy, Saved, save, save_files};

@@ -155,7 +155,23 @@ fn read_part<S: Alter, P: Shelf>(
     }
     let whole = block_bytes(connection, &block.digest, block.ord)?;
     keep_bytes(cache, alloc, block, &whole);
-    copied(alloc, part_of(&whole, window))
+    cut_to(alloc, whole, window)
+}
+
+/// The part of a block's bytes in a window. There must be some. Where it begins with the first byte, nothing is copied.
+fn cut_to(alloc: Global, whole: Vec<u8>, window: Window) -> Result<Vec<u8>, Error>
+    ensures some { IfOk result (λ bytes. 0 < length bytes.items) }
+    ensures bytes { IfOk result (λ bytes. bytes.items ≡ seen_in window whole.items) }
+{
+    if window.skip > 0 {
+        return copied(alloc, part_of(&whole, window));
+    }
+    let mut bytes = whole;
+    bytes.truncate(window.left as usize);
+    if bytes.is_empty() {
+        return Err(Error::SqliteFailure(ErrorCode::DatabaseCorrupt));
+    }
+    Ok(bytes)
 }
 
 /// A copy of bytes. There must be some.

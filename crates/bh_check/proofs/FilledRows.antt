@@ -14,7 +14,7 @@ use Rattle.bh_tables.specs.Schema.{Octets}
 use Rattle.bh_tables.specs.Bodies.{Name, block_name}
 use Rattle.bh_tables.specs.Rows.{BlockRow, PlaceRow, block_of, block_form, number}
 use Rattle.bh_tables.specs.Packs.{place_at, is_place, places_in, packs_in}
-use Rattle.bh_check.specs.Awaits.{HasSizes}
+use Rattle.bh_check.specs.Awaits.{HasReached}
 use Rattle.bh_base.specs.Placed.{with_blob, put_bytes, put_in, filled_row, below, filled_trees}
 use Rattle.bh_base.proofs.Filling.{IsHad, first_has}
 use Rattle.bh_base.proofs.Placing.{below_is}
@@ -31,7 +31,7 @@ fit_each : (rows : List Row) → AllByRecursion IsBlock rows → list_all (is_fi
 fit_each [] all = refl
 fit_each (r ∷ rows) all = both_true (subst (λ l. is_fit block_kinds l ≡ true) (sym all.0) refl) (fit_each rows all.1)
 
-module _ (packs : Contents) (d : Trees) (sizes : HasSizes packs (places_in d)) where
+module _ (packs : Contents) (d : Trees) (sizes : HasReached packs (packs_in d) (places_in d)) where
   abbrev here : Contents
   here = below (packs_in d) packs
 
@@ -44,14 +44,14 @@ module _ (packs : Contents) (d : Trees) (sizes : HasSizes packs (places_in d)) w
   row_filled : (q : Name) (place : Option PlaceRow) → place_at (places_in d) q ≡ place → (r f : Row) → IsBlock r → IsFilled (packs_in d) packs place r f → IsOne place r f
   row_filled q None found r f block is = (is, tt)
   row_filled q (Some p) found r f block is =
-      let size = sizes p (first_has (is_place q) (places_in d) p found) in
+      let size = sizes p (first_has (is_place q) (places_in d) p found) is.0 is.2 in
       let bytes : Octets = size.0 in
-      let there : here p.pack p.offset p.size ≡ Some bytes = below_is (packs_in d) packs p.pack p.offset p.size bytes is.1 size.1 size.2 in
-      let whole : r ≡ Int (id_in (rowid r)) ∷ Blob (block_of r).digest ∷ number (block_of r).ord ∷ Blob [] ∷ [] = block ∙ ap (λ o. Int (id_in (rowid r)) ∷ Blob (block_of r).digest ∷ number (block_of r).ord ∷ Blob o ∷ []) is.0 in
+      let there : here p.pack p.offset p.size ≡ Some bytes = below_is (packs_in d) packs p.pack p.offset p.size bytes is.2 size.1 size.2 in
+      let whole : r ≡ Int (id_in (rowid r)) ∷ Blob (block_of r).digest ∷ number (block_of r).ord ∷ Blob [] ∷ [] = block ∙ ap (λ o. Int (id_in (rowid r)) ∷ Blob (block_of r).digest ∷ number (block_of r).ord ∷ Blob o ∷ []) is.1 in
       let put : put_in here (Some p) r ≡ Int (id_in (rowid r)) ∷ Blob (block_of r).digest ∷ number (block_of r).ord ∷ Blob bytes ∷ [] = ap (λ o. put_bytes o r) there ∙ ap (with_blob bytes) whole in
       let columns : column r 0 ∷ column r 1 ∷ column r 2 ∷ Blob bytes ∷ [] ≡ Int (id_in (rowid r)) ∷ Blob (block_of r).digest ∷ number (block_of r).ord ∷ Blob bytes ∷ [] =
       ap (λ (l : Row). column l 0 ∷ column l 1 ∷ column l 2 ∷ Blob bytes ∷ []) whole in
-      (is.2 bytes size.1 size.2 ∙ columns ∙ sym put, record { own = is.0; bytes = bytes; there = there })
+      (is.3 bytes size.1 size.2 ∙ columns ∙ sym put, record { own = is.1; bytes = bytes; there = there })
 
   rows_filled : (rows fs : List Row) → AllByRecursion IsBlock rows → AreFilled (packs_in d) packs (places_in d) rows fs → (fs ≡ map (filled_row here (places_in d)) rows) × AllByRecursion (λ r. IsHad here (at r) (block_of r)) rows
   rows_filled [] [] all is = (refl, tt)

@@ -8,11 +8,15 @@ use Rattle.sqlite_schema.specs.declared.schema.Schema.{Schema}
 use Rattle.sqlite_trees.specs.View.{IsClean, IsRolledBack, doubt}
 use Rattle.sqlite_trees.specs.declared.store.Store.{Ghosts}
 use Rattle.bh_shelf.specs.Contents.{Contents}
+use Rattle.bh_rows.specs.Form.{AreRows}
 use Rattle.bh_tables.specs.Hosts.{tables_opened}
-use Rattle.bh_tables.specs.Packs.{places_in}
+use Rattle.bh_tables.specs.Packs.{packs_in, places_in}
+use Rattle.bh_tables.specs.Rows.{pack_form}
 use Rattle.bh_tables.specs.Schema.{Octets, first_schema, second_schema, third_schema, fourth_schema, host_schema}
 use Rattle.bh_view.specs.Bodies.{IsSoundHost}
-use Rattle.bh_check.specs.Awaits.{HasSizes}
+use Rattle.bh_open.specs.Packed.{tables_beside}
+use Rattle.bh_check.specs.Awaits.{HasReached}
+use Rattle.bh_check.proofs.ListedPacks.{opened_beside}
 use Rattle.bh_base.specs.Layer.{IsStateClean, IsIntact, IsOpen}
 use Rattle.bh_base.specs.Placed.{filled_trees, filled}
 use Rattle.bh_stored.specs.Stored.{seen}
@@ -44,7 +48,7 @@ module _ {S : Type 0} (g : Ghosts S) (connection : Held S) (bare last : S) (edit
   was_clean : IsClean (g.view connection.store)
   was_clean = omega (arith, less, bare_clean)
 
-  state_clean : IsStateClean (state g connection)
+  pub state_clean : IsStateClean (state g connection)
   unfolding IsIntact IsOpen
   state_clean = record { intact = was_clean; is_open = was_open }
 
@@ -65,15 +69,19 @@ module _ {S : Type 0} (g : Ghosts S) (connection : Held S) (bare last : S) (edit
       let sound : IsSoundHost digest (tables_opened (record { schema = schema_of edition; trees = trees })) = makes_sound edition digest trees database (subst (λ (t : Trees). IsChecked edition digest (seen edition t)) same_trees (checked clean)) in
       (state_clean, subst (λ (s : Schema). IsSoundHost digest (tables_opened (record { schema = s; trees = trees }))) (sym schema_is) sound)
 
+  -- rows that are typed in the store that is left are so in the connection's
+  pub typed_left : (IsClean (g.view last) → AreRows pack_form ((g.view bare).trees 32)) → AreRows pack_form ((state g connection).now.trees 32)
+  typed_left typed = subst (λ (t : Trees). AreRows pack_form (t 32)) same_trees (typed clean)
+
   -- with the bytes of packs
-  pub judged_with : edition ≡ Fifth → (digest : Octets → Octets) (packs : Contents) → (IsClean (g.view last) → IsDatabase (record { schema = host_schema; trees = (g.view bare).trees }) → HasSizes packs (places_in (g.view bare).trees) → IsChecked Fifth digest (filled_trees packs (g.view bare).trees))
-      → HasSizes packs (places_in (state g connection).now.trees) → IsStateClean (state g connection) × IsSoundHost digest (tables_opened (filled packs (state g connection).now))
+  pub judged_with : edition ≡ Fifth → (digest : Octets → Octets) (packs : Contents) → (IsClean (g.view last) → IsDatabase (record { schema = host_schema; trees = (g.view bare).trees }) → HasReached packs (packs_in (g.view bare).trees) (places_in (g.view bare).trees) → IsChecked Fifth digest (filled_trees packs (g.view bare).trees))
+      → HasReached packs (packs_in (state g connection).now.trees) (places_in (state g connection).now.trees) → IsStateClean (state g connection) × IsSoundHost digest (tables_beside packs (state g connection).now)
   judged_with fifth digest packs checked sizes =
       let is : (state g connection).now.schema ≡ host_schema = schema_is ∙ ap schema_of fifth in
       let whole : IsDatabase (record { schema = host_schema; trees = trees }) = subst (λ (e : Edition). IsDatabase (record { schema = schema_of e; trees = trees })) fifth database in
-      let all : IsDatabase (record { schema = host_schema; trees = trees }) → HasSizes packs (places_in trees) → IsChecked Fifth digest (filled_trees packs trees) =
-      subst (λ (t : Trees). IsDatabase (record { schema = host_schema; trees = t }) → HasSizes packs (places_in t) → IsChecked Fifth digest (filled_trees packs t)) same_trees (checked clean) in
-      (state_clean, subst (λ (s : Schema). IsSoundHost digest (tables_opened (record { schema = s; trees = filled_trees packs trees }))) (sym is) (filled_sound trees whole digest packs (all whole sizes)))
+      let all : IsDatabase (record { schema = host_schema; trees = trees }) → HasReached packs (packs_in trees) (places_in trees) → IsChecked Fifth digest (filled_trees packs trees) =
+      subst (λ (t : Trees). IsDatabase (record { schema = host_schema; trees = t }) → HasReached packs (packs_in t) (places_in t) → IsChecked Fifth digest (filled_trees packs t)) same_trees (checked clean) in
+      (state_clean, subst (IsSoundHost digest) (opened_beside packs (state g connection).now is) (subst (λ (s : Schema). IsSoundHost digest (tables_opened (record { schema = s; trees = filled_trees packs trees }))) (sym is) (filled_sound trees whole digest packs (all whole sizes))))
 
 pub sound_left : {S : Type 0} (g : Ghosts S) (connection : Held S) (bare last : S) (edition : Edition) (digest : Octets → Octets) → (IsStateClean (state g connection) → ((state g connection).now.schema ≡ first_schema) ⊎ (((state g connection).now.schema ≡ second_schema) ⊎ (((state g connection).now.schema ≡ third_schema) ⊎ (((state g connection).now.schema ≡ fourth_schema) ⊎ ((state g connection).now.schema ≡ host_schema)))))
     → edition ≡ edition_with (length (state g connection).now.schema.tables) → IsLive (state g connection)

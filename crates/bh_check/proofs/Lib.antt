@@ -30,4 +30,5 @@ mod BucketNames
 mod SoundLocks
 mod Sound
 mod FilledSound
+mod ListedPacks
 mod LeftSound

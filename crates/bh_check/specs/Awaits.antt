@@ -1,17 +1,22 @@
 -- A database whose blocks have bytes in packs, without the packs.
-use Rattle.std.specs.Prelude.{◌≡◌, List, length, replicate, Some}
+use Rattle.std.specs.Prelude.{◌≡◌, ◌+◌, ◌<◌, true, List, length, replicate, Some}
 use Rattle.sqlite.specs.Effect.{Database}
 use Rattle.sqlite_rules.specs.Lists.{Has}
 use Rattle.bh_shelf.specs.Contents.{Contents}
 use Rattle.bh_tables.specs.Schema.{Octets}
-use Rattle.bh_tables.specs.Packs.{places_in}
-use Rattle.bh_tables.specs.Rows.{PlaceRow}
+use Rattle.bh_tables.specs.Packs.{places_in, is_reached}
+use Rattle.bh_tables.specs.Rows.{PlaceRow, PackRow}
 use Rattle.bh_tables.specs.Typed.{IsHost}
 use Rattle.bh_base.specs.Placed.{filled}
 
 -- packs have, at each of these places, as many bytes as its size says
 abbrev pub HasSizes : Contents → List PlaceRow → Type 0
 HasSizes packs places = (p : PlaceRow) → Has places p
+    → (bytes : Octets) × (packs p.pack p.offset p.size ≡ Some bytes) × (p.size ≡ length bytes)
+
+-- the same at each of them that has some and ends below its pack's length, by these rows
+abbrev pub HasReached : Contents → List PackRow → List PlaceRow → Type 0
+HasReached packs rows places = (p : PlaceRow) → Has places p → 0 < p.size → is_reached rows p.pack (p.offset + p.size) ≡ true
     → (bytes : Octets) × (packs p.pack p.offset p.size ≡ Some bytes) × (p.size ≡ length bytes)
 
 -- zeros at any place

@@ -1,5 +1,5 @@
 -- Blocks' rows with the bytes of their places in packs.
-use Rattle.std.specs.Prelude.{◌≡◌, ◌+◌, true, List, [], ◌∷◌, length, Option, Some, None, IsTrue}
+use Rattle.std.specs.Prelude.{◌≡◌, ◌+◌, ◌<◌, true, List, [], ◌∷◌, length, Option, Some, None, IsTrue}
 use Rattle.std.specs.List.{AllZip}
 use Rattle.sqlite.specs.declared.types.Value.TheVariants.{Blob}
 use Rattle.sqlite.specs.Order.{Row, column}
@@ -23,9 +23,9 @@ pub record ReadsPacks {P : Type 0} (h : Shelves P) (old new : P) : Type 0 where
   pub clean : IsTrue (h.is_clean new) → IsTrue (h.is_clean old)
   pub seen : IsTrue (h.is_clean new) → h.seen new ≡ h.seen old
 
--- a block's row with the bytes of a place: it has none of its own, and the place ends below its pack's length
+-- a block's row with the bytes of a place: the place has some, the row none of its own, and the place ends below its pack's length
 abbrev pub IsFilledFrom : List PackRow → Contents → PlaceRow → Row → Row → Type 0
-IsFilledFrom rows packs p row filled = (bytes_of (column row 3) ≡ []) × (is_reached rows p.pack (p.offset + p.size) ≡ true)
+IsFilledFrom rows packs p row filled = (0 < p.size) × (bytes_of (column row 3) ≡ []) × (is_reached rows p.pack (p.offset + p.size) ≡ true)
     × ((bytes : Octets) → packs p.pack p.offset p.size ≡ Some bytes → p.size ≡ length bytes
     → filled ≡ column row 0 ∷ column row 1 ∷ column row 2 ∷ Blob bytes ∷ [])
 

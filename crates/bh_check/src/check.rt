@@ -1,18 +1,23 @@
 //! The check of a host's tables.
 
-ghost use Rattle.std.specs.Prelude.{◌≡◌, ◌⊎◌, None, OnOk, IfOk, IsTrue};
+ghost use Rattle.std.specs.Prelude.{◌≡◌, ◌⊎◌, map, None, OnOk, IfOk, IsTrue};
 ghost use Rattle.std.specs.List.{AllByRecursion};
 ghost use Rattle.sqlite.specs.Effect.{IsDatabase};
 ghost use Rattle.sqlite.specs.Tree.{Trees};
 ghost use Rattle.sqlite.specs.Held.{state};
 ghost use Rattle.sqlite_trees.specs.View.{IsClean};
+ghost use Rattle.bh_rows.specs.Form.{AreRows};
 ghost use Rattle.bh_tables.specs.Hosts.{tables_opened};
-ghost use Rattle.bh_tables.specs.Packs.{places_in};
+ghost use Rattle.bh_tables.specs.Packs.{packs_in, places_in};
+ghost use Rattle.bh_tables.specs.Rows.{pack_form};
 ghost use Rattle.bh_tables.specs.Schema.{Octets, first_schema, second_schema, third_schema, fourth_schema, host_schema};
 ghost use Rattle.bh_view.specs.Bodies.{IsSoundHost};
-ghost use Rattle.bh_check.specs.Awaits.{HasSizes};
+ghost use Rattle.bh_shelf.specs.Contents.{Contents};
+ghost use Rattle.bh_shelf.specs.Listed.{HasListed};
 ghost use Rattle.bh_base.specs.Layer.{IsStateClean};
-ghost use Rattle.bh_base.specs.Placed.{filled_trees, filled};
+ghost use Rattle.bh_base.specs.Placed.{filled_trees};
+ghost use Rattle.bh_open.specs.Packed.{tables_beside, listed_of};
+ghost use Rattle.bh_check.specs.Awaits.{HasReached};
 ghost use Rattle.bh_stored.specs.Fits.{AreAllFit};
 ghost use Rattle.bh_stored.specs.Stored.{seen, AreStoredIn};
 ghost use Rattle.bh_stored.specs.Stores.{KeepsTrees};
@@ -355,9 +360,10 @@ fn check_filled<S: Store, P: Shelf, D: Digester, W: Watch>(
 ) -> Result<(), Stop>
     ensures keeps { OnOk result (KeepsTrees (S.view store.old) (S.view store.new)) }
     ensures reads { ReadsPacks P.Shelf packs.old packs.new }
+    ensures typed { OnOk result (IsClean (S.view store.new) → AreRows pack_form ((S.view store.old).trees 32)) }
     ensures checked { OnOk result (IsClean (S.view store.new) → IsTrue (P.Shelf.is_clean packs.new)
         → IsDatabase (record { schema = host_schema; trees = (S.view store.old).trees })
-        → HasSizes (P.Shelf.seen packs.old) (places_in (S.view store.old).trees)
+        → HasReached (P.Shelf.seen packs.old) (packs_in (S.view store.old).trees) (places_in (S.view store.old).trees)
         → IsChecked Fifth D.digest_of (filled_trees (P.Shelf.seen packs.old) (S.view store.old).trees)) }
 {
     let stored = Stored::read(alloc, store, Edition::Fifth)?;
@@ -377,9 +383,10 @@ pub fn check_store_with<S: Store, P: Shelf, D: Digester, W: Watch>(
 ) -> Result<Option<Flaw>, StoreError>
     ensures keeps { IfOk result (λ found. found ≡ None → KeepsTrees (S.view store.old) (S.view store.new)) }
     ensures reads { ReadsPacks P.Shelf packs.old packs.new }
+    ensures typed { IfOk result (λ found. found ≡ None → IsClean (S.view store.new) → AreRows pack_form ((S.view store.old).trees 32)) }
     ensures checked { IfOk result (λ found. found ≡ None → IsClean (S.view store.new) → IsTrue (P.Shelf.is_clean packs.new)
         → IsDatabase (record { schema = host_schema; trees = (S.view store.old).trees })
-        → HasSizes (P.Shelf.seen packs.old) (places_in (S.view store.old).trees)
+        → HasReached (P.Shelf.seen packs.old) (packs_in (S.view store.old).trees) (places_in (S.view store.old).trees)
         → IsChecked Fifth D.digest_of (filled_trees (P.Shelf.seen packs.old) (S.view store.old).trees)) }
 {
     match check_filled(alloc, store, packs, digester, watch) {
@@ -421,7 +428,8 @@ pub fn check_connection<S: Alter + Drop, D: Digester, W: Watch>(
 /// Checks the committed database of a connection to a host of the present version, and the bytes that
 /// its packs have, and returns the store. A transaction that is open is an error. Nothing is written.
 ///
-/// It reads all that packs have of blocks, and tells nothing of what no place names.
+/// It reads all that packs have of blocks, and tells nothing of what no place names. Packs that were
+/// opened by the rows of the host's table of packs have what it reads (clause `listed`).
 pub fn check_with_packs<S: Alter + Drop, P: Shelf, D: Digester, W: Watch>(
     alloc: Global,
     connection: Connection<S>,
@@ -433,9 +441,16 @@ pub fn check_with_packs<S: Alter + Drop, P: Shelf, D: Digester, W: Watch>(
     ensures reads { ReadsPacks P.Shelf packs.old packs.new }
     ensures sound { IfOk result.0 (λ found. found ≡ None → IsClean (S.Store.view result.1) → IsTrue (S.Store.view result.1).is_open
         → IsTrue (P.Shelf.is_clean packs.new)
-        → HasSizes (P.Shelf.seen packs.old) (places_in (state S.Store connection).now.trees)
+        → HasReached (P.Shelf.seen packs.old) (packs_in (state S.Store connection).now.trees)
+        (places_in (state S.Store connection).now.trees)
         → IsStateClean (state S.Store connection)
-        × IsSoundHost D.digest_of (tables_opened (filled (P.Shelf.seen packs.old) (state S.Store connection).now))) }
+        × IsSoundHost D.digest_of (tables_beside (P.Shelf.seen packs.old) (state S.Store connection).now)) }
+    ensures listed { IfOk result.0 (λ found. found ≡ None → IsClean (S.Store.view result.1) → IsTrue (S.Store.view result.1).is_open
+        → IsTrue (P.Shelf.is_clean packs.new)
+        → (files : Contents) → (IsStateClean (state S.Store connection) → AreRows pack_form ((state S.Store connection).now.trees 32)
+        → HasListed (map listed_of (packs_in (state S.Store connection).now.trees)) files (P.Shelf.seen packs.old))
+        → IsStateClean (state S.Store connection)
+        × IsSoundHost D.digest_of (tables_beside (P.Shelf.seen packs.old) (state S.Store connection).now)) }
 {
     let tables = connection.schema().tables.len();
     let is_settled = connection.is_autocommit();

@@ -7,8 +7,8 @@ ghost use Rattle.sqlite.specs.declared.types.Value.TheVariants.{Blob};
 ghost use Rattle.bh_rows.specs.Form.{typed};
 ghost use Rattle.bh_tables.specs.Schema.{Octets};
 ghost use Rattle.bh_tables.specs.Rows.{pack_form, place_form, place_of};
-ghost use Rattle.bh_tables.specs.Packs.{place_at, places_in, is_reached};
-ghost use Rattle.bh_check.specs.Awaits.{HasSizes};
+ghost use Rattle.bh_tables.specs.Packs.{place_at, packs_in, places_in, is_reached};
+ghost use Rattle.bh_check.specs.Awaits.{HasReached};
 ghost use Rattle.bh_stored.specs.Fits.{AreAllFit};
 ghost use Rattle.bh_stored.specs.Stored.{AreStoredIn};
 ghost use Rattle.bh_check.specs.Blocks.{AreNamed};
@@ -191,7 +191,7 @@ fn filled_from<P: Shelf>(
 {
     let its = place_in(place);
     let number = number_in(place, 0);
-    if !bytes_in(block, 3).is_empty() || !is_below(alloc, rows, known, its)? {
+    if its.size == 0 || !bytes_in(block, 3).is_empty() || !is_below(alloc, rows, known, its)? {
         return Err(Stop::Flaw(Flaw::Placed(number)));
     }
     let bytes = bytes_at(alloc, packs, its, number)?;
@@ -250,7 +250,7 @@ fn fill_rows<P: Shelf>(
 /// The rows that were read, those of blocks with the bytes of their places.
 pub fn fill<P: Shelf>(alloc: Global, packs: &mut P, stored: Stored) -> Result<Stored, Stop>
     ensures filled { IfOk result (λ it. IsTrue (P.Shelf.is_clean packs.new) → (d : Trees) → AreStoredIn d stored → AreAllFit d
-        → AreNamed (d 34) → HasSizes (P.Shelf.seen packs.old) (places_in d) → IsFilledStore (P.Shelf.seen packs.old) d it) }
+        → AreNamed (d 34) → HasReached (P.Shelf.seen packs.old) (packs_in d) (places_in d) → IsFilledStore (P.Shelf.seen packs.old) d it) }
     ensures reads { ReadsPacks P.Shelf packs.old packs.new }
 {
     let known = Known::of(alloc, &stored.places, &stored.packs)?;

@@ -17,7 +17,8 @@ pub enum Flaw {
     Row(Table, u64),
     /// A reference isn't at the place after the earlier ones of its body.
     Place(u64),
-    /// A place ends past its pack's length, its block has bytes in its row, or no packs were given.
+    /// A place has no bytes or ends past its pack's length, its block has bytes in its row, or no packs
+    /// were given.
     Placed(u64),
     /// A pack hasn't got the bytes of a place.
     Unread(u64),
@@ -133,7 +134,7 @@ impl fmt::Display for Flaw {
             Flaw::Place(row) => write!(f, "refs: not at the next place of its body, row {row}"),
             Flaw::Placed(row) => write!(
                 f,
-                "placed: past the length of its pack, of a block with bytes in its row, or without packs, row {row}"
+                "placed: empty, past the length of its pack, of a block with bytes in its row, or without packs, row {row}"
             ),
             Flaw::Unread(row) => write!(f, "placed: a pack hasn't got these bytes, row {row}"),
             Flaw::Checksum(row) => write!(

@@ -11,6 +11,8 @@ use Rattle.bh_event.specs.Events.{AddKey, Message, Ordered}
 use Rattle.bh_event.specs.Lines.{ordered_by}
 use Rattle.bh_event.specs.Orders.{Instruction, ToDo, instruction_of, message_of}
 use Rattle.bh_event.specs.declared.order.HostOrder.{HostOrder}
+use Rattle.bh_shelf.specs.Contents.{Contents}
+use Rattle.bh_shelf.specs.declared.shelf.Shelf.{Ghosts as Shelves}
 use Rattle.bh_types.specs.Limits.{HostLimits, HostTuning}
 use Rattle.bh_types.specs.declared.block_digest.BlockDigest.{BlockDigest}
 use Rattle.bh_words.specs.declared.lines.ClockGiven.{ClockGiven}
@@ -18,10 +20,11 @@ use Rattle.bh_words.specs.declared.lines.Leap.{Leap}
 use Rattle.bh_maintenance.specs.Backups.{IsBackedUp}
 use Rattle.bh_maintenance.specs.Checks.{IsChecked}
 use Rattle.bh_maintenance.specs.Moves.{IsExported, IsImported}
+use Rattle.bh_maintenance.specs.declared.backups.HostCopy.{HostCopy}
 use Rattle.bh_maintenance.specs.declared.clocks.ClockRead.{ClockRead}
 use Rattle.bh_maintenance.specs.declared.fault.Fault.{Fault}
 use Rattle.bh_maintenance.specs.declared.printed.Printed.{Printed}
-use Rattle.bh_commands.specs.Files.{IsAnswered}
+use Rattle.bh_commands.specs.Files.{IsAnswered, IsNewIn}
 use Rattle.bh_command_line.specs.Input.{IsTyped}
 use Rattle.bh_commands.specs.declared.asked.FileTask.TheVariants as file
 use Rattle.bh_commands.specs.declared.asked.OperatorServing.{OperatorServing}
@@ -95,54 +98,58 @@ IsWorkFor path (asked.Order typed) work =
     (order : HostOrder) × IsReadAs (message_of typed) (message_of order) × (work ≡ the_work.Order order)
 IsWorkFor path (asked.Serve it) work = (serving : Serving) × IsServing path it serving × (work ≡ the_work.Serve serving)
 
--- ---- on files with these first contents
+-- ---- on files with these first contents, beside packs whose files have this
 
-module _ {D : Type 0} (g : disk.Ghosts D) (image : Image) where
-  abbrev pub IsMadeIn : HostLimits → Option BlockDigest → Printed → Type 0
-  IsMadeIn limits digest printed =
-      MatchOption digest ⊥ (λ d. (files : Option (Files D)) × IsAnswered g image (file.Init limits d) printed files)
+-- a new host has no packs
+abbrev pub IsMadeIn : {D : Type 0} → disk.Ghosts D → Image → HostLimits → Option BlockDigest → Printed → Type 0
+IsMadeIn {D} g image limits digest printed =
+    MatchOption digest ⊥ (λ d. (files : Option (Files D)) × IsNewIn g image limits d printed files)
 
+module _ {D P : Type 0} (g : disk.Ghosts D) (p : Shelves P) (has : Contents) (image : Image) where
   abbrev pub IsWorkedIn : List ℕ → HostTuning → ClockGiven → HostTask → Printed → Type 0
   IsWorkedIn path tuning clock asked printed =
       (work : Work) × IsWorkFor path asked work × (files : Option (Files D))
-      × IsAnswered g image (file.Host tuning clock work) printed files
+      × IsAnswered g p image has (file.Host tuning clock work) printed files
 
   abbrev pub IsCheckedIn : Printed → Type 0
-  IsCheckedIn printed = (files : Option (Files D)) × IsChecked g image printed files
+  IsCheckedIn printed = (files : Option (Files D)) × (packs : Option P) × IsChecked g p has image printed files packs
 
   module _ {E : Type 0} (e : disk.Ghosts E) where
-    abbrev pub IsBackedUpTo : Printed → Type 0
-    IsBackedUpTo printed = (files : Option (Files D)) × (copy : Option E) × IsBackedUp g e image printed files copy
+    abbrev pub IsBackedUpTo : {C : Type 0} → Shelves C → Printed → Type 0
+    IsBackedUpTo {C} c printed =
+        (files : Option (Files D)) × (copy : Option (HostCopy P E C)) × IsBackedUp g p e c has image printed files copy
 
     -- by a reading of the clock
-    abbrev pub IsImportedFrom : Image → Leap → Printed → Type 0
-    IsImportedFrom given_image leap printed =
-        (clock : ClockRead) × (clock.leap ≡ leap) × (files : Option (Files D)) × (given : Option (Files E))
-        × IsImported clock g e image given_image printed files given
+    abbrev pub IsImportedFrom : {Q : Type 0} → Shelves Q → Contents → Image → Leap → Printed → Type 0
+    IsImportedFrom {Q} q given_has given_image leap printed =
+        (clock : ClockRead) × (clock.leap ≡ leap) × (files : Option (Files D)) × (packs : Option P) × (given : Option (Files E))
+        × (given_packs : Option Q)
+        × IsImported clock g p e q has image given_has given_image printed files packs given given_packs
 
     module _ {M : Type 0} (m : disk.Ghosts M) where
       abbrev pub IsExportedTo : List ℕ → Printed → Type 0
       IsExportedTo tenant printed =
-          (files : Option (Files D)) × (made : Option (Files M)) × (copy : Option E)
-          × IsExported g m e image tenant printed files made copy
+          (files : Option (Files D)) × (packs : Option P) × (made : Option (Files M)) × (copy : Option E)
+          × IsExported g p m e tenant has image printed files packs made copy
 
 -- the program names `Wary` for each file, whose contents are empty
 abbrev pub wary : Starts Wary Wary Wary
 wary = record { host = record {}; other = record {}; made = record {} }
 
--- what is done for a task, on files with these first contents: the host's, and the other's that it
--- names; of a script and of a line to a server nothing is said
-module _ {D E M : Type 0} (g : disk.Ghosts D) (e : disk.Ghosts E) (m : disk.Ghosts M) (image given : Image) where
+-- what is done for a task, on files with these first contents, beside packs whose files have this: the
+-- host's, and the other's that it names; of a script and of a line to a server nothing is said
+module _ {D E M P Q C : Type 0} (g : disk.Ghosts D) (e : disk.Ghosts E) (m : disk.Ghosts M) (p : Shelves P) (q : Shelves Q) (c : Shelves C)
+    (has given_has : Contents) (image given : Image) where
   abbrev pub IsMaintained : {S T U : Type 0} → Maintenance S T U → Printed → Type 0
-  IsMaintained (maintenance.Backup of to) printed = IsBackedUpTo g image e printed
-  IsMaintained (maintenance.Export of tenant to made) printed = IsExportedTo g image e m (string_bytes tenant) printed
-  IsMaintained (maintenance.Import to from leap) printed = IsImportedFrom g image e given leap printed
-  IsMaintained (maintenance.Check file) printed = IsCheckedIn g image printed
+  IsMaintained (maintenance.Backup of to) printed = IsBackedUpTo g p has image e c printed
+  IsMaintained (maintenance.Export of tenant to made) printed = IsExportedTo g p has image e m (string_bytes tenant) printed
+  IsMaintained (maintenance.Import to from leap) printed = IsImportedFrom g p has image e q given_has given leap printed
+  IsMaintained (maintenance.Check file) printed = IsCheckedIn g p has image printed
 
   abbrev pub IsCarriedOut : {S T U : Type 0} → LineTask S T U → Printed → Type 0
   IsCarriedOut (task.Script limits tuning digest) printed = Unit {0}
   IsCarriedOut (task.Init file limits digest) printed = IsMadeIn g image limits digest printed
-  IsCarriedOut (task.OnHost file tuning clock asked) printed = IsWorkedIn g image (string_bytes file.path) tuning clock asked printed
+  IsCarriedOut (task.OnHost file tuning clock asked) printed = IsWorkedIn g p has image (string_bytes file.path) tuning clock asked printed
   IsCarriedOut (task.Maintain asked) printed = IsMaintained asked printed
   IsCarriedOut (task.Tell door secret_file it) printed = Unit {0}
 

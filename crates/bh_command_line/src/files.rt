@@ -12,6 +12,7 @@ use bh_file::HostFile;
 use bh_maintenance::fault::Fault;
 use bh_maintenance::printed::Printed;
 use bh_maintenance::{ClockRead, backup_file, check_file, export_file, import_file};
+use bh_shelf::closed::ClosedPacks;
 use bh_task::{FileAt, HostTask};
 use bh_types::block_digest::BlockDigest;
 use bh_types::limits::{Limits, Tuning};
@@ -43,33 +44,37 @@ pub(crate) fn make_in<S: Start>(
     Ok(init_file(rt, path.as_str(), start, limits, digest)?.into_printed())
 }
 
-/// Copies the host of a file to a new file.
-pub(crate) fn back_up_in<S: Start, T: Start>(
+/// Copies the host of a file and its packs to a new file and new packs beside it.
+pub(crate) fn back_up_in<S: Start, K: ClosedPacks + Drop, T: Start>(
     rt: &HostRuntime,
     of: FileAt<S>,
+    closed: K,
     to: FileAt<T>,
 ) -> Result<Printed, Fault>
-    ensures { IfOk result (IsBackedUpTo ⟦<HostFile<S> as Disk>⟧ (image_at S.Start) ⟦<HostFile<T> as Disk>⟧) }
+    ensures { IfOk result (IsBackedUpTo ⟦<HostFile<S> as Disk>⟧ K.Open.Shelf (K.has closed) (image_at S.Start)
+        ⟦<HostFile<T> as Disk>⟧ K.Open.Copy.Shelf) }
 {
     let FileAt { path, start } = of;
     let FileAt {
         path: to_path,
         start: to_start,
     } = to;
-    Ok(backup_file(rt, path.as_str(), start, to_path.as_str(), to_start)?.into_printed())
+    let copied = backup_file(rt, path.as_str(), start, closed, to_path.as_str(), to_start)?;
+    Ok(copied.into_printed())
 }
 
 /// Copies a tenant of a file's host to a new file.
-pub(crate) fn export_in<S: Start, T: Start, U: Start>(
+pub(crate) fn export_in<S: Start, K: ClosedPacks + Drop, T: Start, U: Start>(
     rt: &HostRuntime,
     of: FileAt<S>,
+    closed: K,
     tenant: String,
     to: FileAt<T>,
     made: U,
 ) -> Result<Printed, Fault>
-    requires { HoldsSoundHost (image_at S.Start) }
-    ensures { IfOk result (IsExportedTo ⟦<HostFile<S> as Disk>⟧ (image_at S.Start) ⟦<HostFile<T> as Disk>⟧ ⟦<HostFile<U> as Disk>⟧
-        (string_bytes tenant)) }
+    requires { HoldsSoundHost (K.has closed) (image_at S.Start) }
+    ensures { IfOk result (IsExportedTo ⟦<HostFile<S> as Disk>⟧ K.Open.Shelf (K.has closed) (image_at S.Start)
+        ⟦<HostFile<T> as Disk>⟧ ⟦<HostFile<U> as Disk>⟧ (string_bytes tenant)) }
 {
     let FileAt { path, start } = of;
     let FileAt {
@@ -80,6 +85,7 @@ pub(crate) fn export_in<S: Start, T: Start, U: Start>(
         rt,
         path.as_str(),
         start,
+        closed,
         tenant.as_str(),
         to_path.as_str(),
         made,
@@ -89,15 +95,18 @@ pub(crate) fn export_in<S: Start, T: Start, U: Start>(
 }
 
 /// Adds the tenant of an exported file to another file's host, by the machine's clock.
-pub(crate) fn import_in<S: Start, T: Start>(
+pub(crate) fn import_in<S: Start, K: ClosedPacks + Drop, T: Start, L: ClosedPacks + Drop>(
     rt: &HostRuntime,
     to: FileAt<S>,
+    closed: K,
     from: FileAt<T>,
+    given: L,
     leap: Leap,
 ) -> Result<Printed, Fault>
-    requires host { HoldsSoundHost (image_at S.Start) }
-    requires given { HoldsSoundHost (image_at T.Start) }
-    ensures { IfOk result (IsImportedFrom ⟦<HostFile<S> as Disk>⟧ (image_at S.Start) ⟦<HostFile<T> as Disk>⟧ (image_at T.Start) leap) }
+    requires host { HoldsSoundHost (K.has closed) (image_at S.Start) }
+    requires given { HoldsSoundHost (L.has given) (image_at T.Start) }
+    ensures { IfOk result (IsImportedFrom ⟦<HostFile<S> as Disk>⟧ K.Open.Shelf (K.has closed) (image_at S.Start)
+        ⟦<HostFile<T> as Disk>⟧ L.Open.Shelf (L.has given) (image_at T.Start) leap) }
 {
     let FileAt { path, start } = to;
     let FileAt {
@@ -110,33 +119,41 @@ pub(crate) fn import_in<S: Start, T: Start>(
         rt,
         path.as_str(),
         start,
+        closed,
         from_path.as_str(),
         from_start,
+        given,
         clock,
     )?;
     Ok(imported.into_printed())
 }
 
-/// Checks a file's host.
-pub(crate) fn check_in<S: Start>(rt: &HostRuntime, file: FileAt<S>) -> Result<Printed, Fault>
-    ensures { IfOk result (IsCheckedIn ⟦<HostFile<S> as Disk>⟧ (image_at S.Start)) }
+/// Checks a file's host and its packs.
+pub(crate) fn check_in<S: Start, K: ClosedPacks + Drop>(
+    rt: &HostRuntime,
+    file: FileAt<S>,
+    closed: K,
+) -> Result<Printed, Fault>
+    ensures { IfOk result (IsCheckedIn ⟦<HostFile<S> as Disk>⟧ K.Open.Shelf (K.has closed) (image_at S.Start)) }
 {
     let FileAt { path, start } = file;
-    Ok(check_file(rt, path.as_str(), start)?.into_printed())
+    Ok(check_file(rt, path.as_str(), start, closed)?.into_printed())
 }
 
 /// Does the work on a file's host, opened with these settings.
-pub(crate) fn work_in<S: Start>(
+pub(crate) fn work_in<S: Start, K: ClosedPacks + Drop>(
     rt: &HostRuntime,
     file: FileAt<S>,
+    closed: K,
     tuning: Tuning,
     clock: ClockGiven,
     asked: HostTask,
 ) -> Result<Printed, Fault>
-    requires { HoldsSoundHost (image_at S.Start) }
-    ensures { IfOk result (IsWorkedIn ⟦<HostFile<S> as Disk>⟧ (image_at S.Start) (string_bytes file.path) tuning clock asked) }
+    requires { HoldsSoundHost (K.has closed) (image_at S.Start) }
+    ensures { IfOk result (IsWorkedIn ⟦<HostFile<S> as Disk>⟧ K.Open.Shelf (K.has closed) (image_at S.Start)
+        (string_bytes file.path) tuning clock asked) }
 {
     let FileAt { path, start } = file;
     let work = work_of(rt, path.as_str(), asked)?;
-    Ok(work_in_file(rt, path.as_str(), start, tuning, clock, work)?.into_printed())
+    Ok(work_in_file(rt, path.as_str(), start, closed, tuning, clock, work)?.into_printed())
 }

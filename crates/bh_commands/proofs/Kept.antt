@@ -6,8 +6,7 @@ use Rattle.sqlite.specs.Files.{over_files}
 use Rattle.bh_tables.specs.Schema.{Octets}
 use Rattle.bh_view.specs.Bodies.{IsSoundHost}
 use Rattle.bh_storage.specs.Calls.{Clean, IsAtRest}
-use Rattle.bh_shelf.specs.declared.no_shelf.NoShelf.{NoShelf}
-use Rattle.bh_base.specs.Connections.{without_packs}
+use Rattle.bh_shelf.specs.declared.shelf.Shelf.{Ghosts as Shelves}
 use Rattle.bh_schema.specs.Storage as storage
 use Rattle.bh_memo.specs.Facts.{nothing}
 use Rattle.bh_memo.proofs.Recalling.{nothing_recalled}
@@ -18,12 +17,12 @@ use Rattle.bh_schema.specs.declared.host.Digester as digester
 use Rattle.bh_kept.specs.declared.host.BlockSize as size
 use Rattle.bh_kept.specs.declared.host.KeptHost.{KeptHost}
 
-pub rests_kept : {D G K : Type 0} {g : Ghosts D} {d : digester.Ghosts G} {k : size.Ghosts K} (digest : Octets → Octets) (first : KeptHost D NoShelf G K g without_packs d k) (host : HostStorage (FileStore D g) NoShelf G) → first.storage ≡ Some (record { storage = host; memo = nothing })
-    → (storage.IsClean over_files without_packs host.host → IsAtRest (IsSoundHost digest) (storage.seen over_files without_packs host.host))
-    → Clean (λ h. kept.IsIntact without_packs h.storage) (λ h. kept.IsOpen without_packs h.storage) first → IsAtRest (IsSoundHost digest) (kept.seen without_packs first.limits first.storage)
-rests_kept {D} {G} {g} digest first host is rest clean =
-    let P : Option (RecallingStorage (FileStore D g) NoShelf G) → Type 0 = λ o. kept.IsIntact without_packs o × kept.IsOpen without_packs o → IsAtRest (IsSoundHost digest) (kept.seen without_packs first.limits o) in
-    subst P (sym is) (λ (up : storage.IsClean over_files without_packs host.host). subst (IsAtRest (IsSoundHost digest)) (sym (nothing_recalled (storage.seen over_files without_packs host.host))) (rest up)) clean
+pub rests_kept : {D P G K : Type 0} {g : Ghosts D} (p : Shelves P) {d : digester.Ghosts G} {k : size.Ghosts K} (digest : Octets → Octets) (first : KeptHost D P G K g p d k) (host : HostStorage (FileStore D g) P G) → first.storage ≡ Some (record { storage = host; memo = nothing })
+    → (storage.IsClean over_files p host.host → IsAtRest (IsSoundHost digest) (storage.seen over_files p host.host))
+    → Clean (λ h. kept.IsIntact p h.storage) (λ h. kept.IsOpen p h.storage) first → IsAtRest (IsSoundHost digest) (kept.seen p first.limits first.storage)
+rests_kept {D} {P} {G} {K} {g} p digest first host is rest clean =
+    let Q : Option (RecallingStorage (FileStore D g) P G) → Type 0 = λ o. kept.IsIntact p o × kept.IsOpen p o → IsAtRest (IsSoundHost digest) (kept.seen p first.limits o) in
+    subst Q (sym is) (λ (up : storage.IsClean over_files p host.host). subst (IsAtRest (IsSoundHost digest)) (sym (nothing_recalled (storage.seen over_files p host.host))) (rest up)) clean
 
 -- what is left of a value that is there
 pub left_of : {A B : Type 0} (f : A → B) (o : Option A) (y : B) → option_map f o ≡ Some y → (x : A) × (o ≡ Some x) × (y ≡ f x)

@@ -3,3 +3,5 @@ mod Printing
 mod Refused
 mod Kept
 mod Making
+mod Beside
+mod Freeing

@@ -1,14 +1,15 @@
 //! Work on a host's storage.
 
-ghost use Rattle.std.specs.Prelude.{IfOk};
+ghost use Rattle.std.specs.Prelude.{◌≡◌, false, IfOk};
 ghost use Rattle.bh_event.specs.Orders.{arrival_at, message_of};
+ghost use Rattle.bh_connection.specs.Connections.{IsTakenBack};
 ghost use Rattle.bh_storage.specs.Calls.{Clean, IsAtRest};
 ghost use Rattle.bh_host.specs.Replies.{reply_bytes};
 ghost use Rattle.bh_maintenance.specs.Printing.{IsLine};
 ghost use Rattle.bh_commands.specs.Commands.{IsTold, HasDone, HasObeyed, HasServed, StaysReady};
 
 use crate::asked::{Serving, Work};
-use bh_connection::{BackUp, MachineClock, drop_after, is_sweep};
+use bh_connection::{BackUp, MachineClock, is_sweep};
 use bh_event::order::HostOrder;
 use bh_host::{Reply, apply};
 use bh_maintenance::fault::Fault;
@@ -44,7 +45,26 @@ pub fn apply_order<H: Storage>(
     Ok(printed)
 }
 
-/// The same, and after a sweep packs of which nothing is named any more are removed.
+/// After a sweep, removes packs of which nothing is named any more and empties those of which little is, step
+/// by step, until a step finds nothing to do or fails.
+fn free_packs<H: BackUp>(host: &mut H, swept: bool)
+    requires { Clean H.IsIntact H.IsOpen host.old → IsAtRest H.IsSoundStore (H.seen host.old) }
+    ensures stays { StaysReady H.IsIntact H.IsOpen H.IsSoundStore H.seen host.old host.new }
+    ensures back { IsTakenBack H.IsIntact H.IsOpen H.seen H.left host.old host.new }
+    ensures still { swept ≡ false → host.new ≡ host.old }
+{
+    if !swept {
+        return;
+    }
+    'steps: for _ in 0..u64::MAX {
+        match host.drop_packs() {
+            Some(count) if count > 0 => {}
+            _ => return,
+        }
+    }
+}
+
+/// The same, and after a sweep the room of packs is given back as far as it can be.
 fn obey<H: BackUp>(
     alloc: Global,
     routes: &Routes,
@@ -58,7 +78,7 @@ fn obey<H: BackUp>(
 {
     let sweeps = is_sweep(&order);
     let printed = apply_order(alloc, routes, host, reading, order)?;
-    drop_after(host, sweeps);
+    free_packs(host, sweeps);
     Ok(printed)
 }
 

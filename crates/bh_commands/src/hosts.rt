@@ -3,17 +3,14 @@
 ghost use Rattle.std.specs.Prelude.{◌≡◌, IfOk, IsTrue, codes};
 ghost use Rattle.sqlite.specs.Files.{file_state, over_files};
 ghost use Rattle.sqlite.specs.State.{IsLive};
-ghost use Rattle.bh_base.specs.Connections.{without_packs};
 ghost use Rattle.bh_blocks.specs.Digests.{digest_by};
 ghost use Rattle.bh_view.specs.Bodies.{IsSoundHost};
-ghost use Rattle.bh_view.specs.View.{latest_of};
 ghost use Rattle.bh_schema.specs.Storage.{IsClean, seen};
 ghost use Rattle.bh_storage.specs.Calls.{IsAtRest};
-ghost use Rattle.bh_maintenance.specs.Endings.{IsLeft};
-ghost use Rattle.bh_maintenance.specs.Found.{IsSoundIn, IsReadyBy, IsNotFound};
+ghost use Rattle.bh_maintenance.specs.Found.{IsSoundIn};
 ghost use Rattle.bh_maintenance.specs.Printing.{IsFault, IsLine};
-ghost use Rattle.bh_commands.specs.Subcommands.{IsReadyFor, host_with, host_by, Makes, IsWorkedOn, IsWorkedInTime, Works, CarriesOut};
-ghost use Rattle.bh_commands.specs.Subcommands.{LeavesDone};
+ghost use Rattle.bh_commands.specs.Subcommands.{IsReadyFor, host_with, host_by, IsReady, Makes, IsWorkedOn, IsWorkedInTime, Works};
+ghost use Rattle.bh_commands.specs.Subcommands.{CarriesOut, LeavesDone};
 
 use crate::asked::{FileTask, Work};
 use crate::clocks::{leaps, reading_of};
@@ -24,11 +21,13 @@ use bh_create::create;
 use bh_kept::{BlockSize, KeptHost};
 use bh_maintenance::ending::{Done, Left, leave};
 use bh_maintenance::fault::Fault;
-use bh_maintenance::hosts::{refused, why_not_found};
+use bh_maintenance::hosts::{open_packs, refused, why_not_found};
 use bh_maintenance::printed::Printed;
 use bh_maintenance::remarks::{Ahead, Remark, tell};
 use bh_open::{Opened, is_hosts, open_host};
 use bh_schema::host::{Digester, Host};
+use bh_shelf::closed::ClosedPacks;
+use bh_shelf::copied::CopyShelf;
 use bh_shelf::no_shelf::NoShelf;
 use bh_types::block_digest::BlockDigest;
 use bh_types::limits::{Limits, Tuning};
@@ -115,19 +114,19 @@ fn make<D: Disk + Drop>(
     Ok(make_outside(rt, path, connection, limits, digest, line)?)
 }
 
-/// Does the work on a host at a reading of the clock. Its blocks have the size of `K`.
-fn work_on<D: Disk + Drop, G: Digester + Drop, K: BlockSize>(
+/// Does the work on a host at a reading of the clock. Its blocks have the size of `B`.
+fn work_on<D: Disk + Drop, P: CopyShelf + Drop, G: Digester + Drop, B: BlockSize>(
     rt: &HostRuntime,
-    host: Host<FileStore<D>, NoShelf, G>,
+    host: Host<FileStore<D>, P, G>,
     reading: u64,
     asked: Work,
 ) -> Result<Done<FileStore<D>>, Fault>
-    requires rest { IsClean over_files without_packs host → IsAtRest (IsSoundHost G.digest_of) (seen over_files without_packs host) }
-    requires size { host.cache.tuning.block_size ≡ K.size }
-    ensures { IfOk result (λ done. IsWorkedOn K.BlockSize G.digest_of asked reading (record { host = host })
+    requires rest { IsClean over_files P.Shelf host → IsAtRest (IsSoundHost G.digest_of) (seen over_files P.Shelf host) }
+    requires size { host.cache.tuning.block_size ≡ B.size }
+    ensures { IfOk result (λ done. IsWorkedOn P.Shelf B.BlockSize G.digest_of asked reading (record { host = host })
         done.connection done.printed) }
 {
-    let mut kept = KeptHost::<'_, D, NoShelf, G, K>::new(rt, host);
+    let mut kept = KeptHost::<'_, D, P, G, B>::new(rt, host);
     let printed = do_work(rt, &mut kept, reading, asked)?;
     match kept.into_connection() {
         Some(connection) => Ok(Done {
@@ -163,17 +162,16 @@ fn tell_stamp(rt: &HostRuntime, path: &str, asked: &Work, latest: u64) {
 }
 
 /// Does the work on a host with this last stamp, unless the clock is too far ahead.
-fn work_in_time<D: Disk + Drop, G: Digester + Drop>(
+fn work_in_time<D: Disk + Drop, P: CopyShelf + Drop, G: Digester + Drop>(
     rt: &HostRuntime,
     path: &str,
-    host: Host<FileStore<D>, NoShelf, G>,
+    host: Host<FileStore<D>, P, G>,
     latest: u64,
     clock: ClockGiven,
     asked: Work,
 ) -> Result<Done<FileStore<D>>, Fault>
-    requires rest { IsClean over_files without_packs host → IsAtRest (IsSoundHost G.digest_of) (seen over_files without_packs host) }
-    requires latest { IsClean over_files without_packs host → latest ≡ latest_of (seen over_files without_packs host).now }
-    ensures { IfOk result (λ done. IsWorkedInTime G.digest_of clock asked (record { host = host }) done.connection done.printed) }
+    requires { IsReady P.Shelf G.digest_of latest (record { host = host }) }
+    ensures { IfOk result (λ done. IsWorkedInTime P.Shelf G.digest_of clock asked (record { host = host }) done.connection done.printed) }
 {
     let reading = reading_of(rt, clock.at)?;
     if leaps(clock.leap, latest, reading) {
@@ -181,27 +179,29 @@ fn work_in_time<D: Disk + Drop, G: Digester + Drop>(
         return Ok(held_back(rt, path, host.into_connection().database, ahead)?);
     }
     tell_stamp(rt, path, &asked, latest);
-    Ok(work_on::<D, G, Brand>(rt, host, reading, asked)?)
+    Ok(work_on::<D, P, G, Brand>(rt, host, reading, asked)?)
 }
 
-/// Does the work on an opened database, with the digester of the function that names its blocks.
-fn work_by<D: Disk + Drop, G: Digester + Drop>(
+/// Does the work on an opened database and its packs, with the digester of the function that names its
+/// blocks.
+fn work_by<D: Disk + Drop, P: CopyShelf + Drop, G: Digester + Drop>(
     rt: &HostRuntime,
     path: &str,
     opened: Opened<FileStore<D>>,
+    packs: P,
     digester: G,
     clock: ClockGiven,
     asked: Work,
 ) -> Result<Done<FileStore<D>>, Fault>
-    requires { IsReadyBy over_files G.digest_of opened }
-    ensures { IfOk result (λ done. IsWorkedInTime G.digest_of clock asked (host_with opened digester)
+    requires { IsReady P.Shelf G.digest_of opened.latest (host_with opened packs digester) }
+    ensures { IfOk result (λ done. IsWorkedInTime P.Shelf G.digest_of clock asked (host_with opened packs digester)
         done.connection done.printed) }
 {
     let latest = opened.latest;
     work_in_time(
         rt,
         path,
-        opened.into_host(NoShelf, digester),
+        opened.into_host(packs, digester),
         latest,
         clock,
         asked,
@@ -209,37 +209,42 @@ fn work_by<D: Disk + Drop, G: Digester + Drop>(
 }
 
 /// Does the work with the digester of the function in the host's row.
-fn work_by_digest<D: Disk + Drop>(
+fn work_by_digest<D: Disk + Drop, P: CopyShelf + Drop>(
     rt: &HostRuntime,
     path: &str,
     opened: Opened<FileStore<D>>,
+    packs: P,
     clock: ClockGiven,
     asked: Work,
 ) -> Result<Done<FileStore<D>>, Fault>
-    requires { IsReadyBy over_files (digest_by opened.digest) opened }
-    ensures { IfOk result (λ done. IsWorkedInTime (digest_by opened.digest) clock asked (host_by opened.digest opened)
+    requires { IsReady P.Shelf (digest_by opened.digest) opened.latest (host_by opened.digest opened packs) }
+    ensures { IfOk result (λ done. IsWorkedInTime P.Shelf (digest_by opened.digest) clock asked (host_by opened.digest opened packs)
         done.connection done.printed) }
 {
     match opened.digest {
-        BlockDigest::Sha256 => work_by(rt, path, opened, Sha256Digester, clock, asked),
-        BlockDigest::Fast => work_by(rt, path, opened, FastDigester, clock, asked),
+        BlockDigest::Sha256 => work_by(rt, path, opened, packs, Sha256Digester, clock, asked),
+        BlockDigest::Fast => work_by(rt, path, opened, packs, FastDigester, clock, asked),
     }
 }
 
-/// Opens the host of a database, and does the work on it.
-fn find<D: Disk + Drop>(
+/// Opens the host of a database and the packs that it lists, and does the work on it.
+fn find<D: Disk + Drop, K: ClosedPacks + Drop>(
     rt: &HostRuntime,
     path: &str,
     connection: Connection<FileStore<D>>,
+    closed: K,
     tuning: Tuning,
     clock: ClockGiven,
     asked: Work,
 ) -> Result<Done<FileStore<D>>, Fault>
-    requires { IsSoundIn (file_state connection) }
-    ensures { IfOk result (λ done. Works tuning clock asked connection done.connection done.printed) }
+    requires { IsSoundIn (K.has closed) (file_state connection) }
+    ensures { IfOk result (λ done. Works K.Open.Shelf (K.has closed) tuning clock asked connection done.connection done.printed) }
 {
     match open_host(rt.alloc(), connection, tuning) {
-        Ok(opened) => Ok(work_by_digest(rt, path, opened, clock, asked)?),
+        Ok(opened) => {
+            let packs = open_packs(rt.alloc(), path, closed, opened.listed.as_slice())?;
+            Ok(work_by_digest(rt, path, opened, packs, clock, asked)?)
+        }
         Err(error) => {
             tell(rt, path, &why_not_found(error.why, error.cause));
             Ok(refused(rt.alloc(), error.connection, error.refusal)?)
@@ -247,14 +252,15 @@ fn find<D: Disk + Drop>(
     }
 }
 
-fn carry_out<D: Disk + Drop>(
+fn carry_out<D: Disk + Drop, K: ClosedPacks + Drop>(
     rt: &HostRuntime,
     path: &str,
     connection: Connection<FileStore<D>>,
+    closed: K,
     asked: FileTask,
 ) -> Result<Done<FileStore<D>>, Fault>
-    requires { IsReadyFor asked (file_state connection) }
-    ensures { IfOk result (λ done. CarriesOut asked connection done.connection done.printed) }
+    requires { IsReadyFor (K.has closed) asked (file_state connection) }
+    ensures { IfOk result (λ done. CarriesOut K.Open.Shelf (K.has closed) asked connection done.connection done.printed) }
 {
     match asked {
         FileTask::Init { limits, digest } => Ok(make(rt, path, connection, limits, digest)?),
@@ -262,20 +268,21 @@ fn carry_out<D: Disk + Drop>(
             tuning,
             clock,
             work,
-        } => Ok(find(rt, path, connection, tuning, clock, work)?),
+        } => Ok(find(rt, path, connection, closed, tuning, clock, work)?),
     }
 }
 
 /// Does the task on a connection. Returns the printed text and the rest of the connection.
-pub(crate) fn on_connection<D: Disk + Drop>(
+pub(crate) fn on_connection<D: Disk + Drop, K: ClosedPacks + Drop>(
     rt: &HostRuntime,
     path: &str,
     connection: Connection<FileStore<D>>,
+    closed: K,
     asked: FileTask,
 ) -> Result<(Printed, Left<FileStore<D>>), Fault>
-    requires { IsReadyFor asked (file_state connection) }
-    ensures { IfOk result (λ it. LeavesDone asked connection it.0 it.1) }
+    requires { IsReadyFor (K.has closed) asked (file_state connection) }
+    ensures { IfOk result (λ it. LeavesDone K.Open.Shelf (K.has closed) asked connection it.0 it.1) }
 {
-    let done = carry_out(rt, path, connection, asked)?;
+    let done = carry_out(rt, path, connection, closed, asked)?;
     Ok(leave(done))
 }

@@ -1,5 +1,5 @@
--- The pack that was found is sparse.
-use Rattle.std.proofs.Common.{◌≡◌, ℕ, pos, List, [], ◌∷◌, map, filter, take, Some, None, slice_get, inl, refl, sym, ap, subst, ◌∙◌}
+-- What texts found: a pack that is sparse, and no more names than were asked for.
+use Rattle.std.proofs.Common.{◌≡◌, ◌≤◌, ℕ, zero, suc, arith, pos, List, [], ◌∷◌, map, filter, take, length, Some, None, slice_get, inl, refl, sym, ap, subst, ◌∙◌}
 use Rattle.sqlite.specs.Order.{Row, column}
 use Rattle.sqlite.specs.declared.types.Value.TheVariants.{Int}
 use Rattle.sqlite_rules.specs.Lists.{Has}
@@ -8,6 +8,13 @@ use Rattle.bh_tables.specs.Rows.{PackRow}
 use Rattle.bh_base.specs.Removal.{shown_number}
 use Rattle.bh_compaction.specs.declared.compaction.Sparse.{Sparse}
 use Rattle.bh_compaction.specs.Moves.{is_sparse, IsSparse}
+
+-- no more are taken than were asked for
+pub few_taken : {X : Type 0} (n : ℕ) (xs : List X) → length (take n xs) ≤ n
+few_taken zero [] = omega arith
+few_taken zero (x ∷ xs) = omega arith
+few_taken (suc n) [] = omega arith
+few_taken (suc n) (x ∷ xs) = let rest = few_taken n xs in omega (arith, rest)
 
 first_shown : {X : Type 0} (f : X → Row) (xs : List X) (items : List Row) (row : Row) → items ≡ take 1 (map f xs) → Some row ≡ slice_get items 0 → (x : X) × Has xs x × (row ≡ f x)
 first_shown f [] items row is some = absurd (let e = some ∙ ap (λ (l : List Row). slice_get l 0) is in cc)

@@ -1,6 +1,6 @@
 //! One step of emptying a pack of which little is named.
 
-ghost use Rattle.std.specs.Prelude.{◌≡◌, ◌<◌, ◌^◌, IfOk, IfSome, OnErr, OnOk};
+ghost use Rattle.std.specs.Prelude.{◌≡◌, ◌<◌, ◌≤◌, ◌^◌, IfOk, IfSome, OnErr, OnOk};
 ghost use Rattle.bh_base.specs.Calls.{Reads, WritesOn};
 ghost use Rattle.bh_base.specs.Connections.{IsClean, CanReadBy, InMidst, Rewrites, state, stands, tables, places, packs};
 ghost use Rattle.bh_base.specs.Layer.{KeepsDisk};
@@ -64,6 +64,7 @@ fn move_in<S: Alter, P: Shelf>(
         Rewrites S.Store P.Shelf connection.old connection.new (λ sums. sums) (λ rows. rows))) }
     ensures moved { IfOk result (λ found. IfSome found (λ count. IsClean S.Store P.Shelf connection.new
         → Moves pack count (places S.Store P.Shelf connection.old) (places S.Store P.Shelf connection.new))) }
+    ensures few { IfOk result (λ found. IfSome found (λ count. IsClean S.Store P.Shelf connection.new → count ≤ step.blocks)) }
 {
     let rows = name_rows(connection, pack as u64, step.blocks)?;
     move_rows(connection, &rows, pack, step.bytes)
@@ -86,6 +87,7 @@ fn move_some<S: Alter, P: Shelf>(
     ensures moved { IfOk result (λ found. IfSome found (λ count. IsClean S.Store P.Shelf connection.new
         → Compacts sparse count (packs S.Store P.Shelf connection.old)
         (places S.Store P.Shelf connection.old) (places S.Store P.Shelf connection.new))) }
+    ensures few { IfOk result (λ found. IfSome found (λ count. IsClean S.Store P.Shelf connection.new → count ≤ step.blocks)) }
 {
     match sparse_pack(connection, sparse)? {
         None => Ok(Some(0)),
@@ -114,6 +116,7 @@ fn commit_moved<S: Alter, P: Shelf>(
     ensures moved { IfOk result (λ count. IsClean S.Store P.Shelf connection.new
         → Compacts sparse count (packs S.Store P.Shelf connection.old)
         (places S.Store P.Shelf connection.old) (places S.Store P.Shelf connection.new)) }
+    ensures few { IfOk result (λ count. IsClean S.Store P.Shelf connection.new → count ≤ step.blocks) }
 {
     connection.begin()?;
     match move_some(connection, sparse, step)? {
@@ -150,6 +153,7 @@ pub fn compact<S: Alter, P: Shelf>(
         (places S.Store P.Shelf connection.old) (places S.Store P.Shelf connection.new)) }
     ensures stays { OnErr result (IsClean S.Store P.Shelf connection.new
         → places S.Store P.Shelf connection.new ≡ places S.Store P.Shelf connection.old) }
+    ensures few { IfOk result (λ count. IsClean S.Store P.Shelf connection.new → count ≤ step.blocks) }
 {
     match commit_moved(connection, sparse, step) {
         Ok(count) => Ok(count),

@@ -1,6 +1,6 @@
 //! Blocks that get other places, each as one step of a write that changes nothing that is shown.
 
-ghost use Rattle.std.specs.Prelude.{◌≡◌, ◌++◌, ◌∷◌, [], ◌<◌, ◌^◌, length, Some, true, IfOk, IfSome, OnOk};
+ghost use Rattle.std.specs.Prelude.{◌≡◌, ◌++◌, ◌∷◌, [], ◌<◌, ◌≤◌, ◌^◌, length, Some, true, IfOk, IfSome, OnOk};
 ghost use Rattle.sqlite_keyed.specs.Lists.{update_where, delete_where};
 ghost use Rattle.sqlite_rules.specs.Lists.{Has};
 ghost use Rattle.bh_packs.specs.Sums.{sum_of};
@@ -220,6 +220,7 @@ pub(crate) fn move_rows<S: Alter, P: Shelf>(
         Rewrites S.Store P.Shelf connection.old connection.new (λ sums. sums) (λ rows. rows))) }
     ensures moved { IfOk result (λ found. IfSome found (λ count. IsClean S.Store P.Shelf connection.new
         → Moves pack count (places S.Store P.Shelf connection.old) (places S.Store P.Shelf connection.new))) }
+    ensures few { IfOk result (λ found. IfSome found (λ count. count ≤ length rows.now)) }
 {
     let mut count = 0;
     let mut left = bytes;

@@ -60,8 +60,9 @@ pub trait BackUp: Storage {
         ensures lost { lost self.new ≡ lost self.old }
         ensures counted { IfSome result (λ n. Clean Self.IsIntact Self.IsOpen self.new → n ≡ unneeded_of (Self.seen self.old).now) };
 
-    /// Removes packs of which no byte is named any more, as after a sweep, and returns how many. No
-    /// table shows it. `None` if memory or the store failed: the cause is on standard error.
+    /// Removes packs of which no byte is named any more, as after a sweep, and empties one of which little is
+    /// named by a step. Returns how many packs and blocks that were, 0 if nothing was left to do. No table
+    /// shows it. `None` if memory or the store failed: the cause is on standard error.
     fn drop_packs(&mut self) -> Option<u64>
         requires { Clean Self.IsIntact Self.IsOpen self.old → IsAtRest Self.IsSoundStore (Self.seen self.old) }
         ensures intact { Self.IsIntact self.new → Self.IsIntact self.old }

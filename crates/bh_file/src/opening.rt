@@ -24,9 +24,9 @@ use std::rc::Rc;
 /// How many pages are cached: 16 MiB.
 const CACHE_PAGES: usize = 4096;
 
-/// After this many pages the log is copied into the database file: 40 MiB. A page is copied once,
-/// however often it was written, so a long log saves most copies.
-const CHECKPOINT_FRAMES: usize = 10_000;
+/// After this many pages the log is copied into the database file: at 15.7 MB. A page is copied once,
+/// however often it was written.
+const CHECKPOINT_FRAMES: usize = 3_800;
 
 /// How often an opening reads each page of a block: for its tree, its rows and its index. A large
 /// file has few other pages. Measured on files of 27 to 265 MB.

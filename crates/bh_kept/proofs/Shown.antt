@@ -28,7 +28,8 @@ use Rattle.bh_schema.proofs.Storing.{sound_host}
 use Rattle.bh_backup.specs.Copies.{IsFileOf}
 use Rattle.bh_dispatch.specs.declared.recalling.RecallingStorage.{RecallingStorage}
 use Rattle.bh_kept.specs.Closings.{IsOpenAgain}
-use Rattle.bh_kept.specs.Copies.{AreAsBefore, HaveAll}
+use Rattle.bh_backup.specs.Packs.{HaveAll}
+use Rattle.bh_kept.specs.Copies.{AreAsBefore}
 use Rattle.bh_kept.specs.Kept as kept
 use Rattle.bh_kept.specs.Kept.{Shows}
 

@@ -9,6 +9,7 @@ use Rattle.bh_base.specs.Connections.{backing}
 use Rattle.bh_base.specs.Shown.{Backing}
 use Rattle.bh_base.specs.declared.connection.Connection.{Connection}
 use Rattle.bh_backup.specs.Copies.{IsFileOf}
+use Rattle.bh_backup.specs.Packs.{HaveAll}
 use Rattle.bh_kept.specs.Closings.{IsOpenAgain}
 
 -- no file of packs had returned a wrong answer; committed rows may name what they might before, and no less stands
@@ -16,10 +17,6 @@ pub record AreAsBefore (old new : Backing) : Type 0 where
   pub was_clean : IsTrue old.is_clean
   pub kept : new.kept ≡ old.kept
   pub stood : Within old.stood new.stood
-
--- all that was kept stands in the copied packs, if no wrong answer of their files was taken as true
-abbrev pub HaveAll : {P C : Type 0} → Shelves P → Shelves C → P → C → Type 0
-HaveAll p c packs copy = IsTrue (c.is_clean copy) → Within (p.kept packs) (c.stood copy)
 
 module _ {D P : Type 0} {g : disk.Ghosts D} (p : Shelves P) where
   -- its database was opened again, and its packs are as they were

@@ -11,5 +11,5 @@ pub mod laws;
 mod storage;
 
 pub use closing::{Unclosed, close};
-pub use copying::{CopiedHost, HostCopy, copy_and_open};
+pub use copying::{CopiedHost, KeptCopy, copy_and_open};
 pub use host::{BlockSize, KeptHost};

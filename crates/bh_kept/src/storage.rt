@@ -9,7 +9,7 @@ ghost use Rattle.bh_connection.specs.Connections.{IsTakenBack};
 ghost use Rattle.bh_kept.specs.Kept as kept;
 ghost use Rattle.bh_kept.specs.Cutting.{Cuts, KeepsTuning};
 
-use crate::copying::{HostCopy, copy_host};
+use crate::copying::{KeptCopy, copy_host};
 use crate::counting::count;
 use crate::freeing::drop_idle;
 use crate::host::{BlockSize, KeptHost};
@@ -183,7 +183,7 @@ impl<'a, D: Disk + Drop, P: Shelf + Drop, G: Digester + Drop, K: BlockSize> Stor
 
 impl<'a, D: Disk + Drop, P: CopyShelf + Drop, G: Digester + Drop, K: BlockSize> BackUp
     for KeptHost<'a, D, P, G, K> {
-    type Copy = HostCopy<P::Copy>;
+    type Copy = KeptCopy<P::Copy>;
 
     ghost shows = { λ copy. kept.Shows ⟦<HostFile<Wary> as Disk>⟧ P.Copy.Shelf copy.file copy.packs };
 
@@ -204,7 +204,7 @@ impl<'a, D: Disk + Drop, P: CopyShelf + Drop, G: Digester + Drop, K: BlockSize> 
         }
     }
 
-    fn back_up(&mut self, to: &str) -> Option<HostCopy<P::Copy>>
+    fn back_up(&mut self, to: &str) -> Option<KeptCopy<P::Copy>>
         requires { Clean (λ h. kept.IsIntact P.Shelf h.storage) (λ h. kept.IsOpen P.Shelf h.storage) self.old
             → IsAtRest (IsSoundHost G.digest_of) (kept.seen P.Shelf self.old.limits self.old.storage) }
         ensures intact { kept.IsIntact P.Shelf self.new.storage → kept.IsIntact P.Shelf self.old.storage }

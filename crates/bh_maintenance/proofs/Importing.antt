@@ -5,13 +5,17 @@ use Rattle.sqlite_disk.specs.declared.Files.{Files}
 use Rattle.sqlite_wal.specs.Recovery.{Image}
 use Rattle.sqlite_trees.specs.declared.store.Store.{Ghosts}
 use Rattle.sqlite_store.specs.declared.store.FileStore.{FileStore}
-use Rattle.sqlite.specs.Held.{Held}
-use Rattle.bh_open.specs.declared.open.Opened.{Opened}
-use Rattle.bh_maintenance.specs.Moves.{IsHostAt, IsImportedInto, ImportsTo}
+use Rattle.bh_shelf.specs.Contents.{Contents}
+use Rattle.bh_shelf.specs.declared.shelf.Shelf.{Ghosts as Shelves}
+use Rattle.bh_base.specs.declared.connection.Connection.{Connection}
+use Rattle.bh_maintenance.specs.Moves.{IsImportedInto, ImportsTo}
+use Rattle.bh_maintenance.specs.Opened.{IsHostAt}
 use Rattle.bh_maintenance.specs.declared.clocks.ClockRead.{ClockRead}
+use Rattle.bh_maintenance.specs.declared.joined.Joined.{Joined}
 use Rattle.bh_maintenance.specs.declared.printed.Printed.{Printed}
 
-pub imports_to : (clock : ClockRead) {S D : Type 0} (h : Ghosts S) (from : Opened S) (from_new : Held S) (g : disk.Ghosts D) (image : Image) (printed : Printed) (to : Opened (FileStore D g)) → IsHostAt g image to
-    → (files : Option (Files D)) → MatchOption files ⊥ (IsImportedInto clock h from from_new to printed) → ImportsTo clock h from from_new g image printed files
-imports_to clock h from from_new g image printed to at None came = absurd came
-imports_to clock h from from_new g image printed to at (Some f) came = inr (record { to = to; at = at; came = came })
+module _ (clock : ClockRead) {S P D Q : Type 0} (h : Ghosts S) (l : Shelves P) (from : Joined S P) (from_new : Connection S P) (k : Shelves Q) (g : disk.Ghosts D) (packs : Contents) (image : Image) (printed : Printed) where
+  pub imports_to : (to : Joined (FileStore D g) Q) → IsHostAt g k packs image to → (left : Option Q) (files : Option (Files D)) → MatchOption files ⊥ (IsImportedInto clock h l from from_new k to printed left)
+      → ImportsTo clock h l from from_new k g packs image printed files left
+  imports_to to at left None came = absurd came
+  imports_to to at left (Some f) came = inr (record { to = to; at = at; came = came })

@@ -2,6 +2,7 @@ mod Endings
 mod Exporting
 pub mod Found
 mod Importing
+pub mod Joining
 mod Moving
 mod Opened
 pub mod Refused

@@ -7,9 +7,11 @@ use Rattle.sqlite_trees.specs.View.{IsClean, IsQuiet}
 use Rattle.sqlite_store.specs.declared.store.FileStore.{FileStore}
 use Rattle.sqlite_store.specs.FileStore as store
 use Rattle.sqlite.specs.Held.{Held, AreDatabases}
-use Rattle.sqlite.specs.Files.{over_files}
+use Rattle.sqlite.specs.Files.{file_state, over_files}
+use Rattle.bh_maintenance.specs.Found.{IsNotFound}
 use Rattle.bh_maintenance.specs.declared.ending.Left.{Left}
 use Rattle.bh_maintenance.specs.declared.ending.Left.TheVariants.{Whole, Bare}
+use Rattle.bh_maintenance.specs.declared.printed.Printed.{Printed}
 
 -- uncommitted changes are lost: what a crash may leave of the store was possible for the
 -- connection, and is a database
@@ -28,3 +30,9 @@ AreClosed {D} {g} connection files =
 
 abbrev pub Closes : {D : Type 0} {g : disk.Ghosts D} → Left (FileStore D g) → Files D → Type 0
 Closes {D} {g} left files = (connection : Held (FileStore D g)) → IsLeft over_files connection left → AreClosed connection files
+
+-- no host was found, which alone is printed, and the files were closed
+pub record IsLeftOut {D : Type 0} {g : disk.Ghosts D} (old : Held (FileStore D g)) (printed : Printed) (files : Files D) : Type 0 where
+  pub new : Held (FileStore D g)
+  pub not_found : IsNotFound (file_state old) (file_state new) printed
+  pub closed : AreClosed new files

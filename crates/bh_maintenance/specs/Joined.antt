@@ -2,10 +2,9 @@
 use Rattle.bh_open.specs.declared.open.Opened.{Opened}
 use Rattle.bh_maintenance.specs.declared.joined.Joined.{Joined}
 
--- the host without packs
-abbrev pub alone : {S : Type 0} → Joined S → Opened S
-alone host = record {
-  connection = host.connection.database;
+abbrev pub joined : {S P : Type 0} → Opened S → P → Joined S P
+joined host packs = record {
+  connection = record { database = host.connection; packs = packs };
   limits = host.limits;
   tuning = host.tuning;
   digest = host.digest;

@@ -6,4 +6,5 @@ pub mod Files
 pub mod Found
 pub mod Joined
 pub mod Moves
+pub mod Opened
 pub mod Printing

@@ -4,8 +4,7 @@ ghost use Rattle.std.specs.Prelude.{◌≡◌, IfOk, MatchOption, MatchResult};
 ghost use Rattle.sqlite.specs.Files.{over_files};
 ghost use Rattle.sqlite_wal.specs.Files.{image_at};
 ghost use Rattle.bh_maintenance.specs.Files.{HoldsSoundHost};
-ghost use Rattle.bh_maintenance.specs.Found.{IsReadyByRow};
-ghost use Rattle.bh_maintenance.specs.Joined.{alone};
+ghost use Rattle.bh_maintenance.specs.Found.{IsJoinedByRow};
 ghost use Rattle.bh_maintenance.specs.Moves.{IsLike, Exports, ExportsTo, SavesMoved, IsExportedFrom, IsExported};
 ghost use Rattle.bh_maintenance.specs.Printing.{IsFault};
 
@@ -18,29 +17,32 @@ use crate::leftovers::Making;
 use crate::moves::move_and_tell;
 use crate::printed::Printed;
 use crate::remarks::tell;
-use bh_backup::{BackupFault, Saved, refuse_foreign, refuse_taken, save};
+use bh_backup::{BackupFault, refuse_foreign, refuse_taken, save};
 use bh_base::connection::Connection as Packed;
 use bh_blocks::digester::Sha256Digester;
 use bh_create::create;
 use bh_file::{HostFile, Meter, Work};
-use bh_open::Opened;
+use bh_shelf::closed::ClosedPacks;
 use bh_shelf::no_shelf::NoShelf;
+use bh_shelf::shelf::Shelf;
 use bh_types::limits::Tuning;
 use sqlite::{Alter, Connection, FileStore, Files, Start};
 use sqlite_disk::Disk;
 use std::alloc::AllocError;
 
-/// The result of an export: the printed text, the host's files, if there were any, and the files in
-/// which the tenant's host was made. These have a copy, if one was made. All files are closed.
+/// The result of an export: the printed text, the host's files and its packs, if there were any, and
+/// the files in which the tenant's host was made. These have a copy, if one was made. All files of
+/// databases are closed.
 #[derive(Drop)]
-pub struct Exported<D: Disk + Drop, M: Disk + Drop, E: Disk + Drop> {
+pub struct Exported<D: Disk + Drop, P: Drop, M: Disk + Drop, E: Disk + Drop> {
     pub printed: Printed,
     pub files: Option<Files<D>>,
+    pub packs: Option<P>,
     pub made: Option<Files<M>>,
     pub copy: Option<E>,
 }
 
-impl<D: Disk + Drop, M: Disk + Drop, E: Disk + Drop> Exported<D, M, E> {
+impl<D: Disk + Drop, P: Drop, M: Disk + Drop, E: Disk + Drop> Exported<D, P, M, E> {
     /// The printed text. The files are closed, so that another process may open them.
     pub fn into_printed(self) -> Printed
         ensures { result ≡ self.printed }
@@ -48,6 +50,7 @@ impl<D: Disk + Drop, M: Disk + Drop, E: Disk + Drop> Exported<D, M, E> {
         let Exported {
             printed,
             files: _,
+            packs: _,
             made: _,
             copy: _,
         } = self;
@@ -71,14 +74,15 @@ fn or_unsaved(rt: &HostRuntime, to: &str, outcome: Result<(), BackupFault>) -> R
     }
 }
 
-/// A new host in an empty database, with another host's limits and digest function, or `fault`.
-fn host_like<S: Alter + Drop, T: Alter + Drop>(
+/// A new host in an empty database, with another host's limits and digest function, or `fault`. It has
+/// no packs: all bytes go to its database.
+fn host_like<S: Alter + Drop, P: Shelf + Drop, T: Alter + Drop>(
     rt: &HostRuntime,
-    host: &Joined<S>,
+    host: &Joined<S, P>,
     path: &str,
     connection: Connection<T>,
-) -> Result<Result<Joined<T>, Done<T>>, AllocError>
-    ensures { IfOk result (λ made. MatchResult made (λ it. IsLike T.Store (alone host.now) (alone it)) (λ done. IsFault done.printed)) }
+) -> Result<Result<Joined<T, NoShelf>, Done<T>>, AllocError>
+    ensures { IfOk result (λ made. MatchResult made (IsLike T.Store host.now) (λ done. IsFault done.printed)) }
 {
     // There are no blocks yet, so any digester will do.
     let (limits, tuning) = (host.limits, Tuning::default());
@@ -105,17 +109,16 @@ fn host_like<S: Alter + Drop, T: Alter + Drop>(
 }
 
 /// Copies a tenant of a host to a new one with the same settings, and prints `export`.
-fn bring_to<S: Alter + Drop, T: Alter + Drop>(
+fn bring_to<S: Alter + Drop, P: Shelf + Drop, T: Alter + Drop>(
     rt: &HostRuntime,
-    host: &mut Joined<S>,
+    host: &mut Joined<S, P>,
     path: &str,
-    made: Joined<T>,
+    made: Joined<T, NoShelf>,
     tenant: &str,
 ) -> Result<Done<T>, AllocError>
-    requires host { IsReadyByRow S.Store (alone host.old) }
-    requires made { IsLike T.Store (alone host.old) (alone made) }
-    ensures { IfOk result (λ done. Exports S.Store tenant.now (alone host.old) host.new.connection.database done.printed T.Store
-        done.connection) }
+    requires host { IsJoinedByRow S.Store P.Shelf host.old }
+    requires made { IsLike T.Store host.old made }
+    ensures { IfOk result (λ done. Exports S.Store P.Shelf tenant.now host.old host.new.connection done.printed T.Store done.connection) }
 {
     let mut made = made;
     let line = Printed::line(rt.alloc(), b"export")?;
@@ -128,16 +131,15 @@ fn bring_to<S: Alter + Drop, T: Alter + Drop>(
 }
 
 /// Copies a tenant to a new host in an empty database.
-fn fill<S: Alter + Drop, T: Alter + Drop>(
+fn fill<S: Alter + Drop, P: Shelf + Drop, T: Alter + Drop>(
     rt: &HostRuntime,
-    host: &mut Joined<S>,
+    host: &mut Joined<S, P>,
     path: &str,
     connection: Connection<T>,
     tenant: &str,
 ) -> Result<Done<T>, AllocError>
-    requires { IsReadyByRow S.Store (alone host.old) }
-    ensures { IfOk result (λ done. Exports S.Store tenant.now (alone host.old) host.new.connection.database done.printed T.Store
-        done.connection) }
+    requires { IsJoinedByRow S.Store P.Shelf host.old }
+    ensures { IfOk result (λ done. Exports S.Store P.Shelf tenant.now host.old host.new.connection done.printed T.Store done.connection) }
 {
     match host_like(rt, host, path, connection)? {
         Ok(made) => bring_to(rt, host, path, made, tenant),
@@ -166,28 +168,29 @@ fn save_moved<D: Disk + Drop, W: Start>(
             copy: None,
         });
     }
-    match save(rt, connection, to, to_start) {
-        Ok(Saved { files, copy }) => Ok(Made {
+    // It has no packs.
+    match save(rt, connection, &mut NoShelf, to, to_start) {
+        Ok(saved) => Ok(Made {
             printed,
-            files: Some(files),
-            copy: Some(copy),
+            files: Some(saved.files),
+            copy: Some(saved.copy.file),
         }),
         Err(reason) => Err(Fault::unsaved(rt.alloc(), to, reason)),
     }
 }
 
 /// Fills the file in which the tenant's host is made, and copies it to the new one.
-fn export_to<S: Alter + Drop, U: Start, W: Start>(
+fn export_to<S: Alter + Drop, P: Shelf + Drop, U: Start, W: Start>(
     rt: &HostRuntime,
-    host: &mut Joined<S>,
+    host: &mut Joined<S, P>,
     path: &str,
     tenant: &str,
     to: &str,
     made_start: U,
     to_start: W,
 ) -> Result<Made<HostFile<U>, HostFile<W>>, Fault>
-    requires { IsReadyByRow S.Store (alone host.old) }
-    ensures { IfOk result (λ it. ExportsTo S.Store tenant.now (alone host.old) host.new.connection.database it.printed
+    requires { IsJoinedByRow S.Store P.Shelf host.old }
+    ensures { IfOk result (λ it. ExportsTo S.Store P.Shelf tenant.now host.old host.new.connection it.printed
         ⟦<HostFile<U> as Disk>⟧ ⟦<HostFile<W> as Disk>⟧ it.files it.copy) }
 {
     let connection = open(rt, path, made_start)?;
@@ -197,19 +200,19 @@ fn export_to<S: Alter + Drop, U: Start, W: Start>(
 
 /// Exports a tenant of a host in files, and closes them. What was made beside the new file is
 /// removed.
-fn export_from<D: Disk + Drop, U: Start, W: Start>(
+fn export_from<D: Disk + Drop, P: Shelf + Drop, U: Start, W: Start>(
     rt: &HostRuntime,
-    host: Opened<FileStore<D>>,
+    host: Joined<FileStore<D>, P>,
     tenant: &str,
     to: &str,
     made_start: U,
     to_start: W,
-) -> Result<Exported<D, HostFile<U>, HostFile<W>>, Fault>
-    requires { IsReadyByRow over_files host }
-    ensures { IfOk result (λ it. MatchOption it.files ⊥ (IsExportedFrom ⟦<HostFile<U> as Disk>⟧ ⟦<HostFile<W> as Disk>⟧
-        tenant.now host it.printed it.made it.copy)) }
+) -> Result<Exported<D, P, HostFile<U>, HostFile<W>>, Fault>
+    requires { IsJoinedByRow over_files P.Shelf host }
+    ensures { IfOk result (λ it. MatchOption it.files ⊥ (IsExportedFrom D.Disk P.Shelf ⟦<HostFile<U> as Disk>⟧
+        ⟦<HostFile<W> as Disk>⟧ tenant.now host it.printed it.made it.copy it.packs)) }
 {
-    let mut host = Joined::of(host);
+    let mut host = host;
     let making = Making::of(rt, to)?;
     or_unsaved(rt, to, making.clear(rt))?;
     let path = making.file.as_str();
@@ -223,40 +226,43 @@ fn export_from<D: Disk + Drop, U: Start, W: Start>(
     Ok(Exported {
         printed,
         files: Some(let_go(host.connection.database)),
+        packs: Some(host.connection.packs),
         made: files,
         copy,
     })
 }
 
 /// Copies a tenant of a file's host, with all its contents, to a new host in a new file, `to`, and
-/// prints `export`. The new host has the old one's limits, digest function and last stamp. No
-/// timestamp is taken, and the old host doesn't change.
+/// prints `export`. The new host has the old one's limits, digest function and last stamp, and no
+/// packs. No timestamp is taken, and the old host doesn't change.
 ///
 /// The new host is made in a file of that name with `.moving` appended, and then copied as a backup
 /// is. Before it prints, the new file is complete and synced; if it fails, there is none.
 /// `42 NoSuchTenant` if the host doesn't have the tenant. If the `.moving` file or its log exists and
 /// no export made it, that is a fault, and it isn't removed. So is another program's database in the
 /// `.partial` file.
-pub fn export_file<S: Start, U: Start, W: Start>(
+pub fn export_file<S: Start, K: ClosedPacks + Drop, U: Start, W: Start>(
     rt: &HostRuntime,
     path: &str,
     start: S,
+    closed: K,
     tenant: &str,
     to: &str,
     made_start: U,
     to_start: W,
-) -> Result<Exported<HostFile<S>, HostFile<U>, HostFile<W>>, Fault>
-    requires { HoldsSoundHost (image_at S.Start) }
-    ensures { IfOk result (λ it. IsExported ⟦<HostFile<S> as Disk>⟧ ⟦<HostFile<U> as Disk>⟧ ⟦<HostFile<W> as Disk>⟧ (image_at S.Start)
-        tenant.now it.printed it.files it.made it.copy) }
+) -> Result<Exported<HostFile<S>, K::Open, HostFile<U>, HostFile<W>>, Fault>
+    requires { HoldsSoundHost (K.has closed) (image_at S.Start) }
+    ensures { IfOk result (λ it. IsExported ⟦<HostFile<S> as Disk>⟧ K.Open.Shelf ⟦<HostFile<U> as Disk>⟧ ⟦<HostFile<W> as Disk>⟧
+        tenant.now (K.has closed) (image_at S.Start) it.printed it.files it.packs it.made it.copy) }
 {
     or_unsaved(rt, to, refuse_taken(rt, to))?;
     or_unsaved(rt, to, refuse_foreign(rt, to))?;
-    match host_in(rt, path, start)? {
+    match host_in(rt, path, start, closed)? {
         Ok(host) => export_from(rt, host, tenant, to, made_start, to_start),
         Err(Ended { printed, files }) => Ok(Exported {
             printed,
             files,
+            packs: None,
             made: None,
             copy: None,
         }),

@@ -52,6 +52,8 @@ pub enum Fault {
     Unopened { path: String, reason: OpenFault },
     /// The file of this path can't be created.
     Unsaved { path: String, reason: BackupFault },
+    /// The packs beside the file of this path can't be opened.
+    Unpacked { path: String, reason: String },
     /// The clock or standard input can't be read, or standard output can't be written.
     System(io::Error),
     /// Standard input is longer than the maximum for a script.
@@ -66,6 +68,16 @@ pub enum Fault {
     LostHost,
     /// A server closed the connection before it replied to a line.
     NoReply,
+}
+
+/// A path and a reason, as texts of their own.
+fn texts(
+    alloc: Global,
+    path: &str,
+    reason: &impl fmt::Display,
+) -> Result<(String, String), AllocError> {
+    let reason = format!(in alloc; "{reason}")?;
+    Ok((String::from_str(alloc, path)?, reason))
 }
 
 impl Fault {
@@ -86,6 +98,14 @@ impl Fault {
     pub fn unsaved(alloc: Global, path: &str, reason: BackupFault) -> Fault {
         match String::from_str(alloc, path) {
             Ok(path) => Fault::Unsaved { path, reason },
+            Err(_) => Fault::Memory,
+        }
+    }
+
+    /// The error that the packs beside the file of a path can't be opened.
+    pub fn unpacked(alloc: Global, path: &str, reason: &impl fmt::Display) -> Fault {
+        match texts(alloc, path, reason) {
+            Ok((path, reason)) => Fault::Unpacked { path, reason },
             Err(_) => Fault::Memory,
         }
     }
@@ -117,6 +137,10 @@ impl fmt::Display for Fault {
             Fault::Memory => f.write_str("out of memory"),
             Fault::Unopened { path, reason } => write!(f, "unable to open {path}: {reason}"),
             Fault::Unsaved { path, reason } => write!(f, "unable to create {path}: {reason}"),
+            Fault::Unpacked { path, reason } => write!(
+                f,
+                "unable to open the packs of {path}: {reason}"
+            ),
             Fault::System(error) => write!(f, "{error}"),
             Fault::LongInput => f.write_str("standard input is too long"),
             Fault::UnknownDigest => f.write_str(

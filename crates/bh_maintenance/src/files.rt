@@ -5,19 +5,20 @@ ghost use Rattle.sqlite.specs.Files.{file_state, over_files};
 ghost use Rattle.sqlite_wal.specs.Files.{image_at};
 ghost use Rattle.bh_types.specs.declared.refusal.Refusal.TheVariants as refusal;
 ghost use Rattle.bh_file.specs.Opened.{IsOpenedOn};
-ghost use Rattle.bh_maintenance.specs.Backups.{IsLeftOut};
+ghost use Rattle.bh_maintenance.specs.Endings.{IsLeftOut};
 ghost use Rattle.bh_maintenance.specs.Files.{HoldsSoundHost};
-ghost use Rattle.bh_maintenance.specs.Found.{IsSoundIn, IsHostIn};
-ghost use Rattle.bh_maintenance.specs.Moves.{IsHostAt, HasNoHost};
+ghost use Rattle.bh_maintenance.specs.Found.{IsSoundIn, IsJoinedIn};
+ghost use Rattle.bh_maintenance.specs.Opened.{IsHostAt, HasNoHost};
 ghost use Rattle.bh_maintenance.specs.Printing.{IsRefusal};
 
 use crate::ending::{Ended, close, leave};
 use crate::fault::Fault;
 use crate::hosts::opened_host;
+use crate::joined::Joined;
 use crate::printed::Printed;
 use crate::remarks::{Remark, tell};
 use bh_file::{FileConnection, HostFile, OpenFault};
-use bh_open::Opened;
+use bh_shelf::closed::ClosedPacks;
 use bh_types::refusal::Refusal;
 use sqlite::{Connection, FileStore, Start};
 use sqlite_disk::Disk;
@@ -62,16 +63,17 @@ pub fn open<S: Start>(rt: &HostRuntime, path: &str, start: S) -> Result<FileConn
 }
 
 /// The host of a connection to files, or the printed text if there is none, and the closed files.
-fn host_or_closed<D: Disk + Drop>(
+fn host_or_closed<D: Disk + Drop, K: ClosedPacks + Drop>(
     rt: &HostRuntime,
     path: &str,
     connection: Connection<FileStore<D>>,
-) -> Result<Result<Opened<FileStore<D>>, Ended<D>>, AllocError>
-    requires { IsSoundIn (file_state connection) }
-    ensures { IfOk result (λ found. MatchResult found (IsHostIn over_files connection)
+    closed: K,
+) -> Result<Result<Joined<FileStore<D>, K::Open>, Ended<D>>, Fault>
+    requires { IsSoundIn (K.has closed) (file_state connection) }
+    ensures { IfOk result (λ found. MatchResult found (IsJoinedIn over_files K.Open.Shelf (K.has closed) connection)
         (λ ended. MatchOption ended.files ⊥ (IsLeftOut connection ended.printed))) }
 {
-    match opened_host(rt, path, connection)? {
+    match opened_host(rt, path, connection, closed)? {
         Ok(host) => Ok(Ok(host)),
         Err(done) => {
             let (printed, left) = leave(done);
@@ -83,21 +85,23 @@ fn host_or_closed<D: Disk + Drop>(
     }
 }
 
-/// The host of a file, upgraded if needed; or the printed text if there is none, and its closed
-/// files, if there are any. An error names the path.
-pub fn host_in<S: Start>(
+/// The host of a file, upgraded if needed and joined with its packs; or the printed text if there is
+/// none, and its closed files, if there are any. An error names the path.
+pub fn host_in<S: Start, K: ClosedPacks + Drop>(
     rt: &HostRuntime,
     path: &str,
     start: S,
-) -> Result<Result<Opened<FileStore<HostFile<S>>>, Ended<HostFile<S>>>, Fault>
-    requires { HoldsSoundHost (image_at S.Start) }
-    ensures { IfOk result (λ found. MatchResult found (IsHostAt ⟦<HostFile<S> as Disk>⟧ (image_at S.Start))
+    closed: K,
+) -> Result<Result<Joined<FileStore<HostFile<S>>, K::Open>, Ended<HostFile<S>>>, Fault>
+    requires { HoldsSoundHost (K.has closed) (image_at S.Start) }
+    ensures { IfOk result (λ found. MatchResult found
+        (IsHostAt ⟦<HostFile<S> as Disk>⟧ K.Open.Shelf (K.has closed) (image_at S.Start))
         (λ ended. HasNoHost ⟦<HostFile<S> as Disk>⟧ (image_at S.Start) ended.printed ended.files)) }
 {
     match is_blank(rt, path) {
         Ok(false) => {
             let connection = open(rt, path, start)?;
-            Ok(host_or_closed(rt, path, connection)?)
+            host_or_closed(rt, path, connection, closed)
         }
         Ok(true) => Ok(Err(without_files(rt.alloc())?)),
         Err(error) => Err(Fault::unopened(rt.alloc(), path, OpenFault::from(error))),

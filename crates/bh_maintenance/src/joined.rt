@@ -1,20 +1,20 @@
 //! An opened host with packs.
 
 ghost use Rattle.std.specs.Prelude.{◌≡◌};
-ghost use Rattle.bh_maintenance.specs.Joined.{alone};
+ghost use Rattle.bh_maintenance.specs.Joined.{joined};
 
 use bh_base::connection::Connection;
 use bh_open::Opened;
-use bh_shelf::no_shelf::NoShelf;
+use bh_shelf::shelf::Shelf;
 use bh_types::block_digest::BlockDigest;
 use bh_types::limits::{Limits, Tuning};
 use sqlite::Alter;
 
-/// A host that was opened, whose database is joined with its packs. It has none yet.
+/// A host that was opened, whose database is joined with its packs.
 #[derive(Drop)]
-pub struct Joined<S: Alter + Drop> {
+pub struct Joined<S: Alter + Drop, P: Shelf + Drop> {
     /// The database and the packs.
-    pub connection: Connection<S, NoShelf>,
+    pub connection: Connection<S, P>,
     /// The limits that the host was created with.
     pub limits: Limits,
     /// The settings of this process.
@@ -25,10 +25,10 @@ pub struct Joined<S: Alter + Drop> {
     pub latest: u64,
 }
 
-impl<S: Alter + Drop> Joined<S> {
+impl<S: Alter + Drop, P: Shelf + Drop> Joined<S, P> {
     /// The host, with packs.
-    pub(crate) fn of(host: Opened<S>) -> Joined<S>
-        ensures { alone result ≡ host }
+    pub(crate) fn of(host: Opened<S>, packs: P) -> Joined<S, P>
+        ensures { result ≡ joined host packs }
     {
         let Opened {
             connection,
@@ -36,11 +36,12 @@ impl<S: Alter + Drop> Joined<S> {
             tuning,
             digest,
             latest,
+            listed: _,
         } = host;
         Joined {
             connection: Connection {
                 database: connection,
-                packs: NoShelf,
+                packs,
             },
             limits,
             tuning,

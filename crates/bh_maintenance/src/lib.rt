@@ -17,8 +17,8 @@ mod moves;
 pub mod printed;
 pub mod remarks;
 
-pub use backups::{BackedUp, backup_file};
-pub use checks::check_file;
+pub use backups::{BackedUp, HostCopy, backup_file};
+pub use checks::{Checked, check_file};
 pub use clocks::ClockRead;
 pub use exports::{Exported, export_file};
 pub use imports::{Imported, import_file};

@@ -2,8 +2,7 @@
 
 ghost use Rattle.std.specs.Prelude.{IfOk};
 ghost use Rattle.bh_blocks.specs.Digests.{digest_by};
-ghost use Rattle.bh_maintenance.specs.Found.{IsReadyBy};
-ghost use Rattle.bh_maintenance.specs.Joined.{alone};
+ghost use Rattle.bh_maintenance.specs.Found.{IsJoinedBy};
 ghost use Rattle.bh_maintenance.specs.Moves.{Tells, Moves, TellsMove};
 
 use crate::counted::Counted;
@@ -14,6 +13,7 @@ use bh_blocks::digester::{FastDigester, Sha256Digester};
 use bh_file::Meter;
 use bh_moved::move_tenant;
 use bh_schema::host::Digester;
+use bh_shelf::shelf::Shelf;
 use bh_types::block_digest::BlockDigest;
 use bh_types::limits::Tuning;
 use bh_types::refusal::Refusal;
@@ -21,17 +21,17 @@ use sqlite::{Alter, Error};
 use std::alloc::{AllocError, Global};
 
 /// Moves a tenant into a host, with the digester of its blocks.
-fn move_with<S: Alter + Drop, T: Alter + Drop, D: Digester>(
-    from: &mut Joined<S>,
-    to: &mut Joined<T>,
+fn move_with<S: Alter + Drop, P: Shelf + Drop, T: Alter + Drop, Q: Shelf + Drop, D: Digester>(
+    from: &mut Joined<S, P>,
+    to: &mut Joined<T, Q>,
     alloc: Global,
     digester: &D,
     tenant: &str,
 ) -> Result<Option<Refusal>, Error>
-    requires from { IsReadyBy S.Store (digest_by from.old.digest) (alone from.old) }
-    requires to { IsReadyBy T.Store D.digest_of (alone to.old) }
-    ensures { Moves S.Store T.Store from.old.connection.database to.old.connection.database from.new.connection.database
-        to.new.connection.database D.digest_of tenant.now result }
+    requires from { IsJoinedBy S.Store P.Shelf (digest_by from.old.digest) from.old }
+    requires to { IsJoinedBy T.Store Q.Shelf D.digest_of to.old }
+    ensures { Moves S.Store P.Shelf T.Store Q.Shelf from.old.connection to.old.connection from.new.connection to.new.connection
+        D.digest_of tenant.now result }
 {
     let size = Tuning::default().block_size;
     move_tenant(
@@ -45,18 +45,18 @@ fn move_with<S: Alter + Drop, T: Alter + Drop, D: Digester>(
 }
 
 /// Moves a tenant into a host, and counts the bytes of its blocks.
-fn move_by<S: Alter + Drop, T: Alter + Drop, D: Digester>(
-    from: &mut Joined<S>,
-    to: &mut Joined<T>,
+fn move_by<S: Alter + Drop, P: Shelf + Drop, T: Alter + Drop, Q: Shelf + Drop, D: Digester>(
+    from: &mut Joined<S, P>,
+    to: &mut Joined<T, Q>,
     alloc: Global,
     digester: &D,
     tenant: &str,
     meter: Meter,
 ) -> Result<Option<Refusal>, Error>
-    requires from { IsReadyBy S.Store (digest_by from.old.digest) (alone from.old) }
-    requires to { IsReadyBy T.Store D.digest_of (alone to.old) }
-    ensures { Moves S.Store T.Store from.old.connection.database to.old.connection.database from.new.connection.database
-        to.new.connection.database D.digest_of tenant.now result }
+    requires from { IsJoinedBy S.Store P.Shelf (digest_by from.old.digest) from.old }
+    requires to { IsJoinedBy T.Store Q.Shelf D.digest_of to.old }
+    ensures { Moves S.Store P.Shelf T.Store Q.Shelf from.old.connection to.old.connection from.new.connection to.new.connection
+        D.digest_of tenant.now result }
 {
     let counted = Counted::new(digester, meter);
     let moved = move_with(from, to, alloc, &counted, tenant);
@@ -65,17 +65,17 @@ fn move_by<S: Alter + Drop, T: Alter + Drop, D: Digester>(
 }
 
 /// Moves a tenant, with the digester of the function in the host's row.
-fn move_by_digest<S: Alter + Drop, T: Alter + Drop>(
-    from: &mut Joined<S>,
-    to: &mut Joined<T>,
+fn move_by_digest<S: Alter + Drop, P: Shelf + Drop, T: Alter + Drop, Q: Shelf + Drop>(
+    from: &mut Joined<S, P>,
+    to: &mut Joined<T, Q>,
     alloc: Global,
     tenant: &str,
     meter: Meter,
 ) -> Result<Option<Refusal>, Error>
-    requires from { IsReadyBy S.Store (digest_by from.old.digest) (alone from.old) }
-    requires to { IsReadyBy T.Store (digest_by to.old.digest) (alone to.old) }
-    ensures { Moves S.Store T.Store from.old.connection.database to.old.connection.database from.new.connection.database
-        to.new.connection.database (digest_by to.old.digest) tenant.now result }
+    requires from { IsJoinedBy S.Store P.Shelf (digest_by from.old.digest) from.old }
+    requires to { IsJoinedBy T.Store Q.Shelf (digest_by to.old.digest) to.old }
+    ensures { Moves S.Store P.Shelf T.Store Q.Shelf from.old.connection to.old.connection from.new.connection to.new.connection
+        (digest_by to.old.digest) tenant.now result }
 {
     match to.digest {
         BlockDigest::Sha256 => move_by(from, to, alloc, &Sha256Digester, tenant, meter),
@@ -105,19 +105,19 @@ fn told(
 
 /// Moves a tenant into a host, and returns this line, or the printed text if it was not moved. The
 /// meter counts the bytes of its blocks.
-pub(crate) fn move_and_tell<S: Alter + Drop, T: Alter + Drop>(
+pub(crate) fn move_and_tell<S: Alter + Drop, P: Shelf + Drop, T: Alter + Drop, Q: Shelf + Drop>(
     rt: &HostRuntime,
     path: &str,
-    from: &mut Joined<S>,
-    to: &mut Joined<T>,
+    from: &mut Joined<S, P>,
+    to: &mut Joined<T, Q>,
     tenant: &str,
     line: Printed,
     meter: Meter,
 ) -> Result<Printed, AllocError>
-    requires from { IsReadyBy S.Store (digest_by from.old.digest) (alone from.old) }
-    requires to { IsReadyBy T.Store (digest_by to.old.digest) (alone to.old) }
-    ensures { IfOk result (TellsMove S.Store T.Store from.old.connection.database to.old.connection.database from.new.connection.database
-        to.new.connection.database (digest_by to.old.digest) tenant.now line) }
+    requires from { IsJoinedBy S.Store P.Shelf (digest_by from.old.digest) from.old }
+    requires to { IsJoinedBy T.Store Q.Shelf (digest_by to.old.digest) to.old }
+    ensures { IfOk result (TellsMove S.Store P.Shelf T.Store Q.Shelf from.old.connection to.old.connection from.new.connection
+        to.new.connection (digest_by to.old.digest) tenant.now line) }
 {
     let outcome = move_by_digest(from, to, rt.alloc(), tenant, meter);
     told(rt, path, outcome, line)

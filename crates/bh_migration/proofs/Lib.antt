@@ -5,3 +5,4 @@ mod Tallied
 mod Made
 mod Adding
 mod PlacedText
+mod PacksText

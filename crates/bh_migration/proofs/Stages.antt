@@ -9,6 +9,8 @@ use Rattle.sqlite.specs.declared.error.Error.{Error}
 use Rattle.bh_rows.specs.Means.{Changes, is_trouble}
 use Rattle.bh_rows.proofs.CallLemmas.{clean_before, write_changes}
 use Rattle.bh_rows.proofs.WriteLemmas.{updates_quiet}
+use Rattle.bh_rows.specs.Form.{AreRows}
+use Rattle.bh_tables.specs.Rows.{pack_form}
 use Rattle.bh_tables.specs.Hosts.{brought_over, tables_shown, tables_opened}
 use Rattle.bh_tables.specs.Schema.{host_schema, host_table, at}
 use Rattle.bh_tables.specs.Typed.{raw, Tables, tables_in, tables_of, first_tables_in, totals_of, unweighed, untallied, AreHeld, IsHost}
@@ -99,6 +101,13 @@ all_brought version a b c d was made holds is set = record {
   inside = is.inside;
   changed = changed version a d was.schema is.schema (brought version a b c d made holds set);
 }
+
+-- its packs have typed rows
+pub packs_after : (version : Earlier) (old new : Database) → IsChanged old new → IsEarlierHost version old → AreRows pack_form (new.trees 32)
+packs_after First old new it host = (it.first host).host.held.packs
+packs_after Second old new it host = (it.second host).host.held.packs
+packs_after Third old new it host = (it.third host).host.held.packs
+packs_after Fourth old new it host = (it.fourth host).host.held.packs
 
 -- what it shows stays
 pub shows_same : (old new : Database) → IsOfEarlier old → IsChanged old new → tables_shown new ≡ tables_opened old

@@ -1,3 +1,4 @@
 pub mod Making
 pub mod Migration
 pub mod Tallying
+pub mod Listing

@@ -2,12 +2,13 @@
 //! missing tables, and counts what the present version counts of other rows.
 #![tactic(auto)]
 
+mod listing;
 mod making;
 mod tallying;
 mod unplaced;
 mod weighing;
 
-ghost use Rattle.std.specs.Prelude.{◌≡◌, ◌⊎◌, true, false, [], IfErr, OnOk, OnErr};
+ghost use Rattle.std.specs.Prelude.{◌≡◌, ◌⊎◌, true, false, [], IfOk, IfErr, OnOk, OnErr};
 ghost use Rattle.sqlite.specs.Held.{state};
 ghost use Rattle.sqlite.specs.Tree.{Trees};
 ghost use Rattle.bh_rows.specs.Means.{is_trouble};
@@ -16,16 +17,20 @@ ghost use Rattle.bh_tables.specs.Schema.{host_schema};
 ghost use Rattle.bh_tables.specs.Typed.{IsHost, Tables};
 ghost use Rattle.bh_base.specs.Databases.{IsIntact, IsOpen, IsClean, stands, tables, StaysWithin, StaysOpen, IsTroubleIf};
 ghost use Rattle.bh_base.specs.Layer.{Leaves, Holds, taken_back, KeepsDisk};
+ghost use Rattle.bh_migration.specs.Listing.{Lists};
 ghost use Rattle.bh_migration.specs.Migration.{IsEarlier, IsEarlierHost, IsOfEarlier, earlier_schema, HasSchema, HoldsUntallied};
 ghost use Rattle.bh_migration.specs.Migration.{Brings, Settles, LeavesChanged};
 ghost use Rattle.bh_migration.specs.Tallying.{HoldsUnweighed};
 
 use crate::making::make_tables;
 use crate::tallying::tally_tenants;
+use crate::unplaced::none_placed;
 use crate::weighing::weigh;
 use bh_base::transactions::{begin, commit, take_back};
+use bh_shelf::closed::Listed;
+pub use listing::list_packs;
 use sqlite::{Alter, Connection, Error};
-pub use unplaced::none_placed;
+use std::alloc::Global;
 
 /// The version of an older host.
 #[derive(Clone, Copy)]
@@ -90,26 +95,37 @@ fn change<S: Alter>(connection: &mut Connection<S>, version: Earlier) -> Result<
     set_version(connection)
 }
 
-/// The same, if no block has its bytes in a pack then.
-fn change_whole<S: Alter>(connection: &mut Connection<S>, version: Earlier) -> Result<(), Error>
+/// The same, if no block has its bytes in a pack then. Returns what the table of packs lists.
+fn change_whole<S: Alter>(
+    alloc: Global,
+    connection: &mut Connection<S>,
+    version: Earlier,
+) -> Result<Vec<Listed>, Error>
     requires { IsClean S.Store connection.old → HasSchema (earlier_schema version) (stands S.Store connection.old) }
     ensures within { StaysWithin S.Store connection.old connection.new }
     ensures opens { OnOk result (StaysOpen S.Store connection.old connection.new) }
     ensures brings { OnOk result (IsClean S.Store connection.new
         → Brings (stands S.Store connection.old) (stands S.Store connection.new)) }
     ensures unplaced { OnOk result (IsClean S.Store connection.new → (stands S.Store connection.new).now.trees 34 ≡ []) }
+    ensures lists { IfOk result (λ listed. IsClean S.Store connection.new → Lists (stands S.Store connection.new).now listed.items) }
     ensures trouble { IfErr result (IsTroubleIf S.Store connection.old connection.new
         (IsEarlierHost version (stands S.Store connection.old).now)) }
 {
     change(connection, version)?;
-    none_placed(connection)
+    none_placed(connection)?;
+    list_packs(alloc, connection)
 }
 
-fn commit_change<S: Alter>(connection: &mut Connection<S>, version: Earlier) -> Result<usize, Error>
+fn commit_change<S: Alter>(
+    alloc: Global,
+    connection: &mut Connection<S>,
+    version: Earlier,
+) -> Result<Vec<Listed>, Error>
     requires { IsClean S.Store connection.old → IsEarlier version (stands S.Store connection.old) }
     ensures follows { KeepsDisk (state S.Store connection.old) (state S.Store connection.new) }
     ensures settles { OnOk result (IsClean S.Store connection.new
         → Settles (stands S.Store connection.old) (stands S.Store connection.new)) }
+    ensures lists { IfOk result (λ listed. IsClean S.Store connection.new → Lists (stands S.Store connection.new).now listed.items) }
     ensures kept { OnErr result (IsClean S.Store connection.new
         → (stands S.Store connection.new).kept ≡ (stands S.Store connection.old).kept) }
     ensures crash { IsIntact S.Store connection.new → (db : Trees) → Leaves (state S.Store connection.new) db
@@ -119,8 +135,9 @@ fn commit_change<S: Alter>(connection: &mut Connection<S>, version: Earlier) -> 
         (IsClean S.Store connection.old → IsEarlierHost version (stands S.Store connection.old).now)) }
 {
     begin(connection)?;
-    change_whole(connection, version)?;
-    commit(connection)
+    let listed = change_whole(alloc, connection, version)?;
+    commit(connection)?;
+    Ok(listed)
 }
 
 /// Upgrades a database with the tables of a host of an older version to version 5, in one commit.
@@ -128,12 +145,18 @@ fn commit_change<S: Alter>(connection: &mut Connection<S>, version: Earlier) -> 
 /// It creates the missing tables: that of tallies with the counts of each tenant's rows, that of what
 /// nobody needs with the bytes of the blocks that no reference names, and the others without rows.
 /// Then it sets the host's version to 5. The host's contents don't change. After an error nothing has
-/// changed. A row of places, which no program of versions 1 to 4 writes, is an error.
-pub fn bring_over<S: Alter>(connection: &mut Connection<S>, version: Earlier) -> Result<(), Error>
+/// changed. A row of places, which no program of versions 1 to 4 writes, is an error. Returns what the
+/// table of packs lists.
+pub fn bring_over<S: Alter>(
+    alloc: Global,
+    connection: &mut Connection<S>,
+    version: Earlier,
+) -> Result<Vec<Listed>, Error>
     requires { IsClean S.Store connection.old → IsEarlier version (stands S.Store connection.old) }
     ensures follows { KeepsDisk (state S.Store connection.old) (state S.Store connection.new) }
     ensures settles { OnOk result (IsClean S.Store connection.new
         → Settles (stands S.Store connection.old) (stands S.Store connection.new)) }
+    ensures lists { IfOk result (λ listed. IsClean S.Store connection.new → Lists (stands S.Store connection.new).now listed.items) }
     ensures shows { OnOk result (IsClean S.Store connection.new → IsOfEarlier (stands S.Store connection.old).now
         → tables_shown (stands S.Store connection.new).now ≡ tables_opened (stands S.Store connection.old).now) }
     ensures back { OnErr result (IsClean S.Store connection.new
@@ -146,8 +169,8 @@ pub fn bring_over<S: Alter>(connection: &mut Connection<S>, version: Earlier) ->
     ensures trouble { IfErr result (IsTroubleIf S.Store connection.old connection.new
         (IsClean S.Store connection.old → IsEarlierHost version (stands S.Store connection.old).now)) }
 {
-    match commit_change(connection, version) {
-        Ok(_) => Ok(()),
+    match commit_change(alloc, connection, version) {
+        Ok(listed) => Ok(listed),
         Err(error) => {
             take_back(connection);
             Err(error)

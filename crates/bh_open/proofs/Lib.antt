@@ -1,3 +1,4 @@
+pub mod Beside
 mod Texts
 mod Rows
 mod Steps

@@ -77,7 +77,7 @@ row_shown Fifth = record {
 }
 
 -- the host's table has typed rows
-typed_host : (v : HostVersion) (db : Database) → IsHostWith v db → (db.schema ≡ schema_of v) × AreRows host_form (db.trees 0)
+pub typed_host : (v : HostVersion) (db : Database) → IsHostWith v db → (db.schema ≡ schema_of v) × AreRows host_form (db.trees 0)
 typed_host First db host = (host.schema, host.held.host)
 typed_host Second db host = (host.schema, host.held.host)
 typed_host Third db host = (host.schema, host.held.host)
@@ -90,13 +90,13 @@ module _ (v : HostVersion) {X : Type 0} (old new : State) (schema : IsStateClean
   unfolding standing IsIntact IsOpen
   row_asks err = let it = row_shown v in scan_asks row_text (schema_of v) 0 it.test it.show by_rowid no_limit it.names 0 it.means [] old new (λ clean up. schema (record { intact = clean; is_open = up })) refl it.accepts rows_in result ok err survives
 
-  pub row_rows : IfOk result (λ x. IsStateClean new → IsHostWith v (standing old).now → rows_in x ≡ map shown_row (tables_in (standing old).now).host)
-  unfolding standing IsIntact
+  pub row_rows : IfOk result (λ x. IsStateClean new → AreRows host_form ((standing old).now.trees 0) → rows_in x ≡ map shown_row (tables_in (standing old).now).host)
+  unfolding standing IsIntact IsOpen
   row_rows = go result ok
     where
-      go : (r : Result X Error) → (HasCleanDisk new → IfOk r (λ x. Shown row_text [] old new (rows_in x))) → IfOk r (λ x. IsStateClean new → IsHostWith v old.now → rows_in x ≡ map shown_row (tables_in old.now).host)
+      go : (r : Result X Error) → (HasCleanDisk new → IfOk r (λ x. Shown row_text [] old new (rows_in x))) → IfOk r (λ x. IsStateClean new → AreRows host_form (old.now.trees 0) → rows_in x ≡ map shown_row (tables_in old.now).host)
       go (Err e) h = tt
-      go (Ok x) h = λ clean host.
+      go (Ok x) h = λ clean typed.
           let it = row_shown v in
-          scan_rows host_form row_text (schema_of v) 0 it.test it.show no_limit it.names 0 it.means it.low [] (λ _. true) it.tests shown_row it.shows old new (λ _ _. typed_host v old.now host) rows_in (Ok x) h survives clean.intact
+          scan_rows host_form row_text (schema_of v) 0 it.test it.show no_limit it.names 0 it.means it.low [] (λ _. true) it.tests shown_row it.shows old new (λ intact up. (schema (record { intact = intact; is_open = up }), typed)) rows_in (Ok x) h survives clean.intact
           ∙ ap (map shown_row) (all_pass (tables_in old.now).host)

@@ -5,17 +5,21 @@ use Rattle.sqlite.specs.Order.{Row}
 use Rattle.sqlite.specs.Effect.{Database}
 use Rattle.sqlite.specs.State.{State}
 use Rattle.sqlite.specs.Tree.{Trees}
+use Rattle.bh_rows.specs.Form.{AreRows}
 use Rattle.bh_types.specs.BlockDigests.{digest_number}
 use Rattle.bh_types.specs.Limits.{HostLimits, AreLimits}
 use Rattle.bh_types.specs.declared.block_digest.BlockDigest.{BlockDigest}
 use Rattle.bh_tables.specs.Schema.{host_schema}
-use Rattle.bh_tables.specs.Typed.{HostRow, Tables, tables_in, number}
+use Rattle.bh_tables.specs.Rows.{pack_form}
+use Rattle.bh_tables.specs.Typed.{HostRow, Tables, tables_in, number, host_form, IsFirstHost, IsSecondHost, IsThirdHost, IsFourthHost}
 use Rattle.bh_view.specs.Grouped.{first}
 use Rattle.bh_migration.specs.Migration.{Settles, LeavesChanged}
 use Rattle.bh_open.specs.Versions.{number_of, schema_of, IsEarlierSchema, IsHostWith}
 use Rattle.bh_open.specs.declared.found.FoundHost.{FoundHost}
 use Rattle.bh_open.specs.declared.found.HostVersion.{HostVersion}
+use Rattle.bh_open.specs.declared.found.HostVersion.TheVariants.{First, Second, Third, Fourth, Fifth}
 use Rattle.bh_open.specs.declared.found.NoHost.{NoHost}
+use Rattle.bh_open.specs.declared.open.Brought.{Brought}
 use Rattle.bh_base.specs.Layer.{Standing, standing, IsIntact, IsOpen, IsStateClean, Leaves, KeepsDisk, LeavesNothingNew}
 
 -- the number of the function that names a host's blocks, in the host's row
@@ -56,10 +60,34 @@ Tells version rows found =
 abbrev pub Reads : HostVersion → List HostRow → Result FoundHost NoHost → Type 0
 Reads version rows found = MatchResult found (Tells version rows) (λ why. (limits : HostLimits) → ¬ IsRowOf (number_of version) limits rows)
 
+-- whatever bytes its blocks have, it is no host's of any version: none with its schema and its host's row is
+abbrev pub IsNoHost : Database → Type 0
+IsNoHost db = (other : Database) → other.schema ≡ db.schema → other.trees 0 ≡ db.trees 0 → (limits : HostLimits) → ¬ IsHostOf limits other
+
+-- the values in the host's row, if it is a typed row
+abbrev pub FindsHost : Database → FoundHost → Type 0
+FindsHost db found = AreRows host_form (db.trees 0) → Tells found.version (tables_in db).host found
+
 -- the result for a database: those values, or no host of any version
 abbrev pub Finds : Database → Result FoundHost NoHost → Type 0
-Finds db found = MatchResult found (λ f. IsHostWith f.version db → Tells f.version (tables_in db).host f)
-    (λ why. (limits : HostLimits) → ¬ IsHostOf limits db)
+Finds db found = MatchResult found (FindsHost db) (λ why. IsNoHost db)
+
+-- the same, with what the table of packs lists
+abbrev pub FindsIn : Database → Result Brought NoHost → Type 0
+FindsIn db found = MatchResult found (λ b. FindsHost db b.host) (λ why. IsNoHost db)
+
+-- the rows that opening a host of a version needs are typed rows: of the present one, those of its packs alone
+abbrev pub IsTypedFor : HostVersion → Database → Type 0
+IsTypedFor First db = IsFirstHost db
+IsTypedFor Second db = IsSecondHost db
+IsTypedFor Third db = IsThirdHost db
+IsTypedFor Fourth db = IsFourthHost db
+IsTypedFor Fifth db = AreRows pack_form (db.trees 32)
+
+-- so are the host's row, and those that its version needs
+pub record IsLegible (db : Database) : Type 0 where
+  pub host : AreRows host_form (db.trees 0)
+  pub rest : (version : HostVersion) → db.schema ≡ schema_of version → IsTypedFor version db
 
 -- no transaction is open, and the database was committed
 pub record IsSettled (s : State) : Type 0 where

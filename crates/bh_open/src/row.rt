@@ -1,10 +1,11 @@
 ghost use Rattle.std.specs.Prelude.{◌≡◌, true, map, [], ◌∷◌, None, IfOk, IfErr, OnOk};
 ghost use Rattle.sqlite.specs.Held.{state};
+ghost use Rattle.bh_rows.specs.Form.{AreRows};
 ghost use Rattle.bh_rows.specs.Means.{is_trouble};
-ghost use Rattle.bh_tables.specs.Typed.{HostRow as Stored};
+ghost use Rattle.bh_tables.specs.Typed.{HostRow as Stored, host_form};
 ghost use Rattle.bh_base.specs.Databases.{IsClean, stands, tables, StaysWithin, WasOpen, ChangesNothing, IsTrouble};
 ghost use Rattle.bh_open.specs.Opening.{shown_row, Reads};
-ghost use Rattle.bh_open.specs.Versions.{schema_of, IsHostWith};
+ghost use Rattle.bh_open.specs.Versions.{schema_of};
 
 use crate::found::{FoundHost, HostVersion, NoHost};
 use bh_types::block_digest::BlockDigest;
@@ -86,7 +87,8 @@ pub fn host_rows<S: Alter>(
     ensures within { StaysWithin S.Store connection.old connection.new }
     ensures opens { OnOk result (WasOpen S.Store connection.old connection.new) }
     ensures same { OnOk result (ChangesNothing S.Store connection.old connection.new) }
-    ensures rows { IfOk result (λ rows. IsClean S.Store connection.new → IsHostWith version (stands S.Store connection.old).now
+    ensures rows { IfOk result (λ rows. IsClean S.Store connection.new
+        → AreRows host_form ((stands S.Store connection.old).now.trees 0)
         → rows.items ≡ map shown_row (tables S.Store connection.old).host) }
     ensures trouble { IfErr result (IsTrouble S.Store connection.old connection.new) }
 {

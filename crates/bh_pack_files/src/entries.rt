@@ -3,6 +3,7 @@
 ghost use Rattle.std.specs.Prelude.{◌≡◌, ◌≢◌, ◌+◌, ℕ};
 ghost use Rattle.bh_pack_files.specs.Names.{made_of, removed_of, Spares};
 
+use crate::beside::{Place, make_folder, open_folder};
 use crate::fault::Fault;
 use crate::name::name_of;
 use crate::record::Record;
@@ -17,32 +18,56 @@ const MADE: u64 = 7;
 
 const REMOVED: u64 = 8;
 
-/// Where the folder is, and who is to own it.
-#[derive(Drop)]
-pub(crate) struct Place {
-    pub(crate) path: String,
-    pub(crate) user: u32,
-    pub(crate) group: u32,
-}
-
-/// The open folder.
+/// The folder: open, or not there before the first file is made.
 #[derive(Drop)]
 pub struct Entries {
     rt: HostRuntime,
     place: Place,
-    folder: File,
+    folder: Option<File>,
+    is_new: bool,
     pub(crate) log: Record,
 }
 
 impl Entries {
-    pub(crate) fn new(rt: &HostRuntime, place: Place, folder: File) -> Entries
+    pub(crate) fn new(rt: &HostRuntime, place: Place, folder: Option<File>) -> Entries
         ensures { (n : ℕ) → (made_of n result.log ≡ 0) × (removed_of n result.log ≡ 0) }
     {
         Entries {
             rt: *rt,
             place,
             folder,
+            is_new: false,
             log: Record::new(),
+        }
+    }
+
+    /// Makes the folder, if it isn't there, and opens it.
+    fn reach(&mut self) -> io::Result<()>
+        ensures { self.new.log ≡ self.old.log }
+    {
+        if self.folder.is_some() {
+            return Ok(());
+        }
+        if make_folder(&self.rt, &self.place)? {
+            self.is_new = true;
+        }
+        match open_folder(&self.rt, &self.place) {
+            Ok(folder) => {
+                self.folder = Some(folder);
+                Ok(())
+            }
+            Err(fault) => Err(fault.into_error()),
+        }
+    }
+
+    /// Removes the folder, if it was made here and is empty.
+    pub(crate) fn leave(&mut self)
+        ensures { self.new.log ≡ self.old.log }
+    {
+        if self.is_new {
+            let _ = fs::remove_dir(&self.rt, self.place.path.as_str());
+            self.folder = None;
+            self.is_new = false;
         }
     }
 
@@ -52,20 +77,34 @@ impl Entries {
         Ok(format!(in self.rt.alloc(); "{}/{}", self.place.path.as_str(), name.as_str())?)
     }
 
-    /// Makes the file of a pack, with mode 0600. It is an error if the name is taken, be it by a link.
+    /// The path of a pack's file in the folder, if that is there.
+    fn path_in(&self, pack: usize) -> io::Result<String> {
+        if self.folder.is_none() {
+            return Err(ErrorKind::NotFound.into());
+        }
+        self.path_of(pack)
+    }
+
+    /// Makes the file of a pack, with mode 0600, and the folder, if that isn't there. It is an error if the
+    /// name is taken, be it by a link; no file is made then.
     pub(crate) fn make(&mut self, pack: usize) -> io::Result<File>
         ensures made { made_of pack self.new.log ≡ made_of pack self.old.log + 1 }
         ensures kept { (n : ℕ) → removed_of n self.new.log ≡ removed_of n self.old.log }
         ensures others { (n : ℕ) → n ≢ pack → Spares self.old.log self.new.log n }
     {
         self.log.note(&[MADE, pack as u64, 0, 1], &[]);
+        self.reach()?;
         let path = self.path_of(pack)?;
-        let file = OpenOptions::new()
+        OpenOptions::new()
             .read(true)
             .write(true)
             .create_new(true)
             .mode(0o600)
-            .open(&self.rt, path.as_str())?;
+            .open(&self.rt, path.as_str())
+    }
+
+    /// Gives a file that was made to its owner, where the process may.
+    pub(crate) fn own(&self, file: File) -> io::Result<File> {
         give(&file, self.place.user, self.place.group)?;
         past_streams(file)
     }
@@ -77,13 +116,13 @@ impl Entries {
         ensures others { (n : ℕ) → n ≢ pack → Spares self.old.log self.new.log n }
     {
         self.log.note(&[REMOVED, pack as u64, 0, 1], &[]);
-        let path = self.path_of(pack)?;
+        let path = self.path_in(pack)?;
         fs::remove_file(&self.rt, path.as_str())
     }
 
     /// Opens the file of a pack. No link is followed. None if it is no regular file.
     pub(crate) fn open(&self, pack: usize) -> io::Result<Option<File>> {
-        let path = self.path_of(pack)?;
+        let path = self.path_in(pack)?;
         let named = fs::symlink_metadata(&self.rt, path.as_str())?;
         if !named.is_file() {
             return Ok(None);
@@ -99,10 +138,13 @@ impl Entries {
         Ok(Some(past_streams(file)?))
     }
 
-    /// All names in the folder.
+    /// All names in the folder. There is none if it isn't there.
     pub(crate) fn list(&self) -> io::Result<Vec<String>> {
         let alloc = self.rt.alloc();
         let mut names = Vec::new(alloc);
+        if self.folder.is_none() {
+            return Ok(names);
+        }
         for entry in fs::read_dir(&self.rt, self.place.path.as_str())? {
             let name = match entry {
                 Ok(entry) => String::from_str(alloc, entry.file_name())?,
@@ -118,7 +160,10 @@ impl Entries {
 
     /// Syncs the folder, so that names that were made or removed stay so after a crash.
     pub(crate) fn sync(&self) -> io::Result<()> {
-        self.folder.sync_all()
+        match &self.folder {
+            Some(folder) => folder.sync_all(),
+            None => Ok(()),
+        }
     }
 
     /// A system's error about the file of a pack.

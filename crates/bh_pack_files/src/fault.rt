@@ -51,6 +51,28 @@ impl Fault {
             Fault::System(path, error)
         }
     }
+
+    /// The same as an error of a call on a file, which doesn't name it.
+    pub fn into_error(self) -> io::Error {
+        match self {
+            Fault::Memory => ErrorKind::OutOfMemory.into(),
+            Fault::System(_, error) => error,
+            Fault::Link(_) => told(ErrorKind::NotADirectory, "its folder is a symbolic link"),
+            Fault::NoFolder(_) => told(ErrorKind::NotADirectory, "its folder is no folder"),
+            Fault::Foreign(_) => told(ErrorKind::PermissionDenied, "its folder is another user's"),
+            Fault::Shared(_) => told(
+                ErrorKind::PermissionDenied,
+                "other users may write to its folder",
+            ),
+            Fault::Missing(_) => told(ErrorKind::NotFound, "it isn't there"),
+            Fault::NoFile(_) => told(ErrorKind::InvalidInput, "it is no regular file"),
+            Fault::Cut(_) => told(ErrorKind::UnexpectedEof, "it was cut"),
+        }
+    }
+}
+
+fn told(kind: ErrorKind, words: &str) -> io::Error {
+    io::Error::new(kind, words)
 }
 
 impl fmt::Display for Fault {

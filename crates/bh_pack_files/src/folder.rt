@@ -1,34 +1,34 @@
 //! The folder of a host's packs, beside its database.
 
-ghost use Rattle.std.specs.Prelude.{◌≡◌, ◌≢◌, ◌↔◌, ◌+◌, ◌≤◌, ◌==◌, ℕ, IfOk, OnOk, IsOk, IsTrue};
+ghost use Rattle.std.specs.Prelude.{◌≡◌, ◌≢◌, ◌↔◌, ◌+◌, ◌≤◌, ◌==◌, ℕ, false, IfOk, OnOk, IsOk, IsTrue};
 ghost use Rattle.std.specs.List.{list_any};
 ghost use Rattle.bh_pack_files.specs.Files.{IsFresh};
 ghost use Rattle.bh_pack_files.specs.Names.{made_of, removed_of, Spares};
 
-use crate::entries::{Entries, Place};
+use crate::beside::{find_folder, place_beside};
+use crate::entries::Entries;
 use crate::fault::{Fault, Shortage};
 use crate::file::{Held, PackFile};
-use crate::guard::{Flaw, Found, Owners, judge};
 use crate::name::pack_of;
 use bh_packs::folder::Folder;
 use std::alloc::AllocError;
-use std::fs::{DirBuilder, File};
+use std::fs::File;
+use std::io;
 use std::io::ErrorKind;
 use std::marker::PhantomData;
-use std::os::unix::fs::{DirBuilderExt, MetadataExt, lchown};
-use std::{fs, io};
 
 /// The folder of a host's packs.
 #[derive(Drop)]
 pub struct PackFolder<S: Held> {
     rt: HostRuntime,
     pub(crate) entries: Entries,
+    pub(crate) added: Vec<usize>,
     held: PhantomData<S>,
 }
 
 impl<S: Held> PackFolder<S> {
-    /// Opens the folder `F.packs` beside the host's file F, or makes it with mode 0700. `S` stands for what
-    /// the files there held.
+    /// Opens the folder `F.packs` beside the host's file F. If it isn't there, it is made with mode 0700 as the
+    /// first file is. `S` stands for what the files there held.
     ///
     /// It is refused if it is a symbolic link or no folder, if it belongs neither to the process's user nor
     /// to the owner of F, or if its group or others may write to it. F has to be there, and to be locked for
@@ -37,11 +37,11 @@ impl<S: Held> PackFolder<S> {
         ensures { IfOk result (λ folder. (n : ℕ) → (made_of n folder.entries.log ≡ 0) × (removed_of n folder.entries.log ≡ 0)) }
     {
         let place = place_beside(rt, host)?;
-        make_folder(rt, &place)?;
-        let folder = open_folder(rt, &place)?;
+        let folder = find_folder(rt, &place)?;
         Ok(PackFolder {
             rt: *rt,
             entries: Entries::new(rt, place, folder),
+            added: Vec::new(rt.alloc()),
             held: PhantomData,
         })
     }
@@ -75,9 +75,43 @@ impl<S: Held> PackFolder<S> {
             }
             made => made?,
         };
-        let file = PackFile::settle(file, pack)?;
+        self.begin(file, pack)
+    }
+
+    /// Makes the file of a pack, empty and with mode 0600. It is an error if its name is taken, be it by a
+    /// link. What is made so `take_back` removes again.
+    pub fn add_pack(&mut self, pack: usize) -> io::Result<PackFile<S>>
+        ensures fresh { IfOk result (λ file. IsFresh file pack) }
+        ensures others { (n : ℕ) → n ≢ pack → Spares self.old.entries.log self.new.entries.log n }
+        ensures kept { (n : ℕ) → removed_of n self.new.entries.log ≡ removed_of n self.old.entries.log }
+    {
+        self.added.reserve(1)?;
+        let file = self.entries.make(pack)?;
+        self.added.push(pack)?;
+        self.begin(file, pack)
+    }
+
+    /// Gives a new file to its owner, and syncs it and its name.
+    fn begin(&self, file: File, pack: usize) -> io::Result<PackFile<S>>
+        ensures { IfOk result (λ file. IsFresh file pack) }
+    {
+        let file = PackFile::settle(self.entries.own(file)?, pack)?;
         self.entries.sync()?;
         Ok(file)
+    }
+
+    /// Removes the files that `add_pack` made, and the folder if it was made for them, as far as the system
+    /// lets it.
+    pub fn take_back(&mut self)
+        ensures made { (n : ℕ) → made_of n self.new.entries.log ≡ made_of n self.old.entries.log }
+        ensures others { (n : ℕ) → list_any (λ pack. pack == n) self.old.added.items ≡ false
+            → Spares self.old.entries.log self.new.entries.log n }
+    {
+        while let Some(pack) = self.added.pop() {
+            let _ = self.entries.remove(pack);
+        }
+        let _ = self.entries.sync();
+        self.entries.leave();
     }
 
     /// Removes the file of a pack.
@@ -182,89 +216,4 @@ impl<S: Held> Folder<PackFile<S>> for PackFolder<S> {
 fn keep(strangers: &mut Vec<String>, name: String) -> Result<(), AllocError> {
     strangers.push(name)?;
     Ok(())
-}
-
-/// Where the folder of packs is: beside the host's file, where links to that lead.
-fn place_beside(rt: &HostRuntime, host: &str) -> Result<Place, Fault> {
-    let alloc = rt.alloc();
-    let found = match fs::metadata(rt, host) {
-        Ok(found) => found,
-        Err(error) => return Err(Fault::system(String::from_str(alloc, host)?, error)),
-    };
-    match fs::canonicalize(rt, host) {
-        Ok(real) => Ok(Place {
-            path: format!(in alloc; "{}.packs", real.as_str())?,
-            user: found.uid(),
-            group: found.gid(),
-        }),
-        Err(error) => Err(Fault::system(String::from_str(alloc, host)?, error)),
-    }
-}
-
-/// Makes the folder, if its name isn't taken, and gives it to the owner of the host's file, where the process
-/// may.
-fn make_folder(rt: &HostRuntime, place: &Place) -> Result<(), Fault> {
-    let path = place.path.as_str();
-    let made = match DirBuilder::new().mode(0o700).create(rt, path) {
-        Ok(()) => settle_folder(rt, place),
-        Err(error) if error.kind() == ErrorKind::AlreadyExists => Ok(()),
-        Err(error) => Err(error),
-    };
-    match made {
-        Ok(()) => Ok(()),
-        Err(error) => Err(Fault::system(String::from_str(rt.alloc(), path)?, error)),
-    }
-}
-
-/// Gives a new folder its owner, and syncs the folder that it is in.
-fn settle_folder(rt: &HostRuntime, place: &Place) -> io::Result<()> {
-    let path = place.path.as_str();
-    match lchown(rt, path, Some(place.user), Some(place.group)) {
-        Err(error) if error.kind() != ErrorKind::PermissionDenied => return Err(error),
-        Ok(()) | Err(_) => {}
-    }
-    match path.rsplit_once('/') {
-        Some(("", _)) => fs::open(rt, "/")?.sync_all(),
-        Some((parent, _)) => fs::open(rt, parent)?.sync_all(),
-        None => fs::open(rt, ".")?.sync_all(),
-    }
-}
-
-/// Opens the folder, unless it may not be that of packs.
-fn open_folder(rt: &HostRuntime, place: &Place) -> Result<File, Fault> {
-    let path = place.path.as_str();
-    match look(rt, place) {
-        Ok(Ok(folder)) => Ok(folder),
-        Ok(Err(flaw)) => Err(told(flaw, String::from_str(rt.alloc(), path)?)),
-        Err(error) => Err(Fault::system(String::from_str(rt.alloc(), path)?, error)),
-    }
-}
-
-/// The open folder, or why it may not be that of packs.
-fn look(rt: &HostRuntime, place: &Place) -> io::Result<Result<File, Flaw>> {
-    let path = place.path.as_str();
-    let owners = Owners {
-        process: libc::geteuid(),
-        host: place.user,
-    };
-    let named = fs::symlink_metadata(rt, path)?;
-    if let Err(flaw) = judge(Found::of(&named), owners) {
-        return Ok(Err(flaw));
-    }
-    let folder = fs::open(rt, path)?;
-    let found = folder.metadata()?;
-    if found.dev() != named.dev() || found.ino() != named.ino() {
-        return Ok(Err(Flaw::NoFolder));
-    }
-    Ok(Ok(folder))
-}
-
-/// The message of a flaw.
-fn told(flaw: Flaw, path: String) -> Fault {
-    match flaw {
-        Flaw::Link => Fault::Link(path),
-        Flaw::NoFolder => Fault::NoFolder(path),
-        Flaw::Foreign => Fault::Foreign(path),
-        Flaw::Shared => Fault::Shared(path),
-    }
 }

@@ -1,6 +1,7 @@
 //! The folder of a host's packs: its files are those of the operating system.
 #![tactic(auto)]
 
+mod beside;
 mod entries;
 mod fault;
 mod file;

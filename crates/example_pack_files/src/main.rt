@@ -1,13 +1,15 @@
 //! Packs in a folder of real files.
 //!
-//!     example_pack_files run PATH          a folder is made, opened again, damaged and refused
+//!     example_pack_files run PATH          a folder is made, opened again, damaged and refused; then a shelf, and its copy
 //!     example_pack_files write PATH        blocks are appended and synced, until it is killed
 //!     example_pack_files read PATH N       the first N of them are read
 //!     example_pack_files measure PATH N    N blocks are appended and synced, and read: how long it took
 #![tactic(auto)]
 
 mod blocks;
+mod copy;
 mod scene;
+mod shelf;
 
 use std::process::ExitCode;
 use std::{env, io};
@@ -35,7 +37,11 @@ fn main(rt: HostRuntime) -> io::Result<ExitCode> {
     };
     let count = count_of(words.as_slice());
     match verb.as_str() {
-        "run" => scene::run(&rt, path.as_str())?,
+        "run" => {
+            scene::run(&rt, path.as_str())?;
+            shelf::run(&rt, path.as_str())?;
+            copy::run(&rt, path.as_str())?;
+        }
         "write" => blocks::write(&rt, path.as_str())?,
         "read" => blocks::read(&rt, path.as_str(), count)?,
         "measure" => blocks::measure(&rt, path.as_str(), count)?,

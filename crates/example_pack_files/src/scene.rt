@@ -56,7 +56,7 @@ fn open(rt: &HostRuntime, path: &str) -> io::Result<Option<Shelf>> {
 }
 
 /// Prints why something was refused, without the folders above.
-fn tell(rt: &HostRuntime, fault: &Fault) -> io::Result<()> {
+pub fn tell(rt: &HostRuntime, fault: &Fault) -> io::Result<()> {
     let text = format!(in rt.alloc(); "{fault}")?;
     match text.as_str().rsplit_once('/') {
         Some((_, end)) => println!(rt; "refused: {end}"),

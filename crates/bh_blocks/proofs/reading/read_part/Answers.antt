@@ -16,7 +16,7 @@ use Rattle.bh_blocks.proofs.Cached.{on_any}
 use Rattle.bh_blocks.proofs.reading.read_part.Goals as goal
 
 pub returns-clause-agrees : goal.returns-clause-agrees
-returns-clause-agrees g c = on_any c.copied.result _ (λ clean.
+returns-clause-agrees g c = on_any c.cut_to.result _ (λ clean.
     let old = tables_at (state g.S.Store g.P.Shelf c.args.connection.now) in
     let read = c.in_ok-whole.ensures in
     let whole = c.in_ok-whole.whole.items in
@@ -29,13 +29,13 @@ returns-clause-agrees g c = on_any c.copied.result _ (λ clean.
     (one.0, ap first one.1, one.2) (agrees_fewer c.args.cache.now c.kept_part.new.cache old.blocks c.in_ok-bytes.ensures.entries (c.requires.agrees (read.reads.within.follows.clean clean)))))
 
 pub returns-clause-bytes : goal.returns-clause-bytes
-returns-clause-bytes g c = IfOk-weaker c.copied.result _ _ (λ bytes same clean.
+returns-clause-bytes g c = IfOk-weaker c.cut_to.result _ _ (λ bytes same clean.
     let old = tables_at (state g.S.Store g.P.Shelf c.args.connection.now) in
     let whole = c.in_ok-whole.whole.items in
     let q : Name = named_by c.args.block.now in
     let one = only_one (λ (b : BlockRow). b.bytes) (filter (is_block q) old.blocks) whole
     (subst (λ d. map (λ (b : BlockRow). b.bytes) (filter (is_block (d, c.args.block.now.ord)) old.blocks) ≡ whole ∷ []) c.deref.ensures.value (c.in_ok-whole.ensures.bytes clean)) in
-    same ∙ c.part_of.ensures ∙ ap (seen_in c.args.window) (c.deref-3.ensures.value ∙ sym (ap (λ o. option_map_or (λ (b : BlockRow). b.bytes) o []) (ap first one.1) ∙ one.2))) c.copied.ensures.same
+    same ∙ ap (seen_in c.args.window) (sym (ap (λ o. option_map_or (λ (b : BlockRow). b.bytes) o []) (ap first one.1) ∙ one.2))) c.cut_to.ensures.bytes
 
 pub returns-in-Some-clause-agrees : goal.returns-in-Some-clause-agrees
 returns-in-Some-clause-agrees g c clean =

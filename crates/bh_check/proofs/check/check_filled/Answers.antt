@@ -3,7 +3,7 @@ use Rattle.sqlite.specs.Tree.{Trees}
 use Rattle.bh_base.specs.Placed.{filled_trees}
 use Rattle.bh_stored.specs.Fits.{AreAllFit}
 use Rattle.bh_stored.specs.Stored.{AreStoredIn}
-use Rattle.bh_stored.proofs.Fitted.{places_are}
+use Rattle.bh_stored.proofs.Fitted.{packs_are, places_are}
 use Rattle.bh_check.proofs.FilledSound.{seen_fifth, places_named}
 use Rattle.bh_check.proofs.check.check_filled.Goals as goal
 
@@ -15,3 +15,9 @@ returns-clause-checked g c clean packs_clean whole sizes =
     let fits : AreAllFit trees = subst AreAllFit (seen_fifth trees) (c.in_ok-stored.ensures.fit clean) in
     let it = c.in_ok-filled.ensures.filled packs_clean trees stored fits (places_named trees whole (places_are (trees 34) fits.places)) sizes in
     c.in_ok-check_stored.ensures (filled_trees packs trees) it.stored it.fits
+
+pub returns-clause-typed : goal.returns-clause-typed
+returns-clause-typed g c clean =
+    let trees = (g.S.Store.view c.args.store.now).trees in
+    let fits : AreAllFit trees = subst AreAllFit (seen_fifth trees) (c.in_ok-stored.ensures.fit clean) in
+    packs_are (trees 32) fits.packs

@@ -1,4 +1,4 @@
-use Rattle.std.proofs.Common.{inl, sym, ap, subst, ◌∙◌}
+use Rattle.std.proofs.Common.{arith, inl, sym, ap, subst, ◌∙◌}
 use Rattle.sqlite.specs.Held.{state as database_state}
 use Rattle.bh_base.specs.Connections.{backing, state, stands, places, packs}
 use Rattle.bh_base.specs.Layer.{Standing}
@@ -53,7 +53,13 @@ returns-in-None-clause-moved g c clean =
     (rows_by (backing g.P.Shelf first.packs) (backing g.P.Shelf last.packs) (database_state g.S.Store first.database) (database_state g.S.Store last.database)
     (ap (λ (x : Standing). x.now) (c.take_back.ensures.back clean) ∙ two.within.kept mid ∙ one.within.kept begun ∙ sym rest.settled)).0
 
+pub returns-in-None-clause-few : goal.returns-in-None-clause-few
+returns-in-None-clause-few g c clean = omega arith
+
 -- ---- committed
+
+pub returns-in_ok-commit-in-Some-clause-few : goal.returns-in_ok-commit-in-Some-clause-few
+returns-in_ok-commit-in-Some-clause-few g c clean = (rw c.in-Some.is at c.in_ok-move_some.ensures.few) (c.in_ok-commit-in-Some.ensures.follows.clean clean)
 
 pub returns-in_err-commit-in-Some-clause-left : goal.returns-in_err-commit-in-Some-clause-left
 returns-in_err-commit-in-Some-clause-left g c =

@@ -1,4 +1,4 @@
-use Rattle.std.proofs.Common.{◌≡◌, ◌≢◌, refl, sym, subst}
+use Rattle.std.proofs.Common.{arith, refl, subst}
 use Rattle.bh_base.specs.Connections.{state, places, packs}
 use Rattle.bh_base.specs.Layer.{standing}
 use Rattle.bh_base.proofs.Calls.{midst_by}
@@ -45,3 +45,9 @@ returns-in-Some-clause-moved g c = where_found c.move_in.result (λ count moved 
     compacts c.args.sparse count (packs g.S.Store g.P.Shelf c.args.connection.now) (places g.S.Store g.P.Shelf c.args.connection.now) now c.in-Some.pack
     (λ some. (rw c.in-Some.is at c.in_ok-sparse_pack.ensures.found) mid)
     (subst (λ ps. Moves c.in-Some.pack count ps now) (c.in_ok-sparse_pack.ensures.still mid).places (moved clean))) c.move_in.ensures.moved
+
+pub returns-in-None-clause-few : goal.returns-in-None-clause-few
+returns-in-None-clause-few g c clean = omega arith
+
+pub returns-in-Some-clause-few : goal.returns-in-Some-clause-few
+returns-in-Some-clause-few g c = c.move_in.ensures.few

@@ -14,6 +14,7 @@ loop-row-init g c =
       midst = c.requires.midst;
       turned = λ clean sums by. record { within = by; is = refl };
       few = omega arith;
+      most = omega arith;
       moved = λ clean. moves_none c.args.pack (places g.S.Store g.P.Shelf c.args.connection.now);
     }
 
@@ -30,6 +31,7 @@ loop-row-preserved g c =
       midst = step.writes.midst;
       turned = then_turned first mid last (λ s. s) (λ s. s) (λ t. t) (λ t. t) step.writes.within.follows.clean inv.turned (rw c.in-Some.is at step.rewrites);
       few = let low = inv.few in omega (arith, low);
+      most = let low = inv.few in let within = c.loop-row-test.true in omega (arith, low, within);
       moved = λ clean. moves_more c.args.pack c.loop-row.count (places g.S.Store g.P.Shelf c.args.connection.now) (places g.S.Store g.P.Shelf c.loop-row.connection) (places g.S.Store g.P.Shelf c.move_row.new.connection)
           (inv.moved (step.writes.within.follows.clean clean)) ((rw c.in-Some.is at step.moved) clean);
     }

@@ -1,4 +1,4 @@
-use Rattle.std.proofs.Common.{◌≡◌, ◌≤◌}
+use Rattle.std.proofs.Common.{◌≡◌, ◌≤◌, length}
 use Rattle.bh_base.specs.Connections.{IsClean, InMidst, Rewrites, StaysWithin, StaysOpen, places}
 use Rattle.bh_compaction.specs.Moves.{Moves}
 use Rattle.bh_compaction.proofs.moving.move_rows.Given as goal
@@ -11,5 +11,6 @@ invariant-loop-row g l = record {
   midst : InMidst g.S.Store g.P.Shelf l.connection;
   turned : Rewrites g.S.Store g.P.Shelf l.fn.connection l.connection (λ s. s) (λ t. t);
   few : l.count ≤ l.row-index;
+  most : l.count ≤ length l.fn.rows;
   moved : IsClean g.S.Store g.P.Shelf l.connection → Moves l.fn.pack l.count (places g.S.Store g.P.Shelf l.fn.connection) (places g.S.Store g.P.Shelf l.connection);
 }

@@ -22,8 +22,8 @@ pub returns-in-Ok-clause-copied : goal.returns-in-Ok-clause-copied
 returns-in-Ok-clause-copied g c =
     let read = c.copy_of-copy.ensures in
     let now = c.copy_of-copy.new.files in
-    if_some {Q = λ copy. AreClean g.D.Disk now.log now.db → IsFileOf _ (file_state c.args.connection).committed copy} c.copy_of-copy.result
+    if_some {Q = λ copy. AreClean g.D.Disk now.log now.db → IsFileOf _ (file_state c.args.connection).committed copy.file} c.copy_of-copy.result
     (λ copy made clean.
-    copy_holds c.args.connection c.in-Ok.files copy c.look.ensures (c.in-Ok.ensures.copied (were_clean c.args.connection c.in-Ok.files now read.log read.read clean))
+    copy_holds c.args.connection c.in-Ok.files copy.file c.look.ensures (c.in-Ok.ensures.copied (were_clean c.args.connection c.in-Ok.files now read.log read.read clean))
     (made (and_parts (g.D.Disk.is_clean now.log) (g.D.Disk.is_clean now.db) clean).1))
     read.copied

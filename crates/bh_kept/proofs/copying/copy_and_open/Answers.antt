@@ -12,5 +12,5 @@ returns-in-Ok-clause-again g c clean =
 
 pub returns-in-Ok-clause-copied : goal.returns-in-Ok-clause-copied
 returns-in-Ok-clause-copied g c =
-    if_some {Q = λ copy. HasCleanDisk (file_state c.in-Ok.again) → IsFileOf _ (file_state c.args.connection).committed copy} c.in-Some.closed.copy
+    if_some {Q = λ copy. HasCleanDisk (file_state c.in-Ok.again) → IsFileOf _ (file_state c.args.connection).committed copy.file} c.in-Some.closed.copy
     (λ copy made clean. made (c.in-Ok.ensures.found clean).honest) c.in-Some.ensures.copied

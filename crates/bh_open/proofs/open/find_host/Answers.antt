@@ -1,11 +1,10 @@
 use Rattle.std.proofs.Common.{◌≡◌, ◌≢◌, ◌∙◌, Result, Ok, Err, IfOk, sym, subst}
-use Rattle.std.proofs.lemmas.Result.{IfOk-weaker, IfErr-weaker}
+use Rattle.std.proofs.lemmas.Result.{IfOk-weaker}
 use Rattle.sqlite.specs.Held.{state}
-use Rattle.sqlite.specs.Schema.{Schema}
 use Rattle.bh_base.specs.Layer.{standing}
 use Rattle.bh_open.specs.Versions.{schema_of, IsVersionOf}
 use Rattle.bh_open.specs.declared.found.HostVersion.{HostVersion}
-use Rattle.bh_open.proofs.Steps.{was_inside, settled_when, schema_seen, seen_schema, schema_of_found, finds_of, finds_none, host_with}
+use Rattle.bh_open.proofs.Steps.{was_inside, settled_when, schema_seen, seen_schema, schema_of_found, finds_of, finds_none}
 use Rattle.bh_open.proofs.open.find_host.Goals as goal
 
 always : {X E : Type 0} (r : Result X E) {P : Type 0} → P → IfOk r (λ _. P)
@@ -38,12 +37,6 @@ returns-in-Some-clause-finds g c =
     let its : c.schema.result.now ≡ schema_of c.in-Some.version = subst (IsVersionOf c.schema.result.now) c.in-Some.is c.in_ok-version.ensures.is in
     let seen = schema_seen (state g.S.Store c.args.connection.now) (schema_of c.in-Some.version) (sym c.schema.ensures.value ∙ its) in
     both c.read_host.result _ _ _ (λ found of read clean. finds_of c.in-Some.version (standing (state g.S.Store c.args.connection.now)).now found seen of (read clean)) c.read_host.ensures.of c.read_host.ensures.read
-
-pub returns-in-Some-clause-trouble : goal.returns-in-Some-clause-trouble
-returns-in-Some-clause-trouble g c =
-    let its : c.schema.result.now ≡ schema_of c.in-Some.version = subst (IsVersionOf c.schema.result.now) c.in-Some.is c.in_ok-version.ensures.is in
-    let seen = schema_seen (state g.S.Store c.args.connection.now) (schema_of c.in-Some.version) (sym c.schema.ensures.value ∙ its) in
-    IfErr-weaker c.read_host.result _ _ (λ e trouble intact unlimited outside any. trouble intact unlimited outside (host_with c.in-Some.version (standing (state g.S.Store c.args.connection.now)).now seen any)) c.read_host.ensures.trouble
 
 pub returns-in-None-clause-settled : goal.returns-in-None-clause-settled
 returns-in-None-clause-settled g c = settled_when (state g.S.Store c.args.connection.now) _ c.is_autocommit.ensures.value c.is_autocommit.ensures.settled c.if-not-is_autocommit.false

@@ -1,0 +1,151 @@
+#!/usr/bin/env python3
+"""Hosts whose bytes go to packs, beside hosts that put all in rows, as those of programs without packs did (BUCKETD_PACKS=no).
+
+    bench/packs.py [PROGRAM [PART..]]      PROGRAM: crates/bucketd/out/bucketd; PART: bodies, great, opening=MB.., backup=MB (all)
+
+bodies: milliseconds of the server's processor for puts of new bytes and for gets, asked of both in turns, the median and the least.
+great: a put of 1 GiB: its seconds, the most memory, and the bytes of the log after it. opening: hosts of so many megabytes in blocks of
+64 KiB: seconds of a processor until one listens, and memory then and at rest; above 1,000 MB those with packs alone. backup: how long
+one small get waits at most while a served host of so many megabytes is copied. Hosts lie in FOLDER of the environment, or in /dev/shm.
+"""
+import os
+import statistics
+import subprocess
+import sys
+import tempfile
+import threading
+import time
+
+from opening import listens
+from server import SHARED_MEMORY, Server, await_listener, free_port, on_disk, proved_program
+
+SIZES = [(1 << 10, 300), (1 << 16, 100), (1 << 20, 40), (1 << 24, 10)]
+KINDS = {"packs": "", "rows": "no"}
+OBJECT, MOST_IN_ROWS = 1 << 24, 1000
+FOLDER = os.environ.get("FOLDER", SHARED_MEMORY)
+LARGE = ("--max-body", str(1 << 30))
+
+
+def took(server, act):
+    """The milliseconds of a processor that a request takes."""
+    before = server.spent()
+    act(server)
+    return 1000 * (server.spent() - before)
+
+
+def told(times):
+    return f"{statistics.median(times):.3f} ({min(times):.3f})"
+
+
+def bodies(program):
+    print("| Request | Bytes | packs, ms | rows, ms | Ratio |\n|---|---|---|---|---|")
+    with tempfile.TemporaryDirectory(dir=FOLDER) as folder:
+        servers = {}
+        for kind, word in KINDS.items():
+            os.mkdir(os.path.join(folder, kind))
+            servers[kind] = Server(program, os.path.join(folder, kind), BUCKETD_PACKS=word)
+        for size, count in SIZES:
+            puts, gets = {kind: [] for kind in KINDS}, {kind: [] for kind in KINDS}
+            for number in range(count):
+                body = os.urandom(size)
+                for kind, server in servers.items():
+                    puts[kind].append(took(server, lambda it: it.put(f"/x{size}-{number}", body)))
+                for kind, server in servers.items():
+                    gets[kind].append(took(server, lambda it: it.get(f"/x{size}-{number}", body)))
+            for name, times in (("PUT", puts), ("GET", gets)):
+                ratio = statistics.median(times["packs"]) / statistics.median(times["rows"])
+                print(f"| {name} | {size:,} | {told(times['packs'])} | {told(times['rows'])} | {ratio:.2f} |", flush=True)
+        for kind, server in servers.items():
+            print(f"{kind}: at most {server.memory('VmHWM'):.0f} MiB")
+            server.process.kill()
+
+
+def great(program):
+    body = os.urandom(1 << 30)
+    for kind, word in KINDS.items():
+        with tempfile.TemporaryDirectory(dir=FOLDER) as folder, Server(program, folder, limits=LARGE, BUCKETD_PACKS=word) as server:
+            seconds = server.put("/x", body) / 1000
+            file, log, packs = (it / 1e6 for it in on_disk(server.file))
+            print(f"{kind}: a put of 1 GiB takes {seconds:.1f} s, {server.memory('VmHWM'):.0f} MiB at most; then the file has {file:.0f} MB, the log "
+                  f"{log:.0f} MB, the packs {packs:.0f} MB", flush=True)
+
+
+def filled(program, folder, megabytes, word):
+    """A host of so many megabytes, whose server was killed."""
+    with Server(program, folder, BUCKETD_PACKS=word) as server:
+        for number in range(max(1, megabytes * 1_000_000 // OBJECT)):
+            server.put(f"/x{number}", os.urandom(OBJECT))
+        server.put("/small", b"small")
+    return server.file
+
+
+def at_rest(program, file):
+    """The memory that a server has ten seconds after it listens, in MiB."""
+    port = free_port()
+    process = subprocess.Popen([program, "serve", "--file", file, "--port", str(port), "--count", "1"], stderr=subprocess.DEVNULL)
+    await_listener(process, port)
+    time.sleep(10)
+    with open(f"/proc/{process.pid}/status") as status:
+        memory = next(int(line.split()[1]) / 1024 for line in status if line.startswith("VmRSS:"))
+    process.kill()
+    process.wait()
+    return memory
+
+
+def opening(program, megabytes):
+    print("| Host, MB | Bytes in | File, MB | Log, MB | until it listens, s | of a processor, s | MiB then | at rest |\n|---|---|---|---|---|---|---|---|")
+    for size in megabytes:
+        for kind, word in KINDS.items():
+            if kind == "rows" and size > MOST_IN_ROWS:
+                continue
+            with tempfile.TemporaryDirectory(dir=FOLDER) as folder:
+                file = filled(program, folder, size, word)
+                length, log, _ = (it / 1e6 for it in on_disk(file))
+                clock, processor, memory = min((listens(program, file) for _ in range(3)), key=lambda it: it[1])
+                print(f"| {size:,} | {kind} | {length:.0f} | {log:.0f} | {clock:.2f} | {processor:.2f} | {memory:.0f} | {at_rest(program, file):.0f} |", flush=True)
+
+
+def longest_wait(server, until):
+    """The milliseconds of the slowest of small gets, one after another."""
+    longest = 0.0
+    while not until.is_set():
+        longest = max(longest, server.get("/small", b"small"))
+    return longest
+
+
+def backup(program, megabytes):
+    for kind, word in KINDS.items():
+        with tempfile.TemporaryDirectory(dir=FOLDER) as folder:
+            filled(program, folder, megabytes, word)
+            with Server(program, folder, "--operator-port", "0", BUCKETD_PACKS=word) as server:
+                port, until, waits = server.operators(), threading.Event(), []
+                asking = threading.Thread(target=lambda: waits.append(longest_wait(server, until)))
+                asking.start()
+                begun = time.perf_counter()
+                line = '{"op":"backup","to":"%s/copy"}' % folder
+                subprocess.run([program, "tell", "--port", str(port), line], check=True, stdout=subprocess.DEVNULL)
+                seconds = time.perf_counter() - begun
+                until.set()
+                asking.join()
+                print(f"{kind}: a backup of {megabytes:,} MB takes {seconds:.2f} s; the slowest small get beside it took {waits[0] / 1000:.2f} s", flush=True)
+
+
+def main():
+    program = proved_program(sys.argv[1:2])
+    for part in sys.argv[2:] or ["bodies", "great", "opening=100,1000,10000", "backup=1000"]:
+        name, _, sizes = part.partition("=")
+        sizes = [int(it) for it in sizes.split(",") if it]
+        if name == "bodies":
+            bodies(program)
+        elif name == "great":
+            great(program)
+        elif name == "opening":
+            opening(program, sizes or [100, 1000])
+        elif name == "backup":
+            backup(program, *(sizes or [1000]))
+        else:
+            sys.exit(f"there is no part {name}")
+
+
+if __name__ == "__main__":
+    main()
