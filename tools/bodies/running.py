@@ -81,7 +81,8 @@ class Queue:
         print("".join(f"{it}: {outcome}\n" for it, outcome in outcomes.items()), end="")
         print("".join(f"stamp: {stamp.line(name)}" for name, stamp in stamped.items()), end="")
         print("".join(f"{it}: NOT STAMPED: its files changed in the meantime\n" for it in changed), end="")
-        print(f"{next(iter(outcomes)).crate.name}: {len(refused)} of {len(outcomes)} refused, in {seconds:.0f} s", flush=True)
+        left = f"; {(self.until - time.monotonic()) / 60:.0f} minutes are left" if self.until < float("inf") else ""
+        print(f"{next(iter(outcomes)).crate.name}: {len(refused)} of {len(outcomes)} refused, in {seconds:.0f} s{left}", flush=True)
 
     def run(self, jobs):
         """Tries them all, and returns whether none was anything but refused. Those for which there was no time stand in

@@ -9,7 +9,7 @@ from .running import Queue, lanes, table
 from .stamps import AGED, FRESH, NEVER
 from .trials import batches
 
-# How long wrong bodies may be tried at a landing, and how much of it goes to those that are fresh, in seconds.
+# How long all of this may take at a landing, and how much of it goes to those that are fresh, in seconds.
 TURN, TURN_OF_FRESH = 20 * 60, 5 * 60
 
 
@@ -60,9 +60,10 @@ def read_types(edits, jobs):
         return {it: why for faults in found for it, why in faults.items()}
 
 
-def is_demand_met(crates, edits, famous, stamps):
-    """Whether the wrong bodies are as CI wants them, and what isn't is printed. It tries the oldest ones and writes the stamps of
-    those that were refused, which `--take` brings to another copy of the repository."""
+def is_demand_met(crates, edits, famous, stamps, seconds):
+    """Whether the wrong bodies are as CI wants them, and what isn't is printed. It tries the oldest ones, so long as less than so
+    many seconds are over, and writes the stamps of those that were refused, which `--take` brings to another copy of the repository."""
+    until = time.monotonic() + seconds
     standing = {it: stamps.standing(it) for it in edits}
     print(f"landing {stamps.landing}", table(crates, edits, standing), sep="\n", flush=True)
     old = [it for it in edits if standing[it].is_too_old]
@@ -74,19 +75,19 @@ def is_demand_met(crates, edits, famous, stamps):
     changed = {it.crate.name for it in edits if standing[it].status != FRESH}
     wrong = read_types([it for it in edits if it.crate.name in changed], lanes())
     print("".join(f"{it}: BAD EDIT: {why}\n" for it, why in wrong.items()), end="", flush=True)
-    return are_refused([it for it in edits if it not in wrong], standing, famous, stamps) and not old and not wrong
+    return are_refused([it for it in edits if it not in wrong], standing, famous, stamps, until) and not old and not wrong
 
 
-def are_refused(edits, standing, famous, stamps):
+def are_refused(edits, standing, famous, stamps, until):
     """Whether the oldest wrong bodies, as many as there is time for, are refused anew, the famous ones that aren't fresh all."""
     order = by_age(edits, standing, famous, stamps.landing)
     began = time.monotonic()
-    due = Queue([it for it in order if standing[it].status != FRESH], stamps, began + TURN)
+    due = Queue([it for it in order if standing[it].status != FRESH], stamps, until)
     is_well = due.run(lanes())
     missing = [it for it in due.untried if str(it) in famous]
     print("".join(f"{it}: famous, not fresh, and there was no time for it\n" for it in missing), end="")
     left = TURN_OF_FRESH if not due.untried else 0
-    fresh = Queue([it for it in order if standing[it].status == FRESH], stamps, min(time.monotonic() + left, began + TURN))
+    fresh = Queue([it for it in order if standing[it].status == FRESH], stamps, min(time.monotonic() + left, until))
     is_well = fresh.run(lanes()) and is_well and not missing
     refused = sum(it.is_refused for it in [*due.outcomes.values(), *fresh.outcomes.values()])
     tried = len(due.outcomes) + len(fresh.outcomes)
