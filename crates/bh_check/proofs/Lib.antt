@@ -19,6 +19,7 @@ mod Weighed
 mod HostIs
 mod AwaitsLemmas
 mod FilledRows
+mod ShownLemmas
 mod PackRows
 mod Schemas
 mod OneLemmas

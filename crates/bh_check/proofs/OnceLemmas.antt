@@ -2,7 +2,8 @@
 use Rattle.std.proofs.Common.{arith, ◌≡◌, inl, inr, ℕ, zero, suc, ◌+◌, ◌<◌, ◌≤◌, Bool, true, false, ◌||◌, List, [], ◌∷◌, ◌++◌, length, take, get_or, filter, refl, sym, ap, ◌∙◌, subst}
 use Rattle.std.specs.List.{AllByRecursion, list_any}
 use Rattle.std.proofs.lemmas.Bool.{cases_Bool}
-use Rattle.sqlite.specs.Order.{Row}
+use Rattle.sqlite.specs.Order.{Row, column}
+use Rattle.sqlite_typed.specs.Columns.{bytes_of}
 use Rattle.sqlite_typed.specs.Tests.{bytes_eq}
 use Rattle.bh_tables.specs.Schema.{Octets}
 use Rattle.bh_tables.specs.Bodies.{Name, same_name}
@@ -35,6 +36,36 @@ none_holds digest rows row all its none = go rows all (none_has owner rows (owne
         | inr other ↦ ap (λ b. b || list_any (holds (block_octets row)) rows) other ∙ go rows all.1 (sym (ap (λ b. b || list_any (λ r. same_name (owner r) (owner row)) rows) not) ∙ none)
       ]
     ]
+
+-- bytes of other digests are others
+pub other_bytes : (digest : Octets → Octets) (a b : Row) → HasDigest digest a → HasDigest digest b → bytes_eq (bytes_of (column a 1)) (bytes_of (column b 1)) ≡ false → bytes_eq (block_octets a) (block_octets b) ≡ false
+other_bytes digest a b its one other = elim (cases_Bool (bytes_eq (block_octets a) (block_octets b))) [
+  | inl same ↦
+      let digests = its ∙ ap digest ((bytes_Decides (block_octets a) (block_octets b)).0 same) ∙ sym one in
+      absurd (not_both (sym ((bytes_Decides (bytes_of (column a 1)) (bytes_of (column b 1))).1 digests) ∙ other))
+  | inr not ↦ not
+]
+  where
+    not_both : true ≡ false → ⊥
+    not_both e = cc
+
+-- none of those so far, and not the next one
+pub none_more : {T : Type 0} (p : T → Bool) (rows : List T) (i : ℕ) (row : T) → i < length rows → row ≡ get_or rows i row → list_any p (take i rows) ≡ false → p row ≡ false → list_any p (take (i + 1) rows) ≡ false
+none_more {T} p rows i row low is none not = subst (λ n. list_any p (take n rows) ≡ false) (next i) (go rows i low is none)
+  where
+    none_both : (a b : Bool) → (a || b) ≡ false → (a ≡ false) × (b ≡ false)
+    none_both true b e = absurd (cc)
+    none_both false b e = (refl, e)
+
+    next : (n : ℕ) → suc n ≡ n + 1
+    next n = omega arith
+
+    go : (rows : List T) (i : ℕ) → i < length rows → row ≡ get_or rows i row → list_any p (take i rows) ≡ false → list_any p (take (suc i) rows) ≡ false
+    go [] i low is none = absurd (omega (arith, low))
+    go (r ∷ rows) zero low is none = ap (λ x. p x || false) (sym is) ∙ ap (λ b. b || false) not
+    go (r ∷ rows) (suc i) low is none =
+        let parts = none_both (p r) (list_any p (take i rows)) none in
+        ap (λ b. b || list_any p (take (suc i) rows)) parts.0 ∙ go rows i (omega (arith, low)) is parts.1
 
 pub one_more : {T : Type 0} (rows : List T) (i : ℕ) (row : T) → i < length rows → row ≡ get_or rows i row → take (i + 1) rows ≡ take i rows ++ row ∷ []
 one_more {T} rows i row low is = subst (λ n. take n rows ≡ take i rows ++ row ∷ []) (next i) (go rows i low is)

@@ -44,3 +44,22 @@ module _ {A B : Type 0} (R : A → B → Type 0) where
   made_end (a ∷ xs) ys zero high h = absurd (high (omega arith))
   made_end (a ∷ xs) [] (suc i) high h = absurd h
   made_end (a ∷ xs) (b ∷ ys) (suc i) high h = (h.0, made_end xs ys i (λ low. high (omega (arith, low))) h.1)
+
+  -- what stands beside an item
+  pub zip_got : (xs : List A) (ys : List B) (i : ℕ) (x : A) → AllZip R xs ys → i < length xs → x ≡ get_or xs i x → (y : B) × (i < length ys) × (y ≡ get_or ys i y) × R x y
+  zip_got [] ys i x all low is = absurd (omega (arith, low))
+  zip_got (a ∷ xs) [] i x all low is = absurd all
+  zip_got (a ∷ xs) (b ∷ ys) zero x all low is = (b, omega arith, refl, subst (λ v. R v b) (sym is) all.0)
+  zip_got (a ∷ xs) (b ∷ ys) (suc i) x all low is = let r = zip_got xs ys i x all.1 (omega (arith, low)) is in (r.0, omega (arith, r.1), r.2, r.3)
+
+pub zip_so : {A B : Type 0} (R S : A → B → Type 0) → ((a : A) (b : B) → R a b → S a b) → (xs : List A) (ys : List B) → AllZip R xs ys → AllZip S xs ys
+zip_so R S so [] [] all = tt
+zip_so R S so [] (b ∷ ys) all = absurd all
+zip_so R S so (a ∷ xs) [] all = absurd all
+zip_so R S so (a ∷ xs) (b ∷ ys) all = (so a b all.0, zip_so R S so xs ys all.1)
+
+pub zip_long : {A B : Type 0} (R : A → B → Type 0) (xs : List A) (ys : List B) → AllZip R xs ys → length xs ≡ length ys
+zip_long R [] [] all = refl
+zip_long R [] (b ∷ ys) all = absurd all
+zip_long R (a ∷ xs) [] all = absurd all
+zip_long R (a ∷ xs) (b ∷ ys) all = let rest = zip_long R xs ys all.1 in omega (arith, rest)

@@ -3,17 +3,12 @@ use Rattle.std.specs.Prelude.{◌≡◌, ◌+◌, ◌<◌, true, List, [], ◌�
 use Rattle.std.specs.List.{AllZip}
 use Rattle.sqlite.specs.declared.types.Value.TheVariants.{Blob}
 use Rattle.sqlite.specs.Order.{Row, column}
-use Rattle.sqlite.specs.Tree.{Trees}
 use Rattle.sqlite_typed.specs.Columns.{bytes_of}
 use Rattle.bh_shelf.specs.Contents.{Contents}
 use Rattle.bh_shelf.specs.declared.shelf.Shelf.{Ghosts as Shelves}
 use Rattle.bh_tables.specs.Schema.{Octets}
 use Rattle.bh_tables.specs.Rows.{PlaceRow, PackRow}
 use Rattle.bh_tables.specs.Packs.{place_at, is_reached}
-use Rattle.bh_base.specs.Placed.{filled_trees}
-use Rattle.bh_stored.specs.Fits.{AreAllFit}
-use Rattle.bh_stored.specs.Stored.{AreStoredIn}
-use Rattle.bh_stored.specs.declared.stored.Stored.{Stored}
 use Rattle.bh_check.specs.Holds.{first_two, one}
 use Rattle.bh_check.specs.Sums.{IsSumOf}
 use Rattle.bh_check.specs.declared.filled.Known.{Known}
@@ -40,8 +35,3 @@ AreFilled rows packs places blocks filled = AllZip (λ row its. IsFilled rows pa
 -- how many places each block has
 abbrev pub AreKnown : List Row → Known → Type 0
 AreKnown places known = IsSumOf first_two one places known.counts
-
--- the rows of a database, with the bytes of packs
-pub record IsFilledStore (packs : Contents) (d : Trees) (s : Stored) : Type 0 where
-  pub stored : AreStoredIn (filled_trees packs d) s
-  pub fits : AreAllFit (filled_trees packs d)

@@ -8,3 +8,4 @@ pub mod Garbage
 pub mod Checked
 pub mod Awaits
 pub mod Filled
+pub mod Looked

@@ -1,10 +1,11 @@
 //! The check of a host's tables.
 
-ghost use Rattle.std.specs.Prelude.{◌≡◌, ◌⊎◌, map, None, OnOk, IfOk, IsTrue};
+ghost use Rattle.std.specs.Prelude.{◌≡◌, ◌⊎◌, List, [], map, None, OnOk, IfOk, IsTrue};
 ghost use Rattle.std.specs.List.{AllByRecursion};
 ghost use Rattle.sqlite.specs.Effect.{IsDatabase};
 ghost use Rattle.sqlite.specs.Tree.{Trees};
 ghost use Rattle.sqlite.specs.Held.{state};
+ghost use Rattle.sqlite.specs.Order.{Row as Columns};
 ghost use Rattle.sqlite_trees.specs.View.{IsClean};
 ghost use Rattle.bh_rows.specs.Form.{AreRows};
 ghost use Rattle.bh_tables.specs.Hosts.{tables_opened};
@@ -22,28 +23,32 @@ ghost use Rattle.bh_stored.specs.Fits.{AreAllFit};
 ghost use Rattle.bh_stored.specs.Stored.{seen, AreStoredIn};
 ghost use Rattle.bh_stored.specs.Stores.{KeepsTrees};
 ghost use Rattle.bh_stored.specs.declared.stored.Edition.TheVariants.{Fifth};
-ghost use Rattle.bh_check.specs.Blocks.{HasDigest, AreOnce, AreUses};
+ghost use Rattle.bh_check.specs.Blocks.{HasDigest, AreOnce, AreNamed, AreUses};
 ghost use Rattle.bh_check.specs.Checked.{version_of, edition_with, IsHostRowIn, AreRowsHeld, AreDatesHeld, AreBodiesHeld};
-ghost use Rattle.bh_check.specs.Checked.{AreBytesHeld, IsChecked};
+ghost use Rattle.bh_check.specs.Checked.{IsChecked};
 ghost use Rattle.bh_check.specs.Filled.{ReadsPacks};
 ghost use Rattle.bh_check.specs.Garbage.{IsGarbage, AreWeighed};
-ghost use Rattle.bh_check.specs.Holds.{block_refs, AreMeasures, AreTotals, Holds};
+ghost use Rattle.bh_check.specs.Holds.{block_refs, block_bytes, block_length, AreMeasures, AreTotals, Holds};
+ghost use Rattle.bh_check.specs.Looked.{AreReadOf, AreShown};
+ghost use Rattle.bh_check.specs.Sums.{Keeps};
 ghost use Rattle.bh_check.specs.Tallies.{AreTalliesOf, AreTallied};
 
 use crate::blocks::first_again;
 use crate::checksums::{Places, first_missummed};
-use crate::filled::fill;
+use crate::filled::Known;
 use crate::flaw::{Flaw, Stop};
 use crate::garbage::{has_bytes, unused_bytes};
-use crate::groups::first_misnamed_in;
+use crate::looked::{Looked, look};
 use crate::measures::Measures;
 use crate::placed::first_misplaced;
 use crate::rows::{Table, is_host};
+use crate::sums::Sums;
 use crate::tallies::{EntryTotals, first_mistallied};
 use crate::totals::Totals;
 use crate::uses::first_miscounted;
 use crate::watch::{Stage, Watch};
 use bh_schema::host::Digester;
+use bh_shelf::no_shelf::NoShelf;
 use bh_shelf::shelf::Shelf;
 use bh_stored::cells::number_in;
 use bh_stored::stored::{Edition, Stored};
@@ -116,7 +121,7 @@ fn check_table(alloc: Global, measures: &Measures, table: Table, rows: &[Row]) -
 
 /// Checks each row alone, and against the sums over the others.
 fn check_tables(alloc: Global, measures: &Measures, stored: &Stored) -> Result<(), Stop>
-    ensures { OnOk result ((d : Trees) → AreStoredIn d stored.now → AreMeasures d measures.now → AreRowsHeld d measures.now.latest) }
+    ensures { OnOk result ((d : Trees) → AreReadOf d stored.now → AreMeasures d measures.now → AreRowsHeld d measures.now.latest) }
 {
     check_table(alloc, measures, Table::Tenants, &stored.tenants)?;
     check_table(alloc, measures, Table::Keys, &stored.keys)?;
@@ -129,7 +134,7 @@ fn check_tables(alloc: Global, measures: &Measures, stored: &Stored) -> Result<(
 
 /// Checks locked buckets and their versions' dates.
 fn check_dates(alloc: Global, measures: &Measures, stored: &Stored) -> Result<(), Stop>
-    ensures { OnOk result ((d : Trees) → AreStoredIn d stored.now → AreMeasures d measures.now → AreDatesHeld d measures.now.latest) }
+    ensures { OnOk result ((d : Trees) → AreReadOf d stored.now → AreMeasures d measures.now → AreDatesHeld d measures.now.latest) }
 {
     check_table(alloc, measures, Table::Locked, &stored.buckets)?;
     check_table(alloc, measures, Table::Dated, &stored.versions)?;
@@ -140,22 +145,31 @@ fn check_dates(alloc: Global, measures: &Measures, stored: &Stored) -> Result<()
 /// Checks each row alone, against the sums over the others, and against the rows that lock or date
 /// it.
 fn check_all_tables(alloc: Global, measures: &Measures, stored: &Stored) -> Result<(), Stop>
-    ensures rows { OnOk result ((d : Trees) → AreStoredIn d stored.now → AreMeasures d measures.now → AreRowsHeld d measures.now.latest) }
-    ensures dates { OnOk result ((d : Trees) → AreStoredIn d stored.now → AreMeasures d measures.now → AreDatesHeld d measures.now.latest) }
+    ensures rows { OnOk result ((d : Trees) → AreReadOf d stored.now → AreMeasures d measures.now → AreRowsHeld d measures.now.latest) }
+    ensures dates { OnOk result ((d : Trees) → AreReadOf d stored.now → AreMeasures d measures.now → AreDatesHeld d measures.now.latest) }
 {
     check_tables(alloc, measures, stored)?;
     check_dates(alloc, measures, stored)
 }
 
 /// Checks the places of references, and the checksums of parts.
-fn check_bodies(alloc: Global, stored: &Stored, totals: &Totals) -> Result<(), Stop>
-    ensures { OnOk result ((d : Trees) → AreStoredIn d stored.now → AreTotals d totals.now → AreBodiesHeld d) }
+fn check_bodies<P: Shelf>(
+    alloc: Global,
+    packs: &mut P,
+    known: &Known,
+    stored: &Stored,
+    totals: &Totals,
+) -> Result<(), Stop>
+    ensures bodies { OnOk result (IsTrue (P.Shelf.is_clean packs.new) → (d : Trees) → AreReadOf d stored.now
+        → AreShown (P.Shelf.seen packs.old) stored.now known.now stored.now.blocks.items (d 10)
+        → AreTotals d totals.now → AreBodiesHeld d) }
+    ensures reads { ReadsPacks P.Shelf packs.old packs.new }
 {
     if let Some(row) = first_misplaced(alloc, &stored.refs)? {
         return Err(Stop::Flaw(Flaw::Place(row)));
     }
     let places = Places::of(alloc, stored)?;
-    match first_missummed(alloc, stored, totals, &places)? {
+    match first_missummed(alloc, packs, known, stored, totals, &places)? {
         None => Ok(()),
         Some(row) => Err(Stop::Flaw(Flaw::Checksum(row))),
     }
@@ -163,7 +177,7 @@ fn check_bodies(alloc: Global, stored: &Stored, totals: &Totals) -> Result<(), S
 
 /// Checks the number of references to each block.
 fn check_uses(alloc: Global, stored: &Stored, totals: &Totals) -> Result<(), Stop>
-    ensures { OnOk result ((d : Trees) → AreStoredIn d stored.now → AreTotals d totals.now → AreUses (block_refs d) (d 23) (d 10)) }
+    ensures { OnOk result ((d : Trees) → AreReadOf d stored.now → AreTotals d totals.now → AreUses (block_refs d) (d 23) (d 10)) }
 {
     if stored.uses.len() != stored.blocks.len() {
         return Err(Stop::Flaw(Flaw::OtherUses));
@@ -176,7 +190,7 @@ fn check_uses(alloc: Global, stored: &Stored, totals: &Totals) -> Result<(), Sto
 
 /// Checks each tenant's numbers of versions, markers and objects.
 fn check_each_tally(alloc: Global, stored: &Stored) -> Result<(), Stop>
-    ensures { OnOk result ((d : Trees) → AreStoredIn d stored.now → AreTalliesOf (d 7) (d 30) (d 1)) }
+    ensures { OnOk result ((d : Trees) → AreReadOf d stored.now → AreTalliesOf (d 7) (d 30) (d 1)) }
 {
     if stored.tallies.len() != stored.tenants.len() {
         return Err(Stop::Flaw(Flaw::OtherTallies));
@@ -190,7 +204,7 @@ fn check_each_tally(alloc: Global, stored: &Stored) -> Result<(), Stop>
 
 /// Checks the tallies, if a host of this edition has them.
 fn check_tallies(alloc: Global, stored: &Stored, edition: Edition) -> Result<(), Stop>
-    ensures { OnOk result ((d : Trees) → AreStoredIn d stored.now → AreTallied edition d) }
+    ensures { OnOk result ((d : Trees) → AreReadOf d stored.now → AreTallied edition d) }
 {
     match edition {
         Edition::First => Ok(()),
@@ -201,11 +215,12 @@ fn check_tallies(alloc: Global, stored: &Stored, edition: Edition) -> Result<(),
     }
 }
 
-/// Checks the number of bytes of the blocks that no reference names.
-fn check_weight(stored: &Stored) -> Result<(), Stop>
-    ensures { OnOk result ((d : Trees) → AreStoredIn d stored.now → IsGarbage (d 44) (d 23) (d 10)) }
+/// Checks the number of bytes of the blocks, of these lengths, that no reference names.
+fn check_weight(stored: &Stored, lengths: &[u64]) -> Result<(), Stop>
+    ensures { OnOk result ((d : Trees) → AreReadOf d stored.now → lengths.now ≡ map block_length (d 10)
+        → IsGarbage (d 44) (d 23) (d 10)) }
 {
-    let bytes = unused_bytes(&stored.uses, &stored.blocks)?;
+    let bytes = unused_bytes(&stored.uses, lengths)?;
     if has_bytes(&stored.garbage, bytes) {
         Ok(())
     } else {
@@ -214,54 +229,49 @@ fn check_weight(stored: &Stored) -> Result<(), Stop>
 }
 
 /// Checks that number, if a host of this edition has it.
-fn check_garbage(stored: &Stored, edition: Edition) -> Result<(), Stop>
-    ensures { OnOk result ((d : Trees) → AreStoredIn d stored.now → AreWeighed edition d) }
+fn check_garbage(stored: &Stored, lengths: &[u64], edition: Edition) -> Result<(), Stop>
+    ensures { OnOk result ((d : Trees) → AreReadOf d stored.now → lengths.now ≡ map block_length (d 10) → AreWeighed edition d) }
 {
     match edition {
         Edition::First => Ok(()),
         Edition::Second => Ok(()),
         Edition::Third => Ok(()),
         Edition::Fourth => Ok(()),
-        Edition::Fifth => check_weight(stored),
-    }
-}
-
-fn check_digests<D: Digester>(alloc: Global, digester: &D, blocks: &[Row]) -> Result<(), Stop>
-    ensures { OnOk result (AllByRecursion (HasDigest D.digest_of) blocks.now) }
-{
-    match first_misnamed_in(alloc, digester, blocks)? {
-        None => Ok(()),
-        Some(row) => Err(Stop::Flaw(Flaw::Digest(row))),
+        Edition::Fifth => check_weight(stored, lengths),
     }
 }
 
 /// Checks that no two blocks have equal bytes, provided that each has the digest of its bytes.
-fn check_once(alloc: Global, blocks: &[Row]) -> Result<(), Stop>
-    ensures { OnOk result ((digest : Octets → Octets) → AllByRecursion (HasDigest digest) blocks.now → AreOnce blocks.now) }
+fn check_once<P: Shelf>(
+    alloc: Global,
+    packs: &mut P,
+    known: &Known,
+    stored: &Stored,
+) -> Result<(), Stop>
+    ensures once { OnOk result (IsTrue (P.Shelf.is_clean packs.new) → (shown : List Columns)
+        → AreShown (P.Shelf.seen packs.old) stored.now known.now stored.now.blocks.items shown
+        → (digest : Octets → Octets) → AllByRecursion (HasDigest digest) shown → AreOnce shown) }
+    ensures reads { ReadsPacks P.Shelf packs.old packs.new }
 {
-    match first_again(alloc, blocks)? {
+    match first_again(alloc, packs, known, stored, &stored.blocks)? {
         None => Ok(()),
         Some(row) => Err(Stop::Flaw(Flaw::Again(row))),
     }
 }
 
-/// Checks the digests of blocks, and that no two have equal bytes.
-fn check_bytes<D: Digester>(alloc: Global, digester: &D, blocks: &[Row]) -> Result<(), Stop>
-    ensures { OnOk result (AreBytesHeld D.digest_of blocks.now) }
-{
-    check_digests(alloc, digester, blocks)?;
-    check_once(alloc, blocks)?;
-    Ok(())
-}
-
-/// The sums against which rows are checked, of a host of this version.
-fn measures_of(alloc: Global, stored: &Stored, version: u64) -> Result<Measures, Stop>
+/// The sums against which rows are checked, of a host of this version, whose blocks have these lengths.
+fn measures_of(
+    alloc: Global,
+    stored: &Stored,
+    by_name: Sums,
+    version: u64,
+) -> Result<Measures, Stop>
     ensures host { IfOk result (λ m. IsHostRowIn version stored.now.host.items m.latest) }
-    ensures totals { IfOk result (λ m. (d : Trees) → AreStoredIn d stored.now → AreMeasures d m) }
+    ensures totals { IfOk result (λ m. (d : Trees) → AreReadOf d stored.now → Keeps (block_bytes d) by_name → AreMeasures d m) }
 {
     let latest = check_host_row(&stored.host, version)?;
     Ok(Measures {
-        totals: Totals::of(alloc, stored)?,
+        totals: Totals::of(alloc, stored, by_name)?,
         latest,
     })
 }
@@ -271,42 +281,72 @@ fn measures_of(alloc: Global, stored: &Stored, version: u64) -> Result<Measures,
 fn check_counts(
     alloc: Global,
     stored: &Stored,
+    lengths: &[u64],
     totals: &Totals,
     edition: Edition,
 ) -> Result<(), Stop>
-    ensures uses { OnOk result ((d : Trees) → AreStoredIn d stored.now → AreTotals d totals.now → AreUses (block_refs d) (d 23) (d 10)) }
-    ensures tallies { OnOk result ((d : Trees) → AreStoredIn d stored.now → AreTallied edition d) }
-    ensures garbage { OnOk result ((d : Trees) → AreStoredIn d stored.now → AreWeighed edition d) }
+    ensures uses { OnOk result ((d : Trees) → AreReadOf d stored.now → AreTotals d totals.now → AreUses (block_refs d) (d 23) (d 10)) }
+    ensures tallies { OnOk result ((d : Trees) → AreReadOf d stored.now → AreTallied edition d) }
+    ensures garbage { OnOk result ((d : Trees) → AreReadOf d stored.now → lengths.now ≡ map block_length (d 10)
+        → AreWeighed edition d) }
 {
     check_uses(alloc, stored, totals)?;
     check_tallies(alloc, stored, edition)?;
-    check_garbage(stored, edition)
+    check_garbage(stored, lengths, edition)
 }
 
 /// Checks that no block has its bytes in a pack.
-fn check_unplaced(stored: &Stored) -> Result<(), Stop> {
+fn check_unplaced(stored: &Stored) -> Result<(), Stop>
+    ensures { OnOk result (stored.now.places.items ≡ []) }
+{
     match stored.places.first() {
         None => Ok(()),
         Some(row) => Err(Stop::Flaw(Flaw::Placed(number_in(row, 0)))),
     }
 }
 
-/// All rows that were read.
-fn check_stored<D: Digester, W: Watch>(
+/// Checks all rows against one another, of blocks that were looked at.
+fn check_looked<P: Shelf>(
     alloc: Global,
+    packs: &mut P,
+    known: &Known,
+    stored: &Stored,
+    looked: Looked,
+    edition: Edition,
+) -> Result<(), Stop>
+    ensures checked { OnOk result (IsTrue (P.Shelf.is_clean packs.new) → (d : Trees) → AreReadOf d stored.now
+        → AreShown (P.Shelf.seen packs.old) stored.now known.now stored.now.blocks.items (d 10) → AreAllFit d
+        → Keeps (block_bytes d) looked.by_name → looked.lengths.items ≡ map block_length (d 10)
+        → (digest : Octets → Octets) → AllByRecursion (HasDigest digest) (d 10) → IsChecked edition digest d) }
+    ensures reads { ReadsPacks P.Shelf packs.old packs.new }
+{
+    let Looked { by_name, lengths } = looked;
+    let measures = measures_of(alloc, stored, by_name, version_of(edition))?;
+    check_all_tables(alloc, &measures, stored)?;
+    check_bodies(alloc, packs, known, stored, &measures.totals)?;
+    check_counts(alloc, stored, &lengths, &measures.totals, edition)?;
+    check_once(alloc, packs, known, stored)?;
+    Ok(())
+}
+
+/// All rows that were read, and the bytes that packs have of blocks. A few blocks are in memory at once.
+fn check_stored<P: Shelf, D: Digester, W: Watch>(
+    alloc: Global,
+    packs: &mut P,
     stored: &Stored,
     edition: Edition,
     digester: &D,
     watch: &mut W,
 ) -> Result<(), Stop>
-    ensures { OnOk result ((d : Trees) → AreStoredIn d stored.now → AreAllFit d → IsChecked edition D.digest_of d) }
+    ensures checked { OnOk result (IsTrue (P.Shelf.is_clean packs.new) → (d : Trees) → AreStoredIn d stored.now → AreAllFit d
+        → AreNamed (d 34) → HasReached (P.Shelf.seen packs.old) (packs_in d) (places_in d)
+        → IsChecked edition D.digest_of (filled_trees (P.Shelf.seen packs.old) d)) }
+    ensures reads { ReadsPacks P.Shelf packs.old packs.new }
 {
-    let measures = measures_of(alloc, stored, version_of(edition))?;
-    check_all_tables(alloc, &measures, stored)?;
-    check_bodies(alloc, stored, &measures.totals)?;
-    check_counts(alloc, stored, &measures.totals, edition)?;
+    let known = Known::of(alloc, &stored.places, &stored.packs)?;
     watch.at(Stage::Blocks(stored.blocks.len()));
-    check_bytes(alloc, digester, &stored.blocks)?;
+    let looked = look(alloc, packs, &known, stored, digester)?;
+    check_looked(alloc, packs, &known, stored, looked, edition)?;
     Ok(())
 }
 
@@ -325,7 +365,7 @@ fn check_rows<S: Store, D: Digester, W: Watch>(
     let stored = Stored::read(alloc, store, edition)?;
     watch.at(Stage::Rows(stored.refs.len()));
     check_unplaced(&stored)?;
-    check_stored(alloc, &stored, edition, digester, watch)?;
+    check_stored(alloc, &mut NoShelf, &stored, edition, digester, watch)?;
     Ok(())
 }
 
@@ -368,8 +408,7 @@ fn check_filled<S: Store, P: Shelf, D: Digester, W: Watch>(
 {
     let stored = Stored::read(alloc, store, Edition::Fifth)?;
     watch.at(Stage::Rows(stored.refs.len()));
-    let filled = fill(alloc, packs, stored)?;
-    check_stored(alloc, &filled, Edition::Fifth, digester, watch)?;
+    check_stored(alloc, packs, &stored, Edition::Fifth, digester, watch)?;
     Ok(())
 }
 

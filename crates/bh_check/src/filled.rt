@@ -2,17 +2,13 @@
 
 ghost use Rattle.std.specs.Prelude.{◌≡◌, ◌∷◌, ◌++◌, [], ◌+◌, true, None, Some, IsTrue, IfOk, OnOk, MatchOption};
 ghost use Rattle.sqlite.specs.Order.{column};
-ghost use Rattle.sqlite.specs.Tree.{Trees};
 ghost use Rattle.sqlite.specs.declared.types.Value.TheVariants.{Blob};
 ghost use Rattle.bh_rows.specs.Form.{typed};
 ghost use Rattle.bh_tables.specs.Schema.{Octets};
 ghost use Rattle.bh_tables.specs.Rows.{pack_form, place_form, place_of};
-ghost use Rattle.bh_tables.specs.Packs.{place_at, packs_in, places_in, is_reached};
-ghost use Rattle.bh_check.specs.Awaits.{HasReached};
-ghost use Rattle.bh_stored.specs.Fits.{AreAllFit};
-ghost use Rattle.bh_stored.specs.Stored.{AreStoredIn};
+ghost use Rattle.bh_tables.specs.Packs.{place_at, is_reached};
 ghost use Rattle.bh_check.specs.Blocks.{AreNamed};
-ghost use Rattle.bh_check.specs.Filled.{ReadsPacks, IsFilledFrom, IsFilled, AreFilled, AreKnown, IsFilledStore};
+ghost use Rattle.bh_check.specs.Filled.{ReadsPacks, IsFilledFrom, IsFilled, AreFilled, AreKnown};
 ghost use Rattle.bh_check.specs.Holds.{first_two};
 
 use crate::checksums::is_of;
@@ -199,7 +195,7 @@ fn filled_from<P: Shelf>(
 }
 
 /// A block's row with the bytes of its place; with its own, if it has none.
-fn filled<P: Shelf>(
+pub(crate) fn filled<P: Shelf>(
     alloc: Global,
     packs: &mut P,
     known: &Known,
@@ -227,35 +223,23 @@ fn add(rows: &mut Vec<Row>, row: Row) -> Result<(), AllocError>
     }
 }
 
-/// The rows of all blocks with these bytes.
-fn fill_rows<P: Shelf>(
+/// The rows of these blocks with the bytes of their places.
+pub(crate) fn fill_rows<P: Shelf>(
     alloc: Global,
     packs: &mut P,
     known: &Known,
     stored: &Stored,
+    blocks: &[Row],
 ) -> Result<Vec<Row>, Stop>
     ensures rows { IfOk result (λ rows. IsTrue (P.Shelf.is_clean packs.new) → AreKnown stored.now.places.items known.now
         → AreNamed stored.now.places.items → AreFilled (typed pack_form stored.now.packs.items) (P.Shelf.seen packs.old)
-        (typed place_form stored.now.places.items) stored.now.blocks.items rows.items) }
+        (typed place_form stored.now.places.items) blocks.now rows.items) }
     ensures reads { ReadsPacks P.Shelf packs.old packs.new }
 {
     let mut rows = Vec::new(alloc);
-    for block in &stored.blocks {
+    for block in blocks {
         let row = filled(alloc, packs, known, stored, block)?;
         add(&mut rows, row)?;
     }
     Ok(rows)
-}
-
-/// The rows that were read, those of blocks with the bytes of their places.
-pub fn fill<P: Shelf>(alloc: Global, packs: &mut P, stored: Stored) -> Result<Stored, Stop>
-    ensures filled { IfOk result (λ it. IsTrue (P.Shelf.is_clean packs.new) → (d : Trees) → AreStoredIn d stored → AreAllFit d
-        → AreNamed (d 34) → HasReached (P.Shelf.seen packs.old) (packs_in d) (places_in d) → IsFilledStore (P.Shelf.seen packs.old) d it) }
-    ensures reads { ReadsPacks P.Shelf packs.old packs.new }
-{
-    let known = Known::of(alloc, &stored.places, &stored.packs)?;
-    let rows = fill_rows(alloc, packs, &known, &stored)?;
-    let mut filled = stored;
-    filled.blocks = rows;
-    Ok(filled)
 }

@@ -4,30 +4,30 @@ ghost use Rattle.std.specs.Prelude.{◌≡◌, ◌+◌, ◌∷◌, [], map, IsTr
 ghost use Rattle.bh_check.specs.Garbage.{unused_in, unused_size};
 ghost use Rattle.bh_check.specs.Holds.{number_at};
 
-use bh_stored::cells::{bytes_in, number_in};
+use bh_stored::cells::number_in;
 use bh_stored::failure::Failure;
 use sqlite_value::row::Row;
 
-/// A number of bytes, with those of a block if its count of uses is 0.
-fn with_unused(bytes: u64, used: &Row, block: &Row) -> Result<u64, Failure>
-    ensures { IfOk result (λ n. n ≡ bytes + unused_in used.now block.now) }
+/// A number of bytes, with those of a block of this length if its count of uses is 0.
+fn with_unused(bytes: u64, used: &Row, length: u64) -> Result<u64, Failure>
+    ensures { IfOk result (λ n. n ≡ bytes + unused_in used.now length) }
 {
     if number_in(used, 3) != 0 {
         return Ok(bytes);
     }
-    match bytes.checked_add(bytes_in(block, 3).len() as u64) {
+    match bytes.checked_add(length) {
         Some(more) => Ok(more),
         None => Err(Failure::TooMuch),
     }
 }
 
-/// The bytes of the blocks whose counts of uses, in the rows at their places, are 0.
-pub fn unused_bytes(uses: &[Row], blocks: &[Row]) -> Result<u64, Failure>
-    ensures { IfOk result (λ n. n ≡ unused_size uses.now blocks.now) }
+/// The bytes of the blocks, of these lengths, whose counts of uses, in the rows at their places, are 0.
+pub fn unused_bytes(uses: &[Row], lengths: &[u64]) -> Result<u64, Failure>
+    ensures { IfOk result (λ n. n ≡ unused_size uses.now lengths.now) }
 {
     let mut bytes: u64 = 0;
-    for (used, block) in uses.iter().zip(blocks) {
-        bytes = with_unused(bytes, used, block)?;
+    for (used, length) in uses.iter().zip(lengths) {
+        bytes = with_unused(bytes, used, *length)?;
     }
     Ok(bytes)
 }

@@ -10,6 +10,7 @@ pub mod flaw;
 pub mod garbage;
 pub mod groups;
 pub mod laws;
+pub mod looked;
 pub mod measures;
 pub mod placed;
 pub mod rows;

@@ -1,8 +1,8 @@
 //! Sums over rows, by name.
 
-ghost use Rattle.std.specs.Prelude.{◌≡◌, ℕ, ◌+◌, if◌then◌else◌, IsTrue, IfOk};
+ghost use Rattle.std.specs.Prelude.{◌≡◌, ℕ, ◌+◌, if◌then◌else◌, IsTrue, IfOk, OnOk};
 ghost use Rattle.bh_tables.specs.Bodies.{Name, same_name};
-ghost use Rattle.bh_check.specs.Sums.{Key, key_name, kept_at, Keeps, IsSumOf, name_in, amount_in};
+ghost use Rattle.bh_check.specs.Sums.{Key, key_name, kept_at, Keeps, IsSumOf, total, name_in, amount_in};
 
 use bh_stored::cells::{bytes_in, number_in};
 use bh_stored::failure::Failure;
@@ -86,6 +86,20 @@ impl Sums {
         self.totals.insert(key, total)?;
         Ok(true)
     }
+
+    /// Adds to the sum of each row's name, unless one would exceed 2^64 - 1.
+    pub fn add_rows(&mut self, alloc: Global, rows: &[Row], by: Grouping) -> Result<(), Failure>
+        ensures { OnOk result ((of : Name → ℕ) → Keeps of self.old
+            → Keeps (λ q. of q + total (name_in by) (amount_in by) rows.now q) self.new) }
+    {
+        for row in rows {
+            let text = bytes_in(row, by.text);
+            if !self.add(alloc, text, by.number_of(row), by.amount_of(row))? {
+                return Err(Failure::TooMuch);
+            }
+        }
+        Ok(())
+    }
 }
 
 /// 1 if the condition holds, otherwise 0.
@@ -124,12 +138,7 @@ pub fn sums_of(alloc: Global, rows: &[Row], by: Grouping) -> Result<Sums, Failur
     ensures { IfOk result (IsSumOf (name_in by) (amount_in by) rows.now) }
 {
     let mut sums = Sums::new(alloc);
-    for row in rows {
-        let text = bytes_in(row, by.text);
-        if !sums.add(alloc, text, by.number_of(row), by.amount_of(row))? {
-            return Err(Failure::TooMuch);
-        }
-    }
+    sums.add_rows(alloc, rows, by)?;
     Ok(sums)
 }
 

@@ -2,9 +2,9 @@
 
 ghost use Rattle.std.specs.Prelude.{IfOk};
 ghost use Rattle.sqlite.specs.Tree.{Trees};
-ghost use Rattle.bh_check.specs.Holds.{AreTenantTotals, AreBodyTotals, AreDateTotals, AreTotals};
-ghost use Rattle.bh_check.specs.Sums.{adds, name_at, IsSumOf};
-ghost use Rattle.bh_stored.specs.Stored.{AreStoredIn};
+ghost use Rattle.bh_check.specs.Holds.{block_bytes, AreTenantTotals, AreBodyTotals, AreDateTotals, AreTotals};
+ghost use Rattle.bh_check.specs.Sums.{adds, name_at, Keeps, IsSumOf};
+ghost use Rattle.bh_check.specs.Looked.{AreReadOf};
 
 use crate::buckets::count_by_bucket;
 use crate::sums::{Amount, Grouping, Sums, sums_of};
@@ -86,7 +86,7 @@ pub(crate) fn sums_by(
 
 impl TenantTotals {
     fn of(alloc: Global, stored: &Stored) -> Result<TenantTotals, Failure>
-        ensures { IfOk result (λ t. (d : Trees) → AreStoredIn d stored.now → AreTenantTotals d t) }
+        ensures { IfOk result (λ t. (d : Trees) → AreReadOf d stored.now → AreTenantTotals d t) }
     {
         Ok(TenantTotals {
             next_version: sums_by(alloc, &stored.tenants, OWNER, Amount::Number(3))?,
@@ -100,7 +100,7 @@ impl TenantTotals {
 
 impl BodyTotals {
     fn of(alloc: Global, stored: &Stored) -> Result<BodyTotals, Failure>
-        ensures { IfOk result (λ t. (d : Trees) → AreStoredIn d stored.now → AreBodyTotals d t) }
+        ensures { IfOk result (λ t. (d : Trees) → AreReadOf d stored.now → AreBodyTotals d t) }
     {
         Ok(BodyTotals {
             bytes: sums_by(alloc, &stored.refs, FIRST_TWO, Amount::Number(6))?,
@@ -113,7 +113,7 @@ impl BodyTotals {
 
 impl DateTotals {
     fn of(alloc: Global, stored: &Stored) -> Result<DateTotals, Failure>
-        ensures { IfOk result (λ t. (d : Trees) → AreStoredIn d stored.now → AreDateTotals d t) }
+        ensures { IfOk result (λ t. (d : Trees) → AreReadOf d stored.now → AreDateTotals d t) }
     {
         Ok(DateTotals {
             locks: count_by_bucket(alloc, &stored.locks, 2)?,
@@ -123,9 +123,9 @@ impl DateTotals {
 }
 
 impl Totals {
-    /// The sums over all rows that were read.
-    pub fn of(alloc: Global, stored: &Stored) -> Result<Totals, Failure>
-        ensures { IfOk result (λ t. (d : Trees) → AreStoredIn d stored.now → AreTotals d t) }
+    /// The sums over all rows that were read, and the lengths of blocks.
+    pub fn of(alloc: Global, stored: &Stored, by_name: Sums) -> Result<Totals, Failure>
+        ensures { IfOk result (λ t. (d : Trees) → AreReadOf d stored.now → Keeps (block_bytes d) by_name → AreTotals d t) }
     {
         Ok(Totals {
             tenants: TenantTotals::of(alloc, stored)?,
@@ -133,7 +133,7 @@ impl Totals {
             dates: DateTotals::of(alloc, stored)?,
             upload_bytes: sums_by(alloc, &stored.parts, FIRST_TWO, Amount::Number(4))?,
             block_refs: sums_by(alloc, &stored.refs, REF_BLOCK, Amount::One)?,
-            block_bytes: sums_by(alloc, &stored.blocks, FIRST_TWO, Amount::Length(3))?,
+            block_bytes: by_name,
         })
     }
 }

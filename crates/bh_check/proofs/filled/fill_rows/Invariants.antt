@@ -9,4 +9,4 @@ use Rattle.bh_check.proofs.filled.fill_rows.Given as goal
 abbrev pub invariant-loop-block : goal.invariant-loop-block
 invariant-loop-block g l = ReadsPacks g.P.Shelf l.fn.packs l.packs
     × (IsTrue (g.P.Shelf.is_clean l.packs) → AreKnown l.stored.places.items l.known → AreNamed l.stored.places.items
-    → AreFilled (typed pack_form l.stored.packs.items) (g.P.Shelf.seen l.fn.packs) (typed place_form l.stored.places.items) (take l.block-index l.stored.blocks.items) l.rows.items)
+    → AreFilled (typed pack_form l.stored.packs.items) (g.P.Shelf.seen l.fn.packs) (typed place_form l.stored.places.items) (take l.block-index l.fn.blocks) l.rows.items)
