@@ -1,12 +1,12 @@
 #!/usr/bin/env python3
 """Hosts whose bytes go to packs, beside hosts that put all in rows, as those of programs without packs did (BUCKETD_PACKS=no).
 
-    bench/packs.py [PROGRAM [PART..]]      PROGRAM: crates/bucketd/out/bucketd; PART: bodies, great, opening=MB.., backup=MB (all)
+    bench/packs.py [PROGRAM [PART..]]      PROGRAM: crates/bucketd/out/bucketd; PART: bodies, great, opening=MB.., checks=MB.., backup=MB (all)
 
 bodies: milliseconds of the server's processor for puts of new bytes and for gets, asked of both in turns, the median and the least.
 great: a put of 1 GiB: its seconds, the most memory, and the bytes of the log after it. opening: hosts of so many megabytes in blocks of
-64 KiB: seconds of a processor until one listens, and memory then and at rest; above 1,000 MB those with packs alone. backup: how long
-one small get waits at most while a served host of so many megabytes is copied. Hosts lie in FOLDER of the environment, or in /dev/shm.
+64 KiB: seconds of a processor until one listens, and memory then and at rest; above 1,000 MB those with packs alone. checks: seconds
+and memory of a check. backup: how long one small get waits at most while a served host of so many megabytes is copied. Hosts lie in FOLDER of the environment, or in /dev/shm.
 """
 import os
 import statistics
@@ -23,6 +23,11 @@ SIZES = [(1 << 10, 300), (1 << 16, 100), (1 << 20, 40), (1 << 24, 10)]
 KINDS = {"packs": "", "rows": "no"}
 OBJECT, MOST_IN_ROWS = 1 << 24, 1000
 FOLDER = os.environ.get("FOLDER", SHARED_MEMORY)
+# Runs the words behind it without what they print, and tells their seconds of a processor and the most memory of them, in MiB.
+WAITS = """import resource, subprocess, sys
+subprocess.run(sys.argv[1:], check=True, stdout=subprocess.DEVNULL, stderr=subprocess.DEVNULL)
+spent = resource.getrusage(resource.RUSAGE_CHILDREN)
+print(spent.ru_utime + spent.ru_stime, spent.ru_maxrss / 1024)"""
 LARGE = ("--max-body", str(1 << 30))
 
 
@@ -130,9 +135,22 @@ def backup(program, megabytes):
                 print(f"{kind}: a backup of {megabytes:,} MB takes {seconds:.2f} s; the slowest small get beside it took {waits[0] / 1000:.2f} s", flush=True)
 
 
+def checks(program, megabytes):
+    print("| Host, MB | Bytes in | a check, s of a processor | MiB |\n|---|---|---|---|")
+    for size in megabytes:
+        for kind, word in KINDS.items():
+            if kind == "rows" and size > MOST_IN_ROWS:
+                continue
+            with tempfile.TemporaryDirectory(dir=FOLDER) as folder:
+                # A program of its own waits for it: the most memory of a process is told with that of the one that began it.
+                words = ["/usr/bin/python3", "-c", WAITS, program, "check", "--file", filled(program, folder, size, word)]
+                seconds, memory = subprocess.run(words, check=True, stdout=subprocess.PIPE, text=True).stdout.split()
+                print(f"| {size:,} | {kind} | {float(seconds):.2f} | {float(memory):.0f} |", flush=True)
+
+
 def main():
     program = proved_program(sys.argv[1:2])
-    for part in sys.argv[2:] or ["bodies", "great", "opening=100,1000,10000", "backup=1000"]:
+    for part in sys.argv[2:] or ["bodies", "great", "opening=100,1000,10000", "checks=100,1000", "backup=1000"]:
         name, _, sizes = part.partition("=")
         sizes = [int(it) for it in sizes.split(",") if it]
         if name == "bodies":
@@ -141,6 +159,8 @@ def main():
             great(program)
         elif name == "opening":
             opening(program, sizes or [100, 1000])
+        elif name == "checks":
+            checks(program, sizes or [100, 1000])
         elif name == "backup":
             backup(program, *(sizes or [1000]))
         else:

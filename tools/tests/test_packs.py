@@ -687,6 +687,27 @@ def test_one_sweep_by_hand(expect, program, folder):
     is_whole_in_the_end(expect, program, file, folder, kept)
 
 
+@pytest.mark.proved
+@pytest.mark.cost(60)
+def test_little_memory(expect, program, folder):
+    """A check and a backup read all bytes of packs, and have a few blocks in memory at once. A check tells a wrong byte at their end."""
+    if not is_fast(program):
+        return expect.skip("little memory", "it needs 100 MB, and a program with a proof")
+    file = make_host(program, os.path.join(folder, "host"), ["green"])
+    with Server(program, file, "--force") as server:
+        told = put_mebibytes(server, 100)
+        server.end()
+    with_little = "prlimit", folder, f"--as={32 * MIB}", program
+    found = run(*with_little, "check", "--file", file)
+    expect("a check has little memory", told == {200} and found[:2] == ("sound", 0), f"{told} {found}")
+    found = run(*with_little, "backup", "--file", file, "--to", file + "-copy")
+    expect("so has a backup", found[1] == 0, found)
+    [(pack, last)] = rows(file, "SELECT pack, place + size - 1 FROM placed ORDER BY pack DESC, place DESC LIMIT 1")
+    flipped(pack_of(file, pack), last)
+    found = run(*with_little, "check", "--file", file)
+    expect("a wrong byte at the end is told", found[1] == 1 and "a pack hasn't got these bytes" in found[0], found)
+
+
 # ---- copies
 
 
