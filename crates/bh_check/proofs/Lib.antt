@@ -20,6 +20,7 @@ mod HostIs
 mod AwaitsLemmas
 mod FilledRows
 mod ShownLemmas
+mod LostLemmas
 mod PackRows
 mod Schemas
 mod OneLemmas

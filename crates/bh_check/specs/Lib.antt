@@ -9,3 +9,4 @@ pub mod Checked
 pub mod Awaits
 pub mod Filled
 pub mod Looked
+pub mod Lost

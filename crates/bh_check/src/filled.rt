@@ -214,7 +214,7 @@ pub(crate) fn filled<P: Shelf>(
 }
 
 /// Adds a row.
-fn add(rows: &mut Vec<Row>, row: Row) -> Result<(), AllocError>
+pub(crate) fn add(rows: &mut Vec<Row>, row: Row) -> Result<(), AllocError>
     ensures { OnOk result (rows.new.items ≡ rows.old.items ++ row ∷ []) }
 {
     match rows.push(row) {

@@ -11,6 +11,7 @@ pub mod garbage;
 pub mod groups;
 pub mod laws;
 pub mod looked;
+pub mod lost;
 pub mod measures;
 pub mod placed;
 pub mod rows;

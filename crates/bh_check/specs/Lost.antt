@@ -1,0 +1,39 @@
+-- What can't be read of a host.
+use Rattle.std.specs.Prelude.{◌≡◌, ◌⊎◌, true, ℕ, List}
+use Rattle.std.specs.List.{AllByRecursion}
+use Rattle.sqlite.specs.Order.{Row}
+use Rattle.sqlite_rules.specs.Lists.{Has}
+use Rattle.bh_shelf.specs.Contents.{Contents}
+use Rattle.bh_tables.specs.Bodies.{Name, same_name}
+use Rattle.bh_tables.specs.Packs.{place_at}
+use Rattle.bh_tables.specs.Rows.{PlaceRow, PackRow}
+use Rattle.bh_tables.specs.Schema.{Octets}
+use Rattle.bh_stored.specs.declared.stored.Stored.{Stored}
+use Rattle.bh_check.specs.Blocks.{HasDigest}
+use Rattle.bh_check.specs.Filled.{IsFilled}
+use Rattle.bh_check.specs.Holds.{first_two, part_body, ref_block}
+use Rattle.bh_check.specs.Sums.{Keeps}
+use Rattle.bh_check.specs.declared.lost.Lost.{Lost}
+use Rattle.bh_check.specs.declared.sums.Sums.{Sums}
+
+-- with the bytes of its place, a block has the digest of its bytes
+pub record IsReadable (rows : List PackRow) (packs : Contents) (places : List PlaceRow) (digest : Octets → Octets) (block : Row) : Type 0 where
+  pub filled : Row
+  pub is : IsFilled rows packs (place_at places (first_two block)) block filled
+  pub named : HasDigest digest filled
+
+-- these are counted by name, but for those that are well
+pub record CountsDamaged (IsWell : Row → Type 0) (rows : List Row) (counts : Sums) : Type 0 where
+  pub of : Name → ℕ
+  pub are : Keeps of counts
+  pub others : AllByRecursion (λ r. of (first_two r) ≡ 0 → IsWell r) rows
+
+-- each block that a body's references name is well
+abbrev pub IsWhole : (Row → Type 0) → List Row → List Row → Name → Type 0
+IsWhole IsWell blocks refs body = (r b : Row) → Has refs r → same_name (first_two r) body ≡ true → Has blocks b → same_name (first_two b) (ref_block r) ≡ true
+    → IsWell b
+
+-- each version and each part is whole, or is listed
+pub record AreLost (IsWell : Row → Type 0) (s : Stored) (lost : Lost) : Type 0 where
+  pub versions : AllByRecursion (λ v. IsWhole IsWell s.blocks.items s.refs.items (first_two v) ⊎ Has lost.versions.items v) s.versions.items
+  pub parts : AllByRecursion (λ p. IsWhole IsWell s.blocks.items s.refs.items (part_body p) ⊎ Has lost.parts.items p) s.parts.items
