@@ -73,6 +73,12 @@ module _ {S : Type 0} (g : Ghosts S) (connection : Held S) (bare last : S) (edit
   pub typed_left : (IsClean (g.view last) → AreRows pack_form ((g.view bare).trees 32)) → AreRows pack_form ((state g connection).now.trees 32)
   typed_left typed = subst (λ (t : Trees). AreRows pack_form (t 32)) same_trees (typed clean)
 
+  -- what follows of a database's trees in the store that is left, of one with the present schema
+  pub so_left : edition ≡ Fifth → (Q : Trees → Type 0) → (IsClean (g.view last) → IsDatabase (record { schema = host_schema; trees = (g.view bare).trees }) → Q (g.view bare).trees) → Q (state g connection).now.trees
+  so_left fifth Q its =
+      let whole : IsDatabase (record { schema = host_schema; trees = trees }) = subst (λ (e : Edition). IsDatabase (record { schema = schema_of e; trees = trees })) fifth database in
+      subst Q same_trees (its clean (subst (λ (t : Trees). IsDatabase (record { schema = host_schema; trees = t })) (sym same_trees) whole))
+
   -- with the bytes of packs
   pub judged_with : edition ≡ Fifth → (digest : Octets → Octets) (packs : Contents) → (IsClean (g.view last) → IsDatabase (record { schema = host_schema; trees = (g.view bare).trees }) → HasReached packs (packs_in (g.view bare).trees) (places_in (g.view bare).trees) → IsChecked Fifth digest (filled_trees packs (g.view bare).trees))
       → HasReached packs (packs_in (state g connection).now.trees) (places_in (state g connection).now.trees) → IsStateClean (state g connection) × IsSoundHost digest (tables_beside packs (state g connection).now)

@@ -2,10 +2,11 @@
 use Rattle.std.specs.Prelude.{◌≡◌, ◌⊎◌, true, ℕ, List}
 use Rattle.std.specs.List.{AllByRecursion}
 use Rattle.sqlite.specs.Order.{Row}
+use Rattle.sqlite.specs.Tree.{Trees}
 use Rattle.sqlite_rules.specs.Lists.{Has}
 use Rattle.bh_shelf.specs.Contents.{Contents}
 use Rattle.bh_tables.specs.Bodies.{Name, same_name}
-use Rattle.bh_tables.specs.Packs.{place_at}
+use Rattle.bh_tables.specs.Packs.{place_at, packs_in, places_in}
 use Rattle.bh_tables.specs.Rows.{PlaceRow, PackRow}
 use Rattle.bh_tables.specs.Schema.{Octets}
 use Rattle.bh_stored.specs.declared.stored.Stored.{Stored}
@@ -33,7 +34,17 @@ abbrev pub IsWhole : (Row → Type 0) → List Row → List Row → Name → Typ
 IsWhole IsWell blocks refs body = (r b : Row) → Has refs r → same_name (first_two r) body ≡ true → Has blocks b → same_name (first_two b) (ref_block r) ≡ true
     → IsWell b
 
--- each version and each part is whole, or is listed
+-- each part of an upload is whole
+abbrev pub AreWhole : (Row → Type 0) → List Row → List Row → List Row → Name → Type 0
+AreWhole IsWell blocks refs parts upload = (p : Row) → Has parts p → same_name (first_two p) upload ≡ true → IsWhole IsWell blocks refs (part_body p)
+
+-- each version is whole, or is listed, and each upload is listed unless all its parts are whole
 pub record AreLost (IsWell : Row → Type 0) (s : Stored) (lost : Lost) : Type 0 where
   pub versions : AllByRecursion (λ v. IsWhole IsWell s.blocks.items s.refs.items (first_two v) ⊎ Has lost.versions.items v) s.versions.items
-  pub parts : AllByRecursion (λ p. IsWhole IsWell s.blocks.items s.refs.items (part_body p) ⊎ Has lost.parts.items p) s.parts.items
+  pub uploads : AllByRecursion (λ u. AreWhole IsWell s.blocks.items s.refs.items s.parts.items (first_two u) ⊎ Has lost.uploads.items u) s.uploads.items
+
+-- of a database, beside packs
+pub record AreLostIn (packs : Contents) (digest : Octets → Octets) (d : Trees) (lost : Lost) : Type 0 where
+  pub versions : AllByRecursion (λ v. IsWhole (IsReadable (packs_in d) packs (places_in d) digest) (d 10) (d 12) (first_two v) ⊎ Has lost.versions.items v) (d 7)
+  pub uploads : AllByRecursion (λ u. AreWhole (IsReadable (packs_in d) packs (places_in d) digest) (d 10) (d 12) (d 18) (first_two u)
+      ⊎ Has lost.uploads.items u) (d 16)

@@ -1,16 +1,16 @@
 //! The check of a host's tables.
 
-ghost use Rattle.std.specs.Prelude.{◌≡◌, ◌⊎◌, List, [], map, None, OnOk, IfOk, IsTrue};
+ghost use Rattle.std.specs.Prelude.{◌≡◌, ◌⊎◌, List, [], map, None, OnOk, IfOk, IfSome, IsTrue};
 ghost use Rattle.std.specs.List.{AllByRecursion};
 ghost use Rattle.sqlite.specs.Effect.{IsDatabase};
 ghost use Rattle.sqlite.specs.Tree.{Trees};
 ghost use Rattle.sqlite.specs.Held.{state};
 ghost use Rattle.sqlite.specs.Order.{Row as Columns};
 ghost use Rattle.sqlite_trees.specs.View.{IsClean};
-ghost use Rattle.bh_rows.specs.Form.{AreRows};
+ghost use Rattle.bh_rows.specs.Form.{AreRows, typed};
 ghost use Rattle.bh_tables.specs.Hosts.{tables_opened};
 ghost use Rattle.bh_tables.specs.Packs.{packs_in, places_in};
-ghost use Rattle.bh_tables.specs.Rows.{pack_form};
+ghost use Rattle.bh_tables.specs.Rows.{pack_form, place_form};
 ghost use Rattle.bh_tables.specs.Schema.{Octets, first_schema, second_schema, third_schema, fourth_schema, host_schema};
 ghost use Rattle.bh_view.specs.Bodies.{IsSoundHost};
 ghost use Rattle.bh_shelf.specs.Contents.{Contents};
@@ -30,6 +30,7 @@ ghost use Rattle.bh_check.specs.Filled.{ReadsPacks};
 ghost use Rattle.bh_check.specs.Garbage.{IsGarbage, AreWeighed};
 ghost use Rattle.bh_check.specs.Holds.{block_refs, block_bytes, block_length, AreMeasures, AreTotals, Holds};
 ghost use Rattle.bh_check.specs.Looked.{AreReadOf, AreShown};
+ghost use Rattle.bh_check.specs.Lost.{IsReadable, AreLost, AreLostIn};
 ghost use Rattle.bh_check.specs.Sums.{Keeps};
 ghost use Rattle.bh_check.specs.Tallies.{AreTalliesOf, AreTallied};
 
@@ -39,6 +40,7 @@ use crate::filled::Known;
 use crate::flaw::{Flaw, Stop};
 use crate::garbage::{has_bytes, unused_bytes};
 use crate::looked::{Looked, look};
+use crate::lost::{Lost, lost_of};
 use crate::measures::Measures;
 use crate::placed::first_misplaced;
 use crate::rows::{Table, is_host};
@@ -369,6 +371,15 @@ fn check_rows<S: Store, D: Digester, W: Watch>(
     Ok(())
 }
 
+/// What a check found.
+#[derive(Drop)]
+pub struct Found {
+    /// The first flaw.
+    pub flaw: Flaw,
+    /// What can't be read, if the first flaw is of a block's bytes and all rows were read.
+    pub lost: Option<Lost>,
+}
+
 /// The first flaw in a store with the database of a host of this edition, if there is one. The
 /// digester must be that of the function that names the host's blocks. Fails if memory or the store
 /// fails.
@@ -378,38 +389,68 @@ pub fn check_store<S: Store, D: Digester, W: Watch>(
     edition: Edition,
     digester: &D,
     watch: &mut W,
-) -> Result<Option<Flaw>, StoreError>
+) -> Result<Option<Found>, StoreError>
     ensures keeps { IfOk result (λ found. found ≡ None → KeepsTrees (S.view store.old) (S.view store.new)) }
     ensures checked { IfOk result (λ found. found ≡ None → IsClean (S.view store.new)
         → IsChecked edition D.digest_of (seen edition (S.view store.old).trees)) }
 {
     match check_rows(alloc, store, edition, digester, watch) {
         Ok(()) => Ok(None),
-        Err(Stop::Flaw(flaw)) => Ok(Some(flaw)),
+        Err(Stop::Flaw(flaw)) => Ok(Some(Found { flaw, lost: None })),
         Err(Stop::Store(error)) => Err(error),
     }
 }
 
-/// All rows of a store with the database of a host of the present version, whose blocks may have their bytes in packs.
+/// A flaw, with what can't be read if it is of a block's bytes.
+fn with_lost<P: Shelf, D: Digester>(
+    alloc: Global,
+    packs: &mut P,
+    stored: &Stored,
+    digester: &D,
+    flaw: Flaw,
+) -> Result<Found, Stop>
+    ensures flaw { IfOk result (λ it. it.flaw ≡ flaw) }
+    ensures lost { IfOk result (λ it. IfSome it.lost (λ lost. IsTrue (P.Shelf.is_clean packs.new) → AreNamed stored.now.places.items
+        → AreLost (IsReadable (typed pack_form stored.now.packs.items) (P.Shelf.seen packs.old)
+        (typed place_form stored.now.places.items) D.digest_of) stored.now lost)) }
+    ensures reads { ReadsPacks P.Shelf packs.old packs.new }
+{
+    if !flaw.is_of_bytes() {
+        return Ok(Found { flaw, lost: None });
+    }
+    let lost = lost_of(alloc, packs, stored, digester)?;
+    Ok(Found {
+        flaw,
+        lost: Some(lost),
+    })
+}
+
+/// What is found in all rows of a store with the database of a host of the present version, whose blocks may have their bytes in packs.
 fn check_filled<S: Store, P: Shelf, D: Digester, W: Watch>(
     alloc: Global,
     store: &mut S,
     packs: &mut P,
     digester: &D,
     watch: &mut W,
-) -> Result<(), Stop>
+) -> Result<Option<Found>, Stop>
     ensures keeps { OnOk result (KeepsTrees (S.view store.old) (S.view store.new)) }
     ensures reads { ReadsPacks P.Shelf packs.old packs.new }
     ensures typed { OnOk result (IsClean (S.view store.new) → AreRows pack_form ((S.view store.old).trees 32)) }
-    ensures checked { OnOk result (IsClean (S.view store.new) → IsTrue (P.Shelf.is_clean packs.new)
+    ensures checked { IfOk result (λ found. found ≡ None → IsClean (S.view store.new) → IsTrue (P.Shelf.is_clean packs.new)
         → IsDatabase (record { schema = host_schema; trees = (S.view store.old).trees })
         → HasReached (P.Shelf.seen packs.old) (packs_in (S.view store.old).trees) (places_in (S.view store.old).trees)
         → IsChecked Fifth D.digest_of (filled_trees (P.Shelf.seen packs.old) (S.view store.old).trees)) }
+    ensures lost { IfOk result (λ found. IfSome found (λ it. IfSome it.lost (λ lost. IsClean (S.view store.new)
+        → IsTrue (P.Shelf.is_clean packs.new) → IsDatabase (record { schema = host_schema; trees = (S.view store.old).trees })
+        → AreLostIn (P.Shelf.seen packs.old) D.digest_of (S.view store.old).trees lost))) }
 {
     let stored = Stored::read(alloc, store, Edition::Fifth)?;
     watch.at(Stage::Rows(stored.refs.len()));
-    check_stored(alloc, packs, &stored, Edition::Fifth, digester, watch)?;
-    Ok(())
+    match check_stored(alloc, packs, &stored, Edition::Fifth, digester, watch) {
+        Ok(()) => Ok(None),
+        Err(Stop::Flaw(flaw)) => Ok(Some(with_lost(alloc, packs, &stored, digester, flaw)?)),
+        Err(stop) => Err(stop),
+    }
 }
 
 /// As `check_store`, for a host of the present version and its packs.
@@ -419,7 +460,7 @@ pub fn check_store_with<S: Store, P: Shelf, D: Digester, W: Watch>(
     packs: &mut P,
     digester: &D,
     watch: &mut W,
-) -> Result<Option<Flaw>, StoreError>
+) -> Result<Option<Found>, StoreError>
     ensures keeps { IfOk result (λ found. found ≡ None → KeepsTrees (S.view store.old) (S.view store.new)) }
     ensures reads { ReadsPacks P.Shelf packs.old packs.new }
     ensures typed { IfOk result (λ found. found ≡ None → IsClean (S.view store.new) → AreRows pack_form ((S.view store.old).trees 32)) }
@@ -427,10 +468,17 @@ pub fn check_store_with<S: Store, P: Shelf, D: Digester, W: Watch>(
         → IsDatabase (record { schema = host_schema; trees = (S.view store.old).trees })
         → HasReached (P.Shelf.seen packs.old) (packs_in (S.view store.old).trees) (places_in (S.view store.old).trees)
         → IsChecked Fifth D.digest_of (filled_trees (P.Shelf.seen packs.old) (S.view store.old).trees)) }
+    ensures lost { IfOk result (λ found. IfSome found (λ it. IfSome it.lost (λ lost. KeepsTrees (S.view store.old) (S.view store.new)
+        × (IsClean (S.view store.new) → IsTrue (P.Shelf.is_clean packs.new)
+        → IsDatabase (record { schema = host_schema; trees = (S.view store.old).trees })
+        → AreLostIn (P.Shelf.seen packs.old) D.digest_of (S.view store.old).trees lost)))) }
 {
     match check_filled(alloc, store, packs, digester, watch) {
-        Ok(()) => Ok(None),
-        Err(Stop::Flaw(first)) => Ok(Some(first)),
+        Ok(found) => Ok(found),
+        Err(Stop::Flaw(first)) => Ok(Some(Found {
+            flaw: first,
+            lost: None,
+        })),
         Err(Stop::Store(cause)) => Err(cause),
     }
 }
@@ -443,7 +491,7 @@ pub fn check_connection<S: Alter + Drop, D: Digester, W: Watch>(
     connection: Connection<S>,
     digester: &D,
     watch: &mut W,
-) -> (Result<Option<Flaw>, StoreError>, S)
+) -> (Result<Option<Found>, StoreError>, S)
     requires schema { IsStateClean (state S.Store connection)
         → ((state S.Store connection).now.schema ≡ first_schema)
         ⊎ (((state S.Store connection).now.schema ≡ second_schema)
@@ -468,14 +516,15 @@ pub fn check_connection<S: Alter + Drop, D: Digester, W: Watch>(
 /// its packs have, and returns the store. A transaction that is open is an error. Nothing is written.
 ///
 /// It reads all that packs have of blocks, and tells nothing of what no place names. Packs that were
-/// opened by the rows of the host's table of packs have what it reads (clause `listed`).
+/// opened by the rows of the host's table of packs have what it reads (clause `listed`). If the first
+/// flaw is of a block's bytes, each version that isn't listed as lost is whole (clause `lost`).
 pub fn check_with_packs<S: Alter + Drop, P: Shelf, D: Digester, W: Watch>(
     alloc: Global,
     connection: Connection<S>,
     packs: &mut P,
     digester: &D,
     watch: &mut W,
-) -> (Result<Option<Flaw>, StoreError>, S)
+) -> (Result<Option<Found>, StoreError>, S)
     requires schema { IsStateClean (state S.Store connection) → (state S.Store connection).now.schema ≡ host_schema }
     ensures reads { ReadsPacks P.Shelf packs.old packs.new }
     ensures sound { IfOk result.0 (λ found. found ≡ None → IsClean (S.Store.view result.1) → IsTrue (S.Store.view result.1).is_open
@@ -490,6 +539,9 @@ pub fn check_with_packs<S: Alter + Drop, P: Shelf, D: Digester, W: Watch>(
         → HasListed (map listed_of (packs_in (state S.Store connection).now.trees)) files (P.Shelf.seen packs.old))
         → IsStateClean (state S.Store connection)
         × IsSoundHost D.digest_of (tables_beside (P.Shelf.seen packs.old) (state S.Store connection).now)) }
+    ensures lost { IfOk result.0 (λ found. IfSome found (λ it. IfSome it.lost (λ lost. IsClean (S.Store.view result.1)
+        → IsTrue (S.Store.view result.1).is_open → IsTrue (P.Shelf.is_clean packs.new) → IsStateClean (state S.Store connection)
+        × AreLostIn (P.Shelf.seen packs.old) D.digest_of (state S.Store connection).now.trees lost))) }
 {
     let tables = connection.schema().tables.len();
     let is_settled = connection.is_autocommit();

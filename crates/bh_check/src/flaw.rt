@@ -42,6 +42,13 @@ pub enum Flaw {
     TooMuch,
 }
 
+impl Flaw {
+    /// Whether it is of a block's bytes, which packs may have.
+    pub fn is_of_bytes(&self) -> bool {
+        matches!(self, Flaw::Unread(_) | Flaw::Digest(_))
+    }
+}
+
 /// Why a check ends early.
 #[derive(Clone, Copy, PartialEq, Eq)]
 pub enum Stop {

@@ -10,7 +10,7 @@ ghost use Rattle.bh_tables.specs.Bodies.{Name, same_name};
 ghost use Rattle.bh_tables.specs.Rows.{pack_form, place_form};
 ghost use Rattle.bh_check.specs.Blocks.{AreNamed};
 ghost use Rattle.bh_check.specs.Filled.{ReadsPacks, AreKnown};
-ghost use Rattle.bh_check.specs.Holds.{ref_block, number_at};
+ghost use Rattle.bh_check.specs.Holds.{first_two, number_at};
 ghost use Rattle.bh_check.specs.Lost.{IsReadable, CountsDamaged, AreLost};
 ghost use Rattle.bh_check.specs.Sums.{Keeps};
 
@@ -25,11 +25,11 @@ use bh_stored::stored::Stored;
 use sqlite_value::row::Row;
 use std::alloc::{AllocError, Global};
 
-/// The rows of versions and of parts whose bodies have a block without its bytes.
+/// The rows of versions whose bodies have a block without its bytes, and of uploads with a part of which that is so.
 #[derive(Drop)]
 pub struct Lost {
     pub versions: Vec<Row>,
-    pub parts: Vec<Row>,
+    pub uploads: Vec<Row>,
 }
 
 /// Whether a block has its bytes, and the digest of them.
@@ -92,22 +92,40 @@ fn damaged<P: Shelf, D: Digester>(
     let mut counts = Sums::new(alloc);
     for block in &stored.blocks {
         let amount = one_if(!is_readable(alloc, packs, known, stored, digester, block)?);
-        count(alloc, &mut counts, bytes_in(block, 1), number_in(block, 2), amount)?;
+        count(
+            alloc,
+            &mut counts,
+            bytes_in(block, 1),
+            number_in(block, 2),
+            amount,
+        )?;
     }
     Ok(counts)
 }
 
-/// How many references of a body name a damaged block.
-fn bodies_lost(alloc: Global, refs: &[Row], damaged: &Sums) -> Result<Sums, Stop>
-    ensures { IfOk result (λ bodies. (of : Name → ℕ) → Keeps of damaged.now
-        → CountsDamaged (λ r. of (ref_block r) ≡ 0) refs.now bodies) }
+/// How many rows of a name, which is in the first two columns, use a name that was counted, which is in these.
+fn users_of(
+    alloc: Global,
+    rows: &[Row],
+    text: usize,
+    number: usize,
+    damaged: &Sums,
+) -> Result<Sums, Stop>
+    ensures { IfOk result (λ users. (of : Name → ℕ) → Keeps of damaged.now
+        → CountsDamaged (λ r. of (bytes_of (column r text), number_at number r) ≡ 0) rows.now users) }
 {
-    let mut bodies = Sums::new(alloc);
-    for row in refs {
-        let amount = damaged.at(alloc, bytes_in(row, 4), number_in(row, 5))?;
-        count(alloc, &mut bodies, bytes_in(row, 1), number_in(row, 2), amount)?;
+    let mut users = Sums::new(alloc);
+    for row in rows {
+        let amount = damaged.at(alloc, bytes_in(row, text), number_in(row, number))?;
+        count(
+            alloc,
+            &mut users,
+            bytes_in(row, 1),
+            number_in(row, 2),
+            amount,
+        )?;
     }
-    Ok(bodies)
+    Ok(users)
 }
 
 /// Adds a row if its number isn't 0.
@@ -121,25 +139,20 @@ fn add_lost(alloc: Global, lost: &mut Vec<Row>, row: &Row, count: u64) -> Result
     add(lost, copy)
 }
 
-/// The rows whose bodies, with their numbers in this column, have such a reference.
-fn rows_lost(
-    alloc: Global,
-    rows: &[Row],
-    number: usize,
-    bodies: &Sums,
-) -> Result<Vec<Row>, AllocError>
-    ensures { IfOk result (λ lost. (of : Name → ℕ) → Keeps of bodies.now
-        → AllByRecursion (λ r. (of (bytes_of (column r 1), number_at number r) ≡ 0) ⊎ Has lost.items r) rows.now) }
+/// The rows whose names were counted.
+fn rows_lost(alloc: Global, rows: &[Row], counts: &Sums) -> Result<Vec<Row>, AllocError>
+    ensures { IfOk result (λ lost. (of : Name → ℕ) → Keeps of counts.now
+        → AllByRecursion (λ r. (of (first_two r) ≡ 0) ⊎ Has lost.items r) rows.now) }
 {
     let mut lost = Vec::new(alloc);
     for row in rows {
-        let count = bodies.at(alloc, bytes_in(row, 1), number_in(row, number))?;
+        let count = counts.at(alloc, bytes_in(row, 1), number_in(row, 2))?;
         add_lost(alloc, &mut lost, row, count)?;
     }
     Ok(lost)
 }
 
-/// All versions and parts that can't be read whole, and maybe more where a pack's file can't be read at all.
+/// All versions, and all uploads of which parts, that can't be read whole, and maybe more where a pack's file fails at times.
 pub fn lost_of<P: Shelf, D: Digester>(
     alloc: Global,
     packs: &mut P,
@@ -152,10 +165,11 @@ pub fn lost_of<P: Shelf, D: Digester>(
     ensures reads { ReadsPacks P.Shelf packs.old packs.new }
 {
     let known = Known::of(alloc, &stored.places, &stored.packs)?;
-    let counts = damaged(alloc, packs, &known, stored, digester)?;
-    let bodies = bodies_lost(alloc, &stored.refs, &counts)?;
+    let blocks = damaged(alloc, packs, &known, stored, digester)?;
+    let bodies = users_of(alloc, &stored.refs, 4, 5, &blocks)?;
+    let uploads = users_of(alloc, &stored.parts, 1, 7, &bodies)?;
     Ok(Lost {
-        versions: rows_lost(alloc, &stored.versions, 2, &bodies)?,
-        parts: rows_lost(alloc, &stored.parts, 7, &bodies)?,
+        versions: rows_lost(alloc, &stored.versions, &bodies)?,
+        uploads: rows_lost(alloc, &stored.uploads, &uploads)?,
     })
 }

@@ -17,11 +17,11 @@ use crate::ending::Ended;
 use crate::fault::Fault;
 use crate::files::{is_blank, open, without_files};
 use crate::hosts::{open_packs, why_not_found};
+use crate::lost::append_lost;
 use crate::printed::Printed;
 use crate::remarks::{Remark, tell};
 use bh_blocks::digester::{FastDigester, Sha256Digester};
-use bh_check::check::{check_connection, check_with_packs};
-use bh_check::flaw::Flaw;
+use bh_check::check::{Found, check_connection, check_with_packs};
 use bh_check::watch::{Stage, Watch};
 use bh_file::{HostFile, Meter, OpenFault, Work};
 use bh_open::{FoundHost, HostVersion, look, see_packs};
@@ -48,21 +48,27 @@ impl Watch for Progress<'_> {
     }
 }
 
-/// The line that describes a flaw, with status 1.
-fn flawed(alloc: Global, flaw: Flaw) -> Result<Printed, AllocError>
+/// The line that describes a flaw, and a line for each version and upload that is lost by it, with status 1.
+fn flawed(alloc: Global, found: &Found) -> Result<Printed, AllocError>
     ensures { IfOk result (λ printed. printed.status ≡ 1) }
 {
-    let text = format!(in alloc; "{flaw}\n")?.into_bytes();
-    Ok(Printed { text, status: 1 })
+    let mut text = format!(in alloc; "{}\n", found.flaw)?;
+    if let Some(lost) = &found.lost {
+        append_lost(alloc, &mut text, lost)?;
+    }
+    Ok(Printed {
+        text: text.into_bytes(),
+        status: 1,
+    })
 }
 
-/// The printed text: `sound`, or the first flaw.
-fn verdict(alloc: Global, found: Option<Flaw>) -> Result<Printed, AllocError>
+/// The printed text: `sound`, or the first flaw and what is lost by it.
+fn verdict(alloc: Global, found: Option<Found>) -> Result<Printed, AllocError>
     ensures { IfOk result (IsVerdict (found ≡ None)) }
 {
     match found {
         None => Ok(Printed::line(alloc, b"sound")?),
-        Some(flaw) => Ok(flawed(alloc, flaw)?),
+        Some(found) => Ok(flawed(alloc, &found)?),
     }
 }
 
@@ -81,7 +87,7 @@ fn unread(rt: &HostRuntime, path: &str, error: StoreError) -> Result<Printed, Fa
 fn told(
     rt: &HostRuntime,
     path: &str,
-    found: Result<Option<Flaw>, StoreError>,
+    found: Result<Option<Found>, StoreError>,
 ) -> Result<Printed, Fault>
     ensures { IfOk result (IsVerdict (found ≡ Ok None)) }
 {
@@ -352,7 +358,8 @@ fn check_files<S: Start, K: ClosedPacks + Drop>(
     })
 }
 
-/// Checks the host of a file and its packs: prints `sound`, or the first flaw.
+/// Checks the host of a file and its packs: prints `sound`, or the first flaw. If that is of a block's bytes,
+/// a line follows for each version and upload that can't be read.
 ///
 /// If it prints `sound`, the tables that the file and its packs have, once they are opened, are a sound
 /// host's, provided that the files returned what was written to them. Soundness is what all other work

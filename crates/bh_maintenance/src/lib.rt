@@ -13,6 +13,7 @@ pub mod hosts;
 mod imports;
 mod joined;
 mod leftovers;
+mod lost;
 mod moves;
 pub mod printed;
 pub mod remarks;

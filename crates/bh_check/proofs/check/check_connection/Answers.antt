@@ -8,7 +8,7 @@ use Rattle.bh_base.specs.Layer.{IsStateClean}
 use Rattle.bh_stored.specs.Stored.{seen}
 use Rattle.bh_stored.specs.Stores.{KeepsTrees}
 use Rattle.bh_check.specs.Checked.{edition_with, IsChecked}
-use Rattle.bh_check.specs.declared.flaw.Flaw.{Flaw}
+use Rattle.bh_check.specs.declared.check.Found.{Found}
 use Rattle.bh_check.proofs.LeftSound.{ok_both, sound_left}
 use Rattle.bh_check.proofs.check.check_connection.Goals as goal
 
@@ -25,9 +25,9 @@ returns g c =
     let left = c.into_store-store.ensures in
     record {
       sound = ok_both c.check_store-found.result
-          (λ (found : Option Flaw). found ≡ None → KeepsTrees (store.view bare) (store.view last))
-          (λ (found : Option Flaw). found ≡ None → IsClean (store.view last) → IsChecked edition digest (seen edition (store.view bare).trees))
-          (λ (found : Option Flaw). found ≡ None → IsClean (store.view last) → IsTrue (store.view last).is_open → IsStateClean (state store connection) × IsSoundHost digest (tables_opened (state store connection).now))
+          (λ (found : Option Found). found ≡ None → KeepsTrees (store.view bare) (store.view last))
+          (λ (found : Option Found). found ≡ None → IsClean (store.view last) → IsChecked edition digest (seen edition (store.view bare).trees))
+          (λ (found : Option Found). found ≡ None → IsClean (store.view last) → IsTrue (store.view last).is_open → IsStateClean (state store connection) × IsSoundHost digest (tables_opened (state store connection).now))
           (λ found keeps checked none clean opened. sound_left store connection bare last edition digest c.requires.schema tells c.schema.ensures.live settled left.undone left.quiet.clean (keeps none) (checked none) clean opened)
           c.check_store-found.ensures.keeps c.check_store-found.ensures.checked;
     }
