@@ -18,7 +18,8 @@ use Rattle.bh_check.specs.declared.lost.Lost.{Lost}
 use Rattle.bh_check.specs.declared.sums.Sums.{Sums}
 
 -- with the bytes of its place, a block has the digest of its bytes
-pub record IsReadable (rows : List PackRow) (packs : Contents) (places : List PlaceRow) (digest : Octets → Octets) (block : Row) : Type 0 where
+pub record IsReadable (rows : List PackRow) (packs : Contents) (places : List PlaceRow) (digest : Octets → Octets) (block : Row)
+    : Type 0 where
   pub filled : Row
   pub is : IsFilled rows packs (place_at places (first_two block)) block filled
   pub named : HasDigest digest filled
@@ -31,20 +32,24 @@ pub record CountsDamaged (IsWell : Row → Type 0) (rows : List Row) (counts : S
 
 -- each block that a body's references name is well
 abbrev pub IsWhole : (Row → Type 0) → List Row → List Row → Name → Type 0
-IsWhole IsWell blocks refs body = (r b : Row) → Has refs r → same_name (first_two r) body ≡ true → Has blocks b → same_name (first_two b) (ref_block r) ≡ true
-    → IsWell b
+IsWhole IsWell blocks refs body = (r b : Row) → Has refs r → same_name (first_two r) body ≡ true → Has blocks b
+    → same_name (first_two b) (ref_block r) ≡ true → IsWell b
 
 -- each part of an upload is whole
 abbrev pub AreWhole : (Row → Type 0) → List Row → List Row → List Row → Name → Type 0
-AreWhole IsWell blocks refs parts upload = (p : Row) → Has parts p → same_name (first_two p) upload ≡ true → IsWhole IsWell blocks refs (part_body p)
+AreWhole IsWell blocks refs parts upload = (p : Row) → Has parts p → same_name (first_two p) upload ≡ true
+    → IsWhole IsWell blocks refs (part_body p)
 
 -- each version is whole, or is listed, and each upload is listed unless all its parts are whole
 pub record AreLost (IsWell : Row → Type 0) (s : Stored) (lost : Lost) : Type 0 where
-  pub versions : AllByRecursion (λ v. IsWhole IsWell s.blocks.items s.refs.items (first_two v) ⊎ Has lost.versions.items v) s.versions.items
-  pub uploads : AllByRecursion (λ u. AreWhole IsWell s.blocks.items s.refs.items s.parts.items (first_two u) ⊎ Has lost.uploads.items u) s.uploads.items
+  pub versions : AllByRecursion (λ v. IsWhole IsWell s.blocks.items s.refs.items (first_two v)
+      ⊎ Has lost.versions.items v) s.versions.items
+  pub uploads : AllByRecursion (λ u. AreWhole IsWell s.blocks.items s.refs.items s.parts.items (first_two u)
+      ⊎ Has lost.uploads.items u) s.uploads.items
 
 -- of a database, beside packs
 pub record AreLostIn (packs : Contents) (digest : Octets → Octets) (d : Trees) (lost : Lost) : Type 0 where
-  pub versions : AllByRecursion (λ v. IsWhole (IsReadable (packs_in d) packs (places_in d) digest) (d 10) (d 12) (first_two v) ⊎ Has lost.versions.items v) (d 7)
+  pub versions : AllByRecursion (λ v. IsWhole (IsReadable (packs_in d) packs (places_in d) digest) (d 10) (d 12) (first_two v)
+      ⊎ Has lost.versions.items v) (d 7)
   pub uploads : AllByRecursion (λ u. AreWhole (IsReadable (packs_in d) packs (places_in d) digest) (d 10) (d 12) (d 18) (first_two u)
       ⊎ Has lost.uploads.items u) (d 16)
