@@ -3,6 +3,7 @@
 
 Each test begins with a copy of one host, whose objects have as many bytes as are in a row, a byte more, and some blocks.
 """
+import json
 import os
 import random
 import shutil
@@ -13,6 +14,7 @@ import threading
 import time
 from dataclasses import dataclass
 from typing import Callable
+from urllib.parse import quote
 
 import pytest
 
@@ -463,6 +465,15 @@ def flipped(path, at):
         it.write(bytes([byte[0] ^ 1 << at % 8]))
 
 
+# What `check` says of bytes, without the row's number, and behind the name of what has them.
+FLAWS_OF_BYTES = {"placed: a pack hasn't got these bytes", "blocks: another digest than that of its bytes"}
+LOST = "bytes of it are wrong or missing"
+
+
+def first_line(told):
+    return told[0].split("\n")[0].rpartition(", row ")[0]
+
+
 def places_of(file):
     """Of each key the places of its blocks in packs: pack, place and size."""
     text = ("SELECT okey, pack, placed.place, placed.size FROM versions JOIN refs ON refs.tenant = versions.tenant AND body = seq"
@@ -488,7 +499,8 @@ def test_flips(expect, program, folder, file, bodies, full):
         name = f"byte {at} of pack {pack + 1}, in {key}"
         flipped(pack_of(file, pack), at)
         told = command(program, file, "check")
-        expect(f"check: {name}", told[1] == 1 and told[0] not in ("sound", ""), told)
+        lines = told[0].split("\n")
+        expect(f"check: {name}", told[1] == 1 and lines[1:] == [f"version green plans {key} null: {LOST}"] and first_line(told) in FLAWS_OF_BYTES, told)
         with Server(program, file, "--force", "--log") as server:
             wholes = [server.ask("green", "GET", f"/plans/{key}") for _ in range(2)]
             expect(f"the object isn't answered: {name}", all(is_refused(it, bodies[key]) for it in wholes), wholes)
@@ -504,6 +516,39 @@ def test_flips(expect, program, folder, file, bodies, full):
             expect(f"once it is right again all is served: {name}", not found, found)
     found = is_sound(program, file, folder)
     expect("it is sound in the end", not found, found)
+
+
+def users_of(file, key):
+    """The lines of all that has the only block of this key, as SQLite reads the rows, and where that block is."""
+    [(digest, ord, pack, place)] = rows(file, "SELECT refs.digest, refs.ord, pack, placed.place FROM versions, refs, placed WHERE versions.tenant = 'green' AND okey = x'%s'"
+                                        " AND refs.tenant = versions.tenant AND body = seq AND placed.digest = refs.digest AND placed.ord = refs.ord" % key.encode().hex())
+    here = f" WHERE refs.digest = x'{digest.hex()}' AND refs.ord = {ord} AND "
+    versions = rows(file, "SELECT versions.tenant, bucket, okey, id FROM refs, versions" + here + "refs.tenant = versions.tenant AND body = seq")
+    uploads = rows(file, "SELECT uploads.tenant, bucket, okey, uploads.upload FROM refs, parts, uploads" + here + "refs.tenant = parts.tenant"
+                   " AND refs.body = parts.body AND uploads.tenant = parts.tenant AND uploads.upload = parts.upload")
+    found = [("version", *it) for it in versions] + [("upload", *it) for it in uploads]
+    return sorted(f"{kind} {tenant} {bucket} {quote(name, safe='/~')} {f'{id:016x}' if id else 'null'}: {LOST}" for kind, tenant, bucket, name, id in found), (pack, place)
+
+
+@pytest.mark.cost(20)
+def test_what_a_check_lists(expect, program, folder, file, bodies):
+    """A block that several versions, an upload and another tenant have: where a bit of it is wrong, `check` lists them all."""
+    shared, other = (random.Random(it).randbytes(BLOCK) for it in ("shared", "other"))
+    with Server(program, file, "--force") as server:
+        told = [server.ask("blue", "PUT", "/toys").status, server.ask("green", "PUT", "/plans?versioning", b'{"Status":"Enabled"}').status]
+        told += [server.ask("green", "PUT", f"/plans/{key}", body).status for key, body in (("a%20b", shared), ("a%20b", other), ("a%20b", shared + other), ("c", other))]
+        told += [server.ask("blue", "PUT", "/toys/d/%C3%A4", other + shared).status]
+        upload = json.loads(server.ask("green", "POST", "/plans/up?uploads", b"").body)["UploadId"]
+        told += [server.ask("green", "PUT", f"/plans/up?uploadId={upload}&partNumber={number}", body).status for number, body in ((1, other), (2, shared))]
+        told += [server.ask("green", "PUT", "/plans/only", shared).status]
+    lines, (pack, place) = users_of(file, "only")
+    expect("several have the block", set(told) == {200} and len(lines) == 5, f"{told} {lines}")
+    flipped(pack_of(file, pack), place + 1000)
+    said, status = command(program, file, "check")
+    expect("a check lists them all", status == 1 and sorted(said.split("\n")[1:]) == lines and first_line((said, 1)) in FLAWS_OF_BYTES, f"{said} {lines}")
+    flipped(pack_of(file, pack), place + 1000)
+    found = is_sound(program, file, folder)
+    expect("and nothing once it is right", not found, found)
 
 
 @pytest.mark.cost(60)
