@@ -444,7 +444,8 @@ def test_eight_blocks(on, word):
     on.note(f"25 blocks by {word}", found == wanted, found)
     sound(on, file)
     check_broken(on, file, [(f"block {row} by {word}", f"UPDATE blocks SET bytes = zeroblob(length(bytes)) WHERE rowid = {row}",
-                             f"blocks: another digest than that of its bytes, row {row}") for row in (1, 2, 5, 8, 9, 12, 16, 17, 18, 19, 20, 24, 25)])
+                             f"blocks: another digest than that of its bytes, row {row}\nversion green plans {key} null: bytes of it are wrong or missing")
+                            for key, rows in (("x", (1,)), ("y", (2, 5, 8, 9, 12, 16, 17, 18, 19)), ("z", (20, 24, 25))) for row in rows])
 
 
 @pytest.mark.cost(40)
