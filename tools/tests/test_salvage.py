@@ -398,8 +398,11 @@ def test_refusals(expect, program, folder):
     other.execute("CREATE TABLE notes (text)")
     other.close()
     later = sqlite3.connect(path("later"))
-    for (text,) in sqlite3.connect(copied(path("host"), folder, "copy")).execute("SELECT sql FROM sqlite_master WHERE sql IS NOT NULL ORDER BY rowid"):
+    # Closed by its name: one that nothing names any more goes with its log and its index when Python collects what refers to itself.
+    copy = sqlite3.connect(copied(path("host"), folder, "copy"))
+    for (text,) in copy.execute("SELECT sql FROM sqlite_master WHERE sql IS NOT NULL ORDER BY rowid"):
         later.execute(text)
+    copy.close()
     later.execute("INSERT INTO host VALUES (1, 6, 0, 5, 5, 0)")
     later.commit()
     later.close()
@@ -427,7 +430,8 @@ def test_refusals(expect, program, folder):
     with holding(path("host")):
         done = salvage(program, path("host"), path("new"))
         expect("a file that another process has", done.returncode == 2 and "another process has it" in done.stderr, done)
-    expect("all is as it was", names(folder) == before and read(path("host")) == data and read(path("taken")) == b"t")
+    is_same = names(folder) == before and read(path("host")) == data and read(path("taken")) == b"t"
+    expect("all is as it was", is_same, f"{set(names(folder)) ^ set(before)} or other bytes")
 
 
 def test_full_disk(expect, program, folder):
