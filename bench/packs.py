@@ -97,17 +97,21 @@ def at_rest(program, file):
     return memory
 
 
-def opening(program, megabytes):
-    print("| Host, MB | Bytes in | File, MB | Log, MB | until it listens, s | of a processor, s | MiB then | at rest |\n|---|---|---|---|---|---|---|---|")
+def hosts(program, megabytes):
+    """Hosts of so many megabytes, of both kinds where that is quick, one after another: the size, where the bytes are, and the file."""
     for size in megabytes:
         for kind, word in KINDS.items():
-            if kind == "rows" and size > MOST_IN_ROWS:
-                continue
-            with tempfile.TemporaryDirectory(dir=FOLDER) as folder:
-                file = filled(program, folder, size, word)
-                length, log, _ = (it / 1e6 for it in on_disk(file))
-                clock, processor, memory = min((listens(program, file) for _ in range(3)), key=lambda it: it[1])
-                print(f"| {size:,} | {kind} | {length:.0f} | {log:.0f} | {clock:.2f} | {processor:.2f} | {memory:.0f} | {at_rest(program, file):.0f} |", flush=True)
+            if kind == "packs" or size <= MOST_IN_ROWS:
+                with tempfile.TemporaryDirectory(dir=FOLDER) as folder:
+                    yield size, kind, filled(program, folder, size, word)
+
+
+def opening(program, megabytes):
+    print("| Host, MB | Bytes in | File, MB | Log, MB | until it listens, s | of a processor, s | MiB then | at rest |\n|---|---|---|---|---|---|---|---|")
+    for size, kind, file in hosts(program, megabytes):
+        length, log, _ = (it / 1e6 for it in on_disk(file))
+        clock, processor, memory = min((listens(program, file) for _ in range(3)), key=lambda it: it[1])
+        print(f"| {size:,} | {kind} | {length:.0f} | {log:.0f} | {clock:.2f} | {processor:.2f} | {memory:.0f} | {at_rest(program, file):.0f} |", flush=True)
 
 
 def longest_wait(server, until):
@@ -137,15 +141,11 @@ def backup(program, megabytes):
 
 def checks(program, megabytes):
     print("| Host, MB | Bytes in | a check, s of a processor | MiB |\n|---|---|---|---|")
-    for size in megabytes:
-        for kind, word in KINDS.items():
-            if kind == "rows" and size > MOST_IN_ROWS:
-                continue
-            with tempfile.TemporaryDirectory(dir=FOLDER) as folder:
-                # A program of its own waits for it: the most memory of a process is told with that of the one that began it.
-                words = ["/usr/bin/python3", "-c", WAITS, program, "check", "--file", filled(program, folder, size, word)]
-                seconds, memory = subprocess.run(words, check=True, stdout=subprocess.PIPE, text=True).stdout.split()
-                print(f"| {size:,} | {kind} | {float(seconds):.2f} | {float(memory):.0f} |", flush=True)
+    for size, kind, file in hosts(program, megabytes):
+        # A program of its own waits for it: the most memory of a process is told with that of the one that began it.
+        words = ["/usr/bin/python3", "-c", WAITS, program, "check", "--file", file]
+        seconds, memory = subprocess.run(words, check=True, stdout=subprocess.PIPE, text=True).stdout.split()
+        print(f"| {size:,} | {kind} | {float(seconds):.2f} | {float(memory):.0f} |", flush=True)
 
 
 def main():

@@ -1,5 +1,5 @@
 -- What can't be read of a host.
-use Rattle.std.specs.Prelude.{◌≡◌, ◌⊎◌, true, ℕ, List}
+use Rattle.std.specs.Prelude.{◌≡◌, ◌⊎◌, Bool, true, false, ℕ, List}
 use Rattle.std.specs.List.{AllByRecursion}
 use Rattle.sqlite.specs.Order.{Row}
 use Rattle.sqlite.specs.Tree.{Trees}
@@ -14,8 +14,16 @@ use Rattle.bh_check.specs.Blocks.{HasDigest}
 use Rattle.bh_check.specs.Filled.{IsFilled}
 use Rattle.bh_check.specs.Holds.{first_two, part_body, ref_block}
 use Rattle.bh_check.specs.Sums.{Keeps}
+use Rattle.bh_check.specs.declared.flaw.Flaw.{Flaw}
+use Rattle.bh_check.specs.declared.flaw.Flaw.TheVariants.{Unread, Digest}
 use Rattle.bh_check.specs.declared.lost.Lost.{Lost}
 use Rattle.bh_check.specs.declared.sums.Sums.{Sums}
+
+-- a flaw of a block's bytes: packs haven't got them, or they have another digest
+abbrev pub is_of_bytes : Flaw → Bool
+is_of_bytes (Unread row) = true
+is_of_bytes (Digest row) = true
+is_of_bytes flaw = false
 
 -- with the bytes of its place, a block has the digest of its bytes
 pub record IsReadable (rows : List PackRow) (packs : Contents) (places : List PlaceRow) (digest : Octets → Octets) (block : Row)

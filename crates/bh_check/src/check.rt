@@ -1,6 +1,6 @@
 //! The check of a host's tables.
 
-ghost use Rattle.std.specs.Prelude.{◌≡◌, ◌⊎◌, List, [], map, None, OnOk, IfOk, IfSome, IsTrue};
+ghost use Rattle.std.specs.Prelude.{◌≡◌, ◌≢◌, ◌⊎◌, List, [], map, None, OnOk, IfOk, IfSome, IsTrue};
 ghost use Rattle.std.specs.List.{AllByRecursion};
 ghost use Rattle.sqlite.specs.Effect.{IsDatabase};
 ghost use Rattle.sqlite.specs.Tree.{Trees};
@@ -30,7 +30,7 @@ ghost use Rattle.bh_check.specs.Filled.{ReadsPacks};
 ghost use Rattle.bh_check.specs.Garbage.{IsGarbage, AreWeighed};
 ghost use Rattle.bh_check.specs.Holds.{block_refs, block_bytes, block_length, AreMeasures, AreTotals, Holds};
 ghost use Rattle.bh_check.specs.Looked.{AreReadOf, AreShown};
-ghost use Rattle.bh_check.specs.Lost.{IsReadable, AreLost, AreLostIn};
+ghost use Rattle.bh_check.specs.Lost.{is_of_bytes, IsReadable, AreLost, AreLostIn};
 ghost use Rattle.bh_check.specs.Sums.{Keeps};
 ghost use Rattle.bh_check.specs.Tallies.{AreTalliesOf, AreTallied};
 
@@ -410,6 +410,7 @@ fn with_lost<P: Shelf, D: Digester>(
     flaw: Flaw,
 ) -> Result<Found, Stop>
     ensures flaw { IfOk result (λ it. it.flaw ≡ flaw) }
+    ensures listed { IfOk result (λ it. IsTrue (is_of_bytes flaw) → it.lost ≢ None) }
     ensures lost { IfOk result (λ it. IfSome it.lost (λ lost. IsTrue (P.Shelf.is_clean packs.new) → AreNamed stored.now.places.items
         → AreLost (IsReadable (typed pack_form stored.now.packs.items) (P.Shelf.seen packs.old)
         (typed place_form stored.now.places.items) D.digest_of) stored.now lost)) }

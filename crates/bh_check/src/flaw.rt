@@ -1,3 +1,6 @@
+ghost use Rattle.std.specs.Prelude.{◌≡◌};
+ghost use Rattle.bh_check.specs.Lost.{is_of_bytes};
+
 use crate::rows::Table;
 use bh_stored::failure::Failure;
 use sqlite_trees::error::StoreError;
@@ -44,7 +47,9 @@ pub enum Flaw {
 
 impl Flaw {
     /// Whether it is of a block's bytes, which packs may have.
-    pub fn is_of_bytes(&self) -> bool {
+    pub(crate) fn is_of_bytes(&self) -> bool
+        ensures { result ≡ is_of_bytes self.now }
+    {
         matches!(self, Flaw::Unread(_) | Flaw::Digest(_))
     }
 }
