@@ -1,14 +1,16 @@
 #!/usr/bin/env python3
 """Hosts whose bytes go to packs, beside hosts that put all in rows, as those of programs without packs did (BUCKETD_PACKS=no).
 
-    bench/packs.py [PROGRAM [PART..]]      PROGRAM: crates/bucketd/out/bucketd; PART: bodies, great, opening=MB.., checks=MB.., backup=MB (all)
+    bench/packs.py [PROGRAM [PART..]]      PROGRAM: crates/bucketd/out/bucketd; PART: bodies, great, opening=MB.., checks=MB.., backup=MB.. (all)
 
 bodies: milliseconds of the server's processor for puts of new bytes and for gets, asked of both in turns, the median and the least.
 great: a put of 1 GiB: its seconds, the most memory, and the bytes of the log after it. opening: hosts of so many megabytes in blocks of
 64 KiB: seconds of a processor until one listens, and memory then and at rest; above 1,000 MB those with packs alone. checks: seconds
-and memory of a check. backup: how long one small get waits at most while a served host of so many megabytes is copied. Hosts lie in FOLDER of the environment, or in /dev/shm.
+and memory of a check. backup: how long three backups of a served host of so many megabytes take, the third to the file system of
+ELSEWHERE (/tmp), and the slowest small get beside each. Hosts lie in FOLDER of the environment, or in /dev/shm.
 """
 import os
+import shutil
 import statistics
 import subprocess
 import sys
@@ -22,7 +24,7 @@ from server import SHARED_MEMORY, Server, await_listener, free_port, on_disk, pr
 SIZES = [(1 << 10, 300), (1 << 16, 100), (1 << 20, 40), (1 << 24, 10)]
 KINDS = {"packs": "", "rows": "no"}
 OBJECT, MOST_IN_ROWS = 1 << 24, 1000
-FOLDER = os.environ.get("FOLDER", SHARED_MEMORY)
+FOLDER, ELSEWHERE = os.environ.get("FOLDER", SHARED_MEMORY), os.environ.get("ELSEWHERE", tempfile.gettempdir())
 # Runs the words behind it without what they print, and tells their seconds of a processor and the most memory of them, in MiB.
 WAITS = """import resource, subprocess, sys
 subprocess.run(sys.argv[1:], check=True, stdout=subprocess.DEVNULL, stderr=subprocess.DEVNULL)
@@ -122,21 +124,32 @@ def longest_wait(server, until):
     return longest
 
 
+def stands_still(server, to):
+    """The seconds of a backup of a server, and those of the slowest small get beside it."""
+    until, waits = threading.Event(), []
+    asking = threading.Thread(target=lambda: waits.append(longest_wait(server, until)))
+    asking.start()
+    begun = time.perf_counter()
+    told = subprocess.run([server.process.args[0], "tell", "--port", str(server.operators()), '{"op":"backup","to":"%s"}' % to], capture_output=True, text=True)
+    seconds = time.perf_counter() - begun
+    until.set()
+    asking.join()
+    if told.stdout != "backup\n":
+        sys.exit(f"a backup was answered {told.stdout}")
+    return seconds, waits[0] / 1000
+
+
 def backup(program, megabytes):
-    for kind, word in KINDS.items():
-        with tempfile.TemporaryDirectory(dir=FOLDER) as folder:
-            filled(program, folder, megabytes, word)
-            with Server(program, folder, "--operator-port", "0", BUCKETD_PACKS=word) as server:
-                port, until, waits = server.operators(), threading.Event(), []
-                asking = threading.Thread(target=lambda: waits.append(longest_wait(server, until)))
-                asking.start()
-                begun = time.perf_counter()
-                line = '{"op":"backup","to":"%s/copy"}' % folder
-                subprocess.run([program, "tell", "--port", str(port), line], check=True, stdout=subprocess.DEVNULL)
-                seconds = time.perf_counter() - begun
-                until.set()
-                asking.join()
-                print(f"{kind}: a backup of {megabytes:,} MB takes {seconds:.2f} s; the slowest small get beside it took {waits[0] / 1000:.2f} s", flush=True)
+    print("| Host, MB | Bytes in | Backup | seconds | the slowest small get beside it |\n|---|---|---|---|---|")
+    for size, kind, file in hosts(program, megabytes):
+        elsewhere = tempfile.mkdtemp(dir=ELSEWHERE)
+        with Server(program, os.path.dirname(file), "--operator-port", "0", BUCKETD_PACKS=KINDS[kind]) as server:
+            copies = {"the first": file + "-1", "the second": file + "-2", "the third, to another file system": os.path.join(elsewhere, "copy")}
+            for name, to in copies.items():
+                seconds, longest = stands_still(server, to)
+                print(f"| {size:,} | {kind} | {name} | {seconds:.2f} | {longest:.2f} |", flush=True)
+                server.put(f"/after-{len(name)}", os.urandom(OBJECT))
+        shutil.rmtree(elsewhere)
 
 
 def checks(program, megabytes):
@@ -162,7 +175,7 @@ def main():
         elif name == "checks":
             checks(program, sizes or [100, 1000])
         elif name == "backup":
-            backup(program, *(sizes or [1000]))
+            backup(program, sizes or [1000])
         else:
             sys.exit(f"there is no part {name}")
 

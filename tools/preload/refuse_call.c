@@ -8,7 +8,8 @@
 //   lose         so, and the disk loses what was written or cut since the file's last sync
 //   tear         so, and of each write since the file's last sync the disk keeps all, nothing, or a first or a last part, and has
 //                what stood there, zeros or other bytes for the rest, as CALL_SEED draws it
-// With TELL_CALLS set it writes how many there were to the file of that name.
+// With TELL_CALLS set it writes how many there were to the file of that name. With NO_LINKS set no file gets another name, as on
+// another file system.
 #define _GNU_SOURCE
 #include <dlfcn.h>
 #include <errno.h>
@@ -248,6 +249,15 @@ int close(int file) {
 
 int rename(const char *from, const char *to) {
     OF(int, rename, const char *, const char *);
+    return is_refused_now() ? -1 : of(from, to);
+}
+
+int link(const char *from, const char *to) {
+    OF(int, link, const char *, const char *);
+    if (getenv("NO_LINKS")) {
+        errno = EXDEV;
+        return -1;
+    }
     return is_refused_now() ? -1 : of(from, to);
 }
 

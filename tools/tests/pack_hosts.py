@@ -4,6 +4,7 @@ import random
 import shutil
 import signal
 import stat
+import threading
 
 import pytest
 
@@ -98,3 +99,22 @@ def mebibyte(number):
 def put_mebibytes(server, count):
     """What a new bucket and so many objects of 1 MiB are answered."""
     return {server.ask("green", "PUT", "/plans").status} | {server.ask("green", "PUT", f"/plans/{it}", mebibyte(it)).status for it in range(count)}
+
+
+class Putter(threading.Thread):
+    """Puts one object after another, until the server is killed: those that were acknowledged, by key."""
+
+    def __init__(self, server, number, sizes):
+        super().__init__(daemon=True)
+        self.server, self.number, self.sizes, self.draw, self.done, self.wrong = server, number, sizes, random.Random(number), {}, None
+
+    def run(self):
+        for at in range(1_000_000):
+            key, body = f"{self.number}-{at}", self.draw.randbytes(self.draw.choice(self.sizes))
+            answer = self.server.ask("green", "PUT", f"/plans/{key}", body)
+            if answer.status is None:
+                return
+            if answer.status != 200:
+                self.wrong = f"{key}: {answer}"
+                return
+            self.done[key] = body

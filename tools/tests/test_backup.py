@@ -188,11 +188,11 @@ def test_at_once(expect, program, top, file):
     removed(os.path.join(top, "n"))
 
 
-def stopped(program, first, wanted, library, fault, number):
+def stopped(program, first, wanted, library, fault, number, **env):
     """A backup that is killed before a call: what is found otherwise, or None."""
     with tempfile.TemporaryDirectory(dir=os.path.dirname(first)) as folder:
         copied(first, folder)
-        said = backup(program, folder, **fault.env(library, number))
+        said = backup(program, folder, **fault.env(library, number), **env)
         if said[1] != -signal.SIGKILL:
             return f"it ended with {said}"
         if os.path.exists(os.path.join(folder, "b")):
@@ -214,11 +214,11 @@ def stopped(program, first, wanted, library, fault, number):
         return None if number % 16 or answers(program, os.path.join(folder, "b")) == wanted else "the next one's host answers otherwise"
 
 
-def failed(program, first, wanted, library, fault, number):
+def failed(program, first, wanted, library, fault, number, **env):
     """A backup one call of which fails, or is made by half: what is found otherwise, or None."""
     with tempfile.TemporaryDirectory(dir=os.path.dirname(first)) as folder:
         copied(first, folder)
-        told = backup(program, folder, **fault.env(library, number))
+        told = backup(program, folder, **fault.env(library, number), **env)
         there = os.path.exists(os.path.join(folder, "b"))
         if told[:2] == DONE:
             return None if there and is_copy(os.path.join(folder, "b"), os.path.join(folder, "a")) else f"it is told, {names(folder)}"
@@ -231,17 +231,22 @@ def failed(program, first, wanted, library, fault, number):
         return None if number % 16 or answers(program, os.path.join(folder, "a")) == wanted else "the host answers otherwise"
 
 
+# A backup whose packs are links, and one whose packs are copied, as on another file system.
+MANNERS = {"links": {}, "copies": {"NO_LINKS": "1"}}
+
+
 @pytest.mark.cost(300)
 @pytest.mark.proved
+@pytest.mark.parametrize("manner", MANNERS)
 @pytest.mark.parametrize("fault", FAULTS, ids=lambda it: it.name)
-def test_each_call(expect, program, first, library, fault):
+def test_each_call(expect, program, first, library, fault, manner):
     """A backup that is stopped before each of its calls, or is refused it."""
-    (file, wanted), preload = first, library("refuse_call")
+    (file, wanted), preload, manner = first, library("refuse_call"), MANNERS[manner]
     with tempfile.TemporaryDirectory(dir=os.path.dirname(file)) as folder:
         copied(file, folder)
-        count = calls_of(preload, lambda **env: backup(program, folder, **env))
-    numbers, one = range(1, count + 1, 1 if is_quick(program) else 12), failed if fault.lives else stopped
-    series(expect, f"of {count} calls", numbers, lambda number: one(program, file, wanted, preload, fault, number))
+        count = calls_of(preload, lambda **env: backup(program, folder, **env, **manner))
+    numbers, one = range(1, count + 1, (2 if manner else 1) if is_quick(program) else 12), failed if fault.lives else stopped
+    series(expect, f"of {count} calls", numbers, lambda number: one(program, file, wanted, preload, fault, number, **manner))
 
 
 @pytest.mark.cost(100)

@@ -5,17 +5,15 @@ Each test begins with a copy of one host, whose objects have as many bytes as ar
 """
 import os
 import random
-import shutil
 import signal
-import threading
 import time
 
 import pytest
 
 import host
 from conftest import amount
-from host import PACKS, PATIENCE, Server, bytes_in, command, contents_of, copied, is_fast, is_quick, killed_under, make_host, names, opened, pack_of, packs_of, read, removed, run
-from pack_hosts import BLOCK, MIB, MOST_IN_ROW, bodies, file, first, flipped, is_sound, lacks, mebibyte, mode_of, put_mebibytes, rows, statuses  # noqa: F401 (the fixtures)
+from host import Server, bytes_in, command, contents_of, copied, is_fast, is_quick, killed_under, make_host, names, opened, pack_of, packs_of, read, removed, run
+from pack_hosts import BLOCK, MIB, MOST_IN_ROW, Putter, bodies, file, first, flipped, is_sound, lacks, mebibyte, mode_of, put_mebibytes, rows, statuses  # noqa: F401 (the fixtures)
 
 WRONG = ("x-amz-checksum-sha256: 47DEQpj8HBSa+/TImW+5JCeuQeRkm5NMpJWZG3hSuFU=",)
 
@@ -175,25 +173,6 @@ def test_puts_that_are_taken_back(expect, program, folder, file, bodies):
     expect("and there after a kill", not found, found)
     found = is_sound(program, file, folder)
     expect("it is sound", not found, found)
-
-
-class Putter(threading.Thread):
-    """Puts one object after another, until the server is killed: those that were acknowledged, by key."""
-
-    def __init__(self, server, number, sizes):
-        super().__init__(daemon=True)
-        self.server, self.number, self.sizes, self.draw, self.done, self.wrong = server, number, sizes, random.Random(number), {}, None
-
-    def run(self):
-        for at in range(1_000_000):
-            key, body = f"{self.number}-{at}", self.draw.randbytes(self.draw.choice(self.sizes))
-            answer = self.server.ask("green", "PUT", f"/plans/{key}", body)
-            if answer.status is None:
-                return
-            if answer.status != 200:
-                self.wrong = f"{key}: {answer}"
-                return
-            self.done[key] = body
 
 
 @pytest.mark.cost(60)
@@ -356,149 +335,22 @@ def test_little_memory(expect, program, folder):
     expect("a wrong byte at the end is told", found[1] == 1 and "a pack hasn't got these bytes" in found[0], found)
 
 
-# ---- copies
-
-
-def is_whole_copy(expect, program, name, copy, bodies, folder):
-    """A copy, and the packs that it has, if any, are their owner's alone; it is sound, and is served."""
-    found = is_sound(program, copy, folder)
-    modes = {mode_of(copy)} | {mode_of(os.path.join(packs_of(copy), it)) for it in contents_of(packs_of(copy))}
-    expect(f"{name}: it is its owner's alone", modes == {0o600}, modes)
-    expect(f"{name}: and so are its packs", not os.path.exists(packs_of(copy)) or mode_of(packs_of(copy)) == 0o700, names(folder))
-    expect(f"{name}: it is sound", not found, found)
-    with Server(program, copy, "--force") as server:
-        found = lacks(server, bodies)
-        told = server.ask("green", "PUT", "/plans/of the copy".replace(" ", "-"), bodies["blocks"][::-1]).status
-    expect(f"{name}: it is served, and takes puts", told == 200 and not found, f"{told} {found}")
-
-
-@pytest.mark.cost(60)
-def test_backup(expect, program, folder, file, bodies):
-    """A backup has packs, which are its own."""
-    copy, before = os.path.join(folder, "b"), contents_of(packs_of(file))
-    told = run(program, folder, "backup", "--file", "a", "--to", "b")
-    expect("a backup", told[:2] == ("backup", 0), told)
-    expect("which leaves the packs", contents_of(packs_of(file)) == before and set(host.files(folder)) <= {"a", "a-wal", "b"}, names(folder))
-    os.rename(packs_of(file), os.path.join(folder, "away"))
-    os.rename(file, os.path.join(folder, "away-file"))
-    is_whole_copy(expect, program, "the backup", copy, bodies, folder)
-
-
-@pytest.mark.cost(60)
-def test_backup_beside_packs(expect, program, folder, file, bodies):
-    """A folder of packs that has the copy's name, as a host that was removed without its packs leaves it: nothing in it is lost, or the copy
-    is a whole one."""
-    copy = os.path.join(folder, "b")
-    os.mkdir(packs_of(copy), 0o700)
-    for name in ("00000001", "00000007", "a text"):
-        with open(os.path.join(packs_of(copy), name), "wb") as out:
-            out.write(b"mine")
-    before = contents_of(packs_of(copy))
-    told = run(program, folder, "backup", "--file", "a", "--to", "b")
-    if told[1] == 0:
-        return is_whole_copy(expect, program, "a backup beside packs of its name", copy, bodies, folder)
-    expect("a backup beside packs of its name is refused, and they stay", not os.path.exists(copy) and contents_of(packs_of(copy)) == before, f"{told} {names(folder)}")
-    expect("and standard error tells why", "packs of that name exist already" in told[2], told)
-    shutil.rmtree(packs_of(copy))
-    told = run(program, folder, "backup", "--file", "a", "--to", "b")
-    expect("once they are gone there is one", told[:2] == ("backup", 0), told)
-    is_whole_copy(expect, program, "the backup", copy, bodies, folder)
-
-
-def stopped_copy(folder, *names_in_it):
-    """What a stopped backup to `b` leaves of packs, with files of these names."""
-    left = os.path.join(folder, "b.partial" + PACKS)
-    os.mkdir(left, 0o700)
-    for name in names_in_it:
-        with open(os.path.join(left, name), "wb") as out:
-            out.write(b"left")
-    return left
-
-
-@pytest.mark.cost(60)
-def test_backup_over_a_stopped_one(expect, program, folder, file, bodies):
-    """Packs that a stopped backup left are written over, also by an export, which has none; a folder with other files is refused and stays."""
-    left = stopped_copy(folder, "00000001", "00000009", "mine")
-    before = contents_of(left)
-    told = run(program, folder, "backup", "--file", "a", "--to", "b")
-    expect("a folder with other files is refused", told[:2] == ("fault", 1) and "its .partial.packs is no folder of packs that a backup left" in told[2], told)
-    expect("which stays, and no backup is made", contents_of(left) == before and not os.path.exists(os.path.join(folder, "b")), names(left))
-    shutil.rmtree(left)
-    for name, words in (("backup", ["backup", "--file", "a", "--to", "b"]), ("export", ["export", "--file", "a", "--tenant", "green", "--to", "b"])):
-        left = stopped_copy(folder, "00000001", "00000009")
-        told = run(program, folder, *words)
-        expect(f"over what was left: {name}", told[:2] == (name, 0) and not os.path.exists(left), f"{told} {names(folder)}")
-        expect(f"nothing of it is in the copy: {name}", set(contents_of(packs_of(os.path.join(folder, "b")))) <= {"00000001"} and b"left" not in contents_of(packs_of(os.path.join(folder, "b"))).values(), names(folder))
-        is_whole_copy(expect, program, f"over what was left: {name}", os.path.join(folder, "b"), bodies, folder)
-        removed(os.path.join(folder, "b"))
-
-
-@pytest.mark.cost(80)
-def test_backup_of_a_server(expect, program, folder, file, bodies):
-    """A backup of a server that takes puts has all that was acknowledged before, and the server goes on."""
-    copy, sizes = os.path.join(folder, "b"), [100, 4097, 70_000] if is_quick(program) else [100, 5000]
+@pytest.mark.cost(20)
+def test_report(expect, program, folder, file, bodies):
+    """A report tells on standard error how many packs there are, their bytes, and how many of these blocks have: a server's, too."""
     with Server(program, file, "--force", "--operator-port", "0") as server:
-        putters = [Putter(server, it, sizes) for it in range(3 if is_quick(program) else 1)]
-        for it in putters:
-            it.start()
-        begun = time.monotonic()
-        while not all(it.done for it in putters) and time.monotonic() - begun < PATIENCE:
-            time.sleep(0.05)
-        before = {key: body for it in putters for key, body in dict(it.done).items()}
-        told = run(program, folder, "tell", "--port", str(server.operators()), '{"op":"backup","to":"%s"}' % copy)
-        expect("a backup of a server", told[:2] == ("backup", 0), told)
-        more = sum(len(it.done) for it in putters)
-        begun = time.monotonic()
-        while sum(len(it.done) for it in putters) <= more and time.monotonic() - begun < PATIENCE:
-            time.sleep(0.05)
-        expect("which goes on", server.is_up() and sum(len(it.done) for it in putters) > more, server.lines())
-        server.end()
-        for it in putters:
-            it.join(PATIENCE)
-    is_whole_copy(expect, program, "the backup", copy, {**bodies, **before}, folder)
-    with Server(program, file, "--force") as server:
-        found = lacks(server, {**bodies, **{key: body for it in putters for key, body in it.done.items()}})
-    expect("and the host has all that came later", not found, found)
-
-
-@pytest.mark.cost(80)
-def test_export_and_import(expect, program, folder, file, bodies):
-    """A tenant moves with what it has in packs: to a host of its own, and from there to another one, which has some of its blocks."""
-    before = contents_of(packs_of(file))
-    told = run(program, folder, "export", "--file", "a", "--tenant", "green", "--to", "t")
-    expect("an export", told[:2] == ("export", 0), told)
-    expect.note(f"the exported host's file, log and packs have {host.on_disk(os.path.join(folder, 't'))} bytes")
-    expect("which leaves the packs, and nothing else", contents_of(packs_of(file)) == before and set(host.files(folder)) <= {"a", "a-wal", "t"}, names(folder))
-    second = make_host(program, os.path.join(folder, "second"), ["red"])
-    some = {key: body for key, body in bodies.items() if key in ("pack", "blocks")}
-    with Server(program, second, "--force") as server:
-        told = {server.ask("red", "PUT", "/plans").status} | statuses(server, "PUT", some, "red")
+        assert server.ask("green", "DELETE", "/plans/block").status == 204
+        told = run(program, folder, "tell", "--port", str(server.operators()), '{"op":"report"}')
         server.end(signal.SIGTERM)
-    expect("another host has some of its blocks", told == {200}, told)
-    before = contents_of(packs_of(os.path.join(folder, "t")))
-    told = run(program, folder, "import", "--file", "second", "--from", "t", "--force")
-    expect("an import", told[:2] == ("tenant green", 0), told)
-    expect("which leaves the exported host", contents_of(packs_of(os.path.join(folder, "t"))) == before, names(folder))
-    with Server(program, second, "--force") as server:
-        found = lacks(server, bodies) | lacks(server, some, "red")
-    expect("both tenants are served", not found, found)
-    found = is_sound(program, second, folder)
-    expect("it is sound", not found, found)
-    for name in ("t", "second"):
-        is_whole_copy(expect, program, name, os.path.join(folder, name), bodies, folder)
-
-
-@pytest.mark.cost(40)
-def test_copies_by_hand(expect, program, folder, file, bodies):
-    """A copy by hand of the file, its log and its folder is a host; one without the folder isn't opened, and says what it lacks."""
-    copy = copied(file, folder, "copy")
-    is_whole_copy(expect, program, "a copy by hand", copy, bodies, folder)
-    for tail in host.TAILS:
-        if os.path.exists(file + tail):
-            shutil.copy(file + tail, os.path.join(folder, "alone" + tail))
-    told = run(program, folder, "check", "--file", "alone")
-    expect("a copy without packs", told[:2] == ("fault", 1) and f"alone{PACKS}" in told[2], told)
-    expect("the first host is as it was", command(program, file, "check") == ("sound", 0))
+        lines = server.lines()
+    count, length, live = rows(file, "SELECT count(*), sum(length), sum(live) FROM packs")[0]
+    wanted = f"bucketd: packs {count}, bytes {length}, of blocks {live}"
+    expect("a server's report", told[:2] == (told[0], 0) and told[0].startswith("blocks ") and wanted in lines, f"{told} {lines}")
+    found = run(program, folder, "report", "--file", "a", "--force")
+    expect("a report of a file", found[:2] == (told[0], 0) and wanted in found[2].splitlines(), f"{found} {wanted}")
+    make_host(program, os.path.join(folder, "empty"), ["green"])
+    found = run(program, folder, "report", "--file", "empty")
+    expect("one of a host without packs tells nothing of them", found[:2] == ("blocks 0 stored 0 referred 0 clashes 0", 0) and "packs" not in found[2], found)
 
 
 # ---- sums

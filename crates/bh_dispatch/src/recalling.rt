@@ -1,12 +1,14 @@
-ghost use Rattle.std.specs.Prelude.{◌≡◌, ◌≤◌, None, Ok, IfOk};
+ghost use Rattle.std.specs.Prelude.{◌≡◌, ◌≤◌, None, Ok, IfOk, OnOk};
 ghost use Rattle.std.specs.Option.{option_copied};
 ghost use Rattle.bh_machine.specs.Machine.{operated};
 ghost use Rattle.bh_model.specs.Operations as machine;
 ghost use Rattle.bh_view.specs.View.{view, latest_of};
 ghost use Rattle.bh_memo.specs.Facts.{nothing};
 ghost use Rattle.bh_storage.specs.Answers.{found_answer, offer_view};
-ghost use Rattle.bh_storage.specs.Calls.{Clean, IsWorking, Unless, UnlessSpoilt, Decides, Carries, Operates};
+ghost use Rattle.bh_storage.specs.Calls.{Clean, IsWorking, Unless, UnlessSpoilt, Decides, Carries, Operates, Reports};
 ghost use Rattle.bh_storage.specs.Plans.{IsMeasured, IfPlanned};
+ghost use Rattle.bh_base.specs.Connections.{IsClean as IsConnectionClean, packs};
+ghost use Rattle.bh_sweep.specs.Counted.{packs_counted};
 ghost use Rattle.bh_schema.specs.Storage.{IsClean};
 ghost use Rattle.bh_view.specs.Bodies.{IsSoundHost};
 ghost use Rattle.bh_objects.specs.Found.{mode_in};
@@ -28,6 +30,7 @@ use bh_storage::error::{Outcome, StepError, Trouble};
 use bh_storage::plan::Plan;
 use bh_storage::report::{StoreReport, SweepReport, TenantReport};
 use bh_storage::storage::Storage;
+use bh_sweep::packs::PackTotals;
 use bh_types::access_key::AccessKeyId;
 use bh_types::bucket::BucketName;
 use bh_types::bucket_state::BucketState;
@@ -48,6 +51,13 @@ pub struct RecallingStorage<S: Alter + Drop, P: Shelf + Drop, D: Digester + Drop
     pub memo: Memo,
 }
 
+/// What all tenants have stored, and what packs have.
+#[derive(Drop)]
+pub struct Reported {
+    pub report: StoreReport,
+    pub packs: PackTotals,
+}
+
 impl<S: Alter + Drop, P: Shelf + Drop, D: Digester + Drop> RecallingStorage<S, P, D> {
     /// Nothing is remembered yet.
     pub fn new(alloc: Global, host: Host<S, P, D>) -> RecallingStorage<S, P, D>
@@ -58,6 +68,32 @@ impl<S: Alter + Drop, P: Shelf + Drop, D: Digester + Drop> RecallingStorage<S, P
             storage: HostStorage { host },
             memo: Memo::new(alloc),
         }
+    }
+
+    /// How many packs it has, their bytes, and how many of these blocks have. No table shows it.
+    fn pack_totals(&mut self) -> Result<PackTotals, Trouble>
+        requires { IsClean S.Store P.Shelf self.old.storage.host → IsWorking (IsSoundHost D.digest_of) (seen S.Store P.Shelf self.old) }
+        ensures goes_on { RecallsOn S.Store P.Shelf D.digest_of (OnOk result) self.old self.new }
+        ensures same { IfOk result (λ totals. IsClean S.Store P.Shelf self.new.storage.host
+            → (seen S.Store P.Shelf self.new).now ≡ (seen S.Store P.Shelf self.old).now) }
+        ensures counted { IfOk result (λ totals. IsConnectionClean S.Store P.Shelf self.new.storage.host.connection
+            → totals ≡ packs_counted (packs S.Store P.Shelf self.new.storage.host.connection)) }
+    {
+        self.storage.pack_totals()
+    }
+
+    /// Counts what all tenants have stored, and what packs have.
+    pub fn report_with_packs(&mut self) -> Result<Reported, Trouble>
+        requires { IsClean S.Store P.Shelf self.old.storage.host → IsWorking (IsSoundHost D.digest_of) (seen S.Store P.Shelf self.old) }
+        ensures goes_on { RecallsOn S.Store P.Shelf D.digest_of (OnOk result) self.old self.new }
+        ensures reports { IfOk result (λ it. IsClean S.Store P.Shelf self.new.storage.host
+            → Reports it.report (seen S.Store P.Shelf self.old).now (seen S.Store P.Shelf self.new).now) }
+        ensures counted { IfOk result (λ it. IsConnectionClean S.Store P.Shelf self.new.storage.host.connection
+            → it.packs ≡ packs_counted (packs S.Store P.Shelf self.new.storage.host.connection)) }
+    {
+        let report = self.report()?;
+        let packs = self.pack_totals()?;
+        Ok(Reported { report, packs })
     }
 
     /// The state of a tenant's bucket, which is then remembered. Refusal: NoSuchBucket.

@@ -6,6 +6,8 @@ ghost use Rattle.bh_view.specs.View.{view, latest_of};
 ghost use Rattle.bh_storage.specs.Answers.{found_answer, offer_view};
 ghost use Rattle.bh_storage.specs.Calls.{Unless, UnlessSpoilt, Purges, Decides, Operates, Carries};
 ghost use Rattle.bh_storage.specs.Plans.{IfPlanned, IsMeasured};
+ghost use Rattle.bh_base.specs.Connections.{IsClean as IsConnectionClean, packs};
+ghost use Rattle.bh_sweep.specs.Counted.{packs_counted};
 ghost use Rattle.bh_schema.specs.Storage.{IsClean, seen, Works};
 ghost use Rattle.bh_memo.specs.Facts.{has_no_rule};
 ghost use Rattle.bh_objects.specs.Found.{mode_in};
@@ -27,6 +29,7 @@ use bh_storage::error::{Outcome, StepError, Trouble};
 use bh_storage::plan::Plan;
 use bh_storage::report::{StoreReport, SweepReport, TenantReport};
 use bh_storage::storage::Storage;
+use bh_sweep::packs::PackTotals;
 use bh_types::access_key::AccessKeyId;
 use bh_types::bucket::BucketName;
 use bh_types::bucket_state::BucketState;
@@ -72,6 +75,18 @@ impl<S: Alter + Drop, P: Shelf + Drop, D: Digester + Drop> HostStorage<S, P, D> 
             → has_no_rule (view (seen S.Store P.Shelf self.old.host).now tenant.now) ≡ true) }
     {
         bh_uploads::purge::purge(&mut self.host.connection, alloc, tenant, at)
+    }
+
+    /// How many packs it has, their bytes, and how many of these blocks have. No table shows it.
+    pub fn pack_totals(&mut self) -> Result<PackTotals, Trouble>
+        requires { Works S.Store P.Shelf D.digest_of self.old.host }
+        ensures goes_on { GoesOn S.Store P.Shelf D.digest_of (OnOk result) self.old self.new }
+        ensures same { IfOk result (λ totals. IsClean S.Store P.Shelf self.new.host
+            → (seen S.Store P.Shelf self.new.host).now ≡ (seen S.Store P.Shelf self.old.host).now) }
+        ensures counted { IfOk result (λ totals. IsConnectionClean S.Store P.Shelf self.new.host.connection
+            → totals ≡ packs_counted (packs S.Store P.Shelf self.new.host.connection)) }
+    {
+        bh_sweep::packs::pack_totals(&mut self.host.connection)
     }
 
     /// The state of a tenant's bucket. Refusal: NoSuchBucket.

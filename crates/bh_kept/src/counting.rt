@@ -1,5 +1,5 @@
 //! How many bytes nobody needs, counted in a transaction that is rolled back. What is remembered and
-//! cached stays: nothing has changed.
+//! cached stays: nothing has changed. What packs have is told beside a report.
 
 ghost use Rattle.std.specs.Prelude.{◌≡◌, IfSome};
 ghost use Rattle.bh_base.specs.Connections.{state};
@@ -8,8 +8,10 @@ ghost use Rattle.bh_schema.specs.Garbage.{garbage_in};
 ghost use Rattle.bh_base.specs.Layer.{LeavesNothingNew, taken_back};
 
 use bh_base::connection::Connection;
+use bh_dispatch::recalling::Reported;
 use bh_schema::rows::garbage::garbage_bytes;
 use bh_shelf::shelf::Shelf;
+use bh_storage::report::StoreReport;
 use sqlite::Alter;
 
 /// How many bytes the blocks have that no reference names. `None` if memory or the store failed.
@@ -38,4 +40,21 @@ fn look<S: Alter, P: Shelf>(connection: &mut Connection<S, P>) -> Option<u64>
         Ok(_) => garbage_bytes(connection).ok(),
         Err(_) => None,
     }
+}
+
+/// A report. If there are packs, standard error tells how many, their bytes, and how many of these blocks have.
+pub(crate) fn told(errors: &impl Eprint, reported: Reported) -> StoreReport
+    ensures { result ≡ reported.report }
+{
+    let Reported {
+        report,
+        packs: found,
+    } = reported;
+    if found.packs > 0 {
+        let _ = eprintln!(errors;
+            "bucketd: packs {}, bytes {}, of blocks {}",
+            found.packs, found.bytes, found.of_blocks
+        );
+    }
+    report
 }

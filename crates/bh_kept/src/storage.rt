@@ -10,7 +10,7 @@ ghost use Rattle.bh_kept.specs.Kept as kept;
 ghost use Rattle.bh_kept.specs.Cutting.{Cuts, KeepsTuning};
 
 use crate::copying::{KeptCopy, copy_host};
-use crate::counting::count;
+use crate::counting::{count, told};
 use crate::freeing::drop_idle;
 use crate::host::{BlockSize, KeptHost};
 use bh_cache::blocks::BlockCache;
@@ -166,9 +166,13 @@ impl<'a, D: Disk + Drop, P: Shelf + Drop, G: Digester + Drop, K: BlockSize> Stor
         }
     }
 
+    /// What packs have is told on standard error.
     fn report(&mut self) -> Result<StoreReport, Trouble> {
         match &mut self.storage {
-            Some(storage) => storage.report(),
+            Some(storage) => {
+                let reported = storage.report_with_packs()?;
+                Ok(told(self.rt, reported))
+            }
             None => Err(Trouble::Store),
         }
     }

@@ -103,6 +103,21 @@ impl Entries {
             .open(&self.rt, path.as_str())
     }
 
+    /// Gives the file of another folder's pack its name in this one, too, which is made if it isn't there. Whether the
+    /// system let it: not on another file system, or if the name is taken.
+    pub(crate) fn link(&mut self, from: &str, pack: usize) -> io::Result<bool>
+        ensures made { made_of pack self.new.log ≡ made_of pack self.old.log + 1 }
+        ensures kept { (n : ℕ) → removed_of n self.new.log ≡ removed_of n self.old.log }
+        ensures others { (n : ℕ) → n ≢ pack → Spares self.old.log self.new.log n }
+    {
+        self.log.note(&[MADE, pack as u64, 0, 1], &[]);
+        self.reach()?;
+        let name = name_of(self.rt.alloc(), pack)?;
+        let there = format!(in self.rt.alloc(); "{from}/{}", name.as_str())?;
+        let here = self.path_of(pack)?;
+        Ok(fs::hard_link(&self.rt, there.as_str(), here.as_str()).is_ok())
+    }
+
     /// Gives a file that was made to its owner, where the process may.
     pub(crate) fn own(&self, file: File) -> io::Result<File> {
         give(&file, self.place.user, self.place.group)?;

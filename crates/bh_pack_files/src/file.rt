@@ -11,7 +11,7 @@ use crate::record::Record;
 use sqlite_disk::{Disk, Tally, digest_of, is_no_room};
 use std::marker::PhantomData;
 use std::os::fd::AsRawFd;
-use std::os::unix::fs::FileExt;
+use std::os::unix::fs::{FileExt, MetadataExt};
 use std::{fs, io};
 
 /// What the files of packs held as they were opened, by the numbers of the packs. No code reads it: a
@@ -50,6 +50,7 @@ pub struct PackFile<S: Held> {
     held: PhantomData<S>,
     tally: Tally,
     is_usable: bool,
+    is_shared: bool,
     ghost usable: { is_usable ≡ (replay (S.Held.held pack) log.events).is_usable },
 }
 
@@ -63,13 +64,14 @@ fn refuse(refused: &mut u64, error: &io::Error)
 }
 
 impl<S: Held> PackFile<S> {
-    ghost use Rattle.bh_pack_files.specs.Files.{IsFresh};
+    ghost use Rattle.bh_pack_files.specs.Files.{IsFresh, IsShared};
 
     /// Syncs a file that was just opened, and drops the kernel's copies of its pages, which a failed sync
     /// of an earlier process may have left other than the disk has them.
     pub(crate) fn settle(file: fs::File, pack: usize) -> io::Result<PackFile<S>>
         ensures { IfOk result (λ file. IsFresh file pack) }
     {
+        let names = file.metadata()?.nlink();
         file.sync_all()?;
         let advised = libc::posix_fadvise(file.as_raw_fd(), 0, 0, libc::POSIX_FADV_DONTNEED);
         if advised != 0 {
@@ -85,7 +87,38 @@ impl<S: Held> PackFile<S> {
                 refused: 0,
             },
             is_usable: true,
+            is_shared: names > 1,
         })
+    }
+
+    /// A file that another folder has, too, where these bytes were written to it and synced. It is as long as what is
+    /// kept of it there.
+    pub(crate) fn shared(file: fs::File, pack: usize, kept: usize, len: usize) -> PackFile<S>
+        ghost bytes: { List ℕ }
+        requires { len ≡ kept }
+        ensures { IsShared result pack bytes }
+    {
+        let mut log = Record::new();
+        log.bring();
+        PackFile {
+            file,
+            log,
+            pack,
+            held: PhantomData,
+            tally: Tally {
+                caught: 0,
+                refused: 0,
+            },
+            is_usable: true,
+            is_shared: true,
+        }
+    }
+
+    /// Whether the file had another name, too, as it was opened: then a copy of the host has it.
+    pub fn is_shared(&self) -> bool
+        ensures { result ≡ self.now.is_shared }
+    {
+        self.is_shared
     }
 }
 

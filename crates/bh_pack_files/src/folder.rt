@@ -1,8 +1,8 @@
 //! The folder of a host's packs, beside its database.
 
-ghost use Rattle.std.specs.Prelude.{◌≡◌, ◌≢◌, ◌↔◌, ◌+◌, ◌≤◌, ◌==◌, ℕ, false, IfOk, OnOk, IsOk, IsTrue};
+ghost use Rattle.std.specs.Prelude.{◌≡◌, ◌≢◌, ◌↔◌, ◌+◌, ◌≤◌, ◌==◌, ℕ, List, false, IfOk, IfSome, OnOk, IsOk, IsTrue};
 ghost use Rattle.std.specs.List.{list_any};
-ghost use Rattle.bh_pack_files.specs.Files.{IsFresh};
+ghost use Rattle.bh_pack_files.specs.Files.{IsFresh, IsShared};
 ghost use Rattle.bh_pack_files.specs.Names.{made_of, removed_of, Spares};
 
 use crate::beside::{find_folder, place_beside};
@@ -16,6 +16,20 @@ use std::fs::File;
 use std::io;
 use std::io::ErrorKind;
 use std::marker::PhantomData;
+use std::os::unix::fs::FileExt;
+
+/// The file of a linked pack, and how many bytes it has.
+#[derive(Drop)]
+struct Alike {
+    file: File,
+    len: usize,
+}
+
+/// The path of a folder of packs.
+#[derive(Drop)]
+pub struct FolderPath {
+    path: String,
+}
 
 /// The folder of a host's packs.
 #[derive(Drop)]
@@ -89,6 +103,59 @@ impl<S: Held> PackFolder<S> {
         let file = self.entries.make(pack)?;
         self.added.push(pack)?;
         self.begin(file, pack)
+    }
+
+    /// Gives the file of another folder's pack its name here, too, if the system lets it, and the file is as long as
+    /// what is kept of it and ends with these bytes, at most 4,096. None if not: then no name is made. What is linked so
+    /// `take_back` removes again. `sync` makes the name last.
+    ///
+    /// Nothing more of it is read: that it has the bytes that were written to it under its other name is believed. Which
+    /// these are tells `_keeper`, by the caller's proof alone.
+    pub fn link_pack<P>(
+        &mut self,
+        from: &FolderPath,
+        _keeper: &P,
+        pack: usize,
+        kept: usize,
+        tail: &[u8],
+    ) -> io::Result<Option<PackFile<S>>>
+        ghost bytes: { List ℕ }
+        ensures shared { IfOk result (λ linked. IfSome linked (λ file. IsShared file pack bytes)) }
+        ensures others { (n : ℕ) → n ≢ pack → Spares self.old.entries.log self.new.entries.log n }
+    {
+        self.added.reserve(1)?;
+        if !self.entries.link(from.path.as_str(), pack)? {
+            return Ok(None);
+        }
+        self.added.push(pack)?;
+        match self.alike(pack, kept, tail)? {
+            Some(Alike { file, len }) => Ok(Some(PackFile::shared(file, pack, kept, len))),
+            None => {
+                let _ = self.added.pop();
+                self.entries.remove(pack)?;
+                Ok(None)
+            }
+        }
+    }
+
+    /// The file of a pack, if it has so many bytes and ends with these.
+    fn alike(&self, pack: usize, kept: usize, tail: &[u8]) -> io::Result<Option<Alike>>
+        ensures { IfOk result (λ found. IfSome found (λ it. it.len ≡ kept)) }
+    {
+        let Some(file) = self.entries.open(pack)? else {
+            return Ok(None);
+        };
+        let len = file.metadata()?.len() as usize;
+        if len == kept && ends_with(&file, len, tail)? {
+            Ok(Some(Alike { file, len }))
+        } else {
+            Ok(None)
+        }
+    }
+
+    /// Syncs the names that were linked.
+    pub fn sync(&self) -> io::Result<()> {
+        self.entries.sync()
     }
 
     /// Gives a new file to its owner, and syncs it and its name.
@@ -210,6 +277,22 @@ impl<S: Held> Folder<PackFile<S>> for PackFolder<S> {
     fn delete(&mut self, pack: usize, _file: PackFile<S>) -> io::Result<()> {
         self.remove_pack(pack)
     }
+}
+
+/// The path of the folder of packs beside a host's file, where links to that lead.
+pub fn folder_beside(rt: &HostRuntime, host: &str) -> Result<FolderPath, Fault> {
+    let place = place_beside(rt, host)?;
+    Ok(FolderPath { path: place.path })
+}
+
+/// Whether a file of this length ends with these bytes, which are at most 4,096.
+fn ends_with(file: &File, len: usize, tail: &[u8]) -> io::Result<bool> {
+    let mut found = [0u8; 4096];
+    if tail.len() > found.len() || tail.len() > len {
+        return Ok(false);
+    }
+    file.read_exact_at(&mut found[..tail.len()], (len - tail.len()) as u64)?;
+    Ok(&found[..tail.len()] == tail)
 }
 
 /// Keeps a name that is no pack's.

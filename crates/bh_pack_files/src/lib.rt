@@ -12,4 +12,4 @@ mod record;
 
 pub use fault::{Fault, Shortage};
 pub use file::{Held, PackFile, Unknown};
-pub use folder::PackFolder;
+pub use folder::{FolderPath, PackFolder, folder_beside};

@@ -1,9 +1,9 @@
 //! A record of calls of the system and their answers, which only clauses read. It takes no memory.
 
-ghost use Rattle.std.specs.Prelude.{◌≡◌, ◌∷◌, [], List};
+ghost use Rattle.std.specs.Prelude.{◌≡◌, ◌∷◌, [], ℕ, List};
 ghost use Rattle.std.specs.Borrow.{ftrue};
 ghost use Rattle.sqlite_disk.specs.Events.{Event, settled};
-ghost use Rattle.bh_pack_files.specs.Note.{event_of};
+ghost use Rattle.bh_pack_files.specs.Note.{brought, event_of};
 
 use std::marker::{Model, PhantomData};
 
@@ -31,5 +31,11 @@ impl Record {
     /// One more call.
     pub(crate) fn note(&mut self, _numbers: &[u64], _bytes: &[u8])
         ensures { self.new.events ≡ event_of _numbers.now _bytes.now ∷ self.old.events }
+    {}
+
+    /// The file has these bytes, as if they had been written to its beginning and synced.
+    pub(crate) fn bring(&mut self)
+        ghost bytes: { List ℕ }
+        ensures { self.new.events ≡ brought bytes self.old.events }
     {}
 }

@@ -4,7 +4,7 @@ ghost use Rattle.bh_pack_shelf.specs.Opened.{in_files};
 
 use crate::opening::{Opening, open_shelf};
 use crate::shelf::PackShelf;
-use bh_pack_files::{Fault, Held, PackFile, PackFolder};
+use bh_pack_files::{Fault, Held, PackFile, PackFolder, folder_beside};
 use bh_packs::place::Bounds;
 use bh_shelf::closed::{ClosedPacks, Listed};
 use std::alloc::AllocError;
@@ -77,6 +77,12 @@ impl<S: Held> ClosedPacks for PackFiles<S> {
             opening,
         } = self;
         let shelf = open_shelf(&rt, host.as_str(), held, bounds, opening, listed)?;
-        Ok(PackShelf { shelf, rt, bounds })
+        let folder = folder_beside(&rt, host.as_str())?;
+        Ok(PackShelf {
+            shelf,
+            rt,
+            bounds,
+            folder,
+        })
     }
 }

@@ -1,13 +1,13 @@
 //! A host's packs are copied beside another file.
 
-ghost use Rattle.std.specs.Prelude.{◌≡◌, ◌<◌, ℕ, List, [], Some, length, IsTrue, OnOk};
+ghost use Rattle.std.specs.Prelude.{◌≡◌, ◌<◌, ℕ, List, [], Some, length, IfOk, IfSome, IsTrue, OnOk};
 ghost use Rattle.sqlite_disk.specs.Disk.{Holds, Only, Torn};
 ghost use Rattle.bh_shelf.specs.Contents.{AreSameBut, Within};
 ghost use Rattle.bh_pack_shelf.specs.Copied.{HaveOf, Stays};
 
 use crate::fault::trouble_of;
 use crate::shelf::PackShelf;
-use bh_pack_files::{Held, PackFile, PackFolder};
+use bh_pack_files::{FolderPath, Held, PackFile, PackFolder};
 use bh_packs::folder::Folder;
 use bh_packs::place::Lane;
 use bh_packs::trouble::Trouble;
@@ -19,6 +19,9 @@ use sqlite_disk::Disk;
 /// So many bytes are read and written at a time.
 const CHUNK: usize = 1_048_576;
 
+/// So many bytes at the end of a linked file are compared with those of its pack.
+const TAIL: usize = 4096;
+
 /// Files that were made new, and so held nothing.
 #[derive(Drop)]
 pub struct Made;
@@ -27,8 +30,9 @@ impl Held for Made {
     ghost held = { λ _. [] };
 }
 
-/// Packs are copied to new files, in the folder beside the file of the copy. If that fails, what was made is
-/// removed, as far as the system lets it.
+/// Packs are copied to the folder beside the file of the copy. Where the system lets it, as on the same file system, a
+/// pack's file gets a name there, too; else its bytes are copied to a new one. If that fails, what was made is removed,
+/// as far as the system lets it.
 impl<S: Held> CopyShelf for PackShelf<PackFile<S>, PackFolder<S>> {
     type Copy = Shelved<PackFile<Made>, PackFolder<Made>>;
 
@@ -37,7 +41,13 @@ impl<S: Held> CopyShelf for PackShelf<PackFile<S>, PackFolder<S>> {
         let mut folder = folder_beside(&self.rt, to)?;
         let mut copy = Shelved::new(alloc, self.bounds, folder_beside(&self.rt, to)?);
         let mut room = vec![in alloc; 0u8; CHUNK]?;
-        match copy_packs(&mut self.shelf, &mut folder, &mut copy, room.as_mut_slice()) {
+        match copy_packs(
+            &mut self.shelf,
+            &self.folder,
+            &mut folder,
+            &mut copy,
+            room.as_mut_slice(),
+        ) {
             Ok(()) => Ok(copy),
             Err(trouble) => {
                 folder.take_back();
@@ -55,9 +65,10 @@ fn folder_beside(rt: &HostRuntime, to: &str) -> Result<PackFolder<Made>, Trouble
     }
 }
 
-/// Copies all packs, one after another.
+/// Copies all packs, one after another, and syncs their names.
 fn copy_packs<D: Disk + Drop, F: Folder<D>, H: Held>(
     shelf: &mut Shelved<D, F>,
+    from: &FolderPath,
     folder: &mut PackFolder<H>,
     copy: &mut Shelved<PackFile<H>, PackFolder<H>>,
     room: &mut [u8],
@@ -69,14 +80,16 @@ fn copy_packs<D: Disk + Drop, F: Folder<D>, H: Held>(
     ensures stays { Stays ⟦<Shelved<D, F> as Shelf>⟧ shelf.old shelf.new }
 {
     for pack in 0..shelf.count() {
-        copy_pack(shelf, folder, copy, pack, room)?;
+        copy_pack(shelf, from, folder, copy, pack, room)?;
     }
+    folder.sync()?;
     Ok(())
 }
 
 /// Copies a pack, if it has anything.
 fn copy_pack<D: Disk + Drop, F: Folder<D>, H: Held>(
     shelf: &mut Shelved<D, F>,
+    from: &FolderPath,
     folder: &mut PackFolder<H>,
     copy: &mut Shelved<PackFile<H>, PackFolder<H>>,
     pack: usize,
@@ -97,9 +110,53 @@ fn copy_pack<D: Disk + Drop, F: Folder<D>, H: Held>(
     if mark == 0 {
         return Ok(());
     }
+    let file = file_of_copy(shelf, from, folder, pack, mark, room)?;
+    copy.open(pack, file, mark, Lane::Nobody)
+}
+
+/// The file of a copy's pack: that of the pack, if it can be linked, or else a new one with its bytes.
+fn file_of_copy<D: Disk + Drop, F: Folder<D>, H: Held>(
+    shelf: &mut Shelved<D, F>,
+    from: &FolderPath,
+    folder: &mut PackFolder<H>,
+    pack: usize,
+    mark: usize,
+    room: &mut [u8],
+) -> Result<PackFile<H>, Trouble>
+    requires { 0 < length room.old }
+    ensures written { IfOk result (λ file. IsTrue (⟦<Shelved<D, F> as Shelf>⟧.is_clean shelf.new) → (bytes : List ℕ)
+        → ⟦<Shelved<D, F> as Shelf>⟧.kept shelf.old pack 0 mark ≡ Some bytes → Holds (⟦<PackFile<H> as Disk>⟧.seen file) 0 bytes) }
+    ensures synced { IfOk result (λ file. Only (⟦<PackFile<H> as Disk>⟧.seen file) (⟦<PackFile<H> as Disk>⟧.may_leave file)) }
+    ensures stays { Stays ⟦<Shelved<D, F> as Shelf>⟧ shelf.old shelf.new }
+{
+    if let Some(file) = linked(shelf, from, folder, pack, mark, room)? {
+        return Ok(file);
+    }
     let mut file = folder.add_pack(pack)?;
     fill(shelf, pack, mark, &mut file, room)?;
-    copy.open(pack, file, mark, Lane::Small)
+    Ok(file)
+}
+
+/// The file of a pack, linked to the folder of a copy. None if it can't be, or isn't as long as its pack, or ends
+/// otherwise.
+fn linked<D: Disk + Drop, F: Folder<D>, H: Held>(
+    shelf: &mut Shelved<D, F>,
+    from: &FolderPath,
+    folder: &mut PackFolder<H>,
+    pack: usize,
+    mark: usize,
+    room: &mut [u8],
+) -> Result<Option<PackFile<H>>, Trouble>
+    ensures linked { IfOk result (λ found. IfSome found (λ file. IsTrue (⟦<Shelved<D, F> as Shelf>⟧.is_clean shelf.new) → (bytes : List ℕ)
+        → ⟦<Shelved<D, F> as Shelf>⟧.kept shelf.old pack 0 mark ≡ Some bytes → Holds (⟦<PackFile<H> as Disk>⟧.seen file) 0 bytes)) }
+    ensures synced { IfOk result (λ found. IfSome found (λ file.
+        Only (⟦<PackFile<H> as Disk>⟧.seen file) (⟦<PackFile<H> as Disk>⟧.may_leave file))) }
+    ensures stays { Stays ⟦<Shelved<D, F> as Shelf>⟧ shelf.old shelf.new }
+    ensures room { length room.new ≡ length room.old }
+{
+    let size = TAIL.min(mark).min(room.len());
+    shelf.peek(pack, mark - size, &mut room[..size])?;
+    Ok(folder.link_pack(from, shelf, pack, mark, &room[..size])?)
 }
 
 /// Writes what a pack has up to a mark to the beginning of a file, and syncs it.

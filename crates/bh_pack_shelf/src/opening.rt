@@ -1,8 +1,9 @@
 //! A host's packs are opened.
 
-ghost use Rattle.std.specs.Prelude.{◌≡◌, ◌==◌, ◌∷◌, [], ℕ, List, IfOk, OnOk, IsTrue};
+ghost use Rattle.std.specs.Prelude.{◌≡◌, if◌then◌else◌, ◌==◌, ◌∷◌, [], ℕ, List, IfOk, OnOk, IsTrue};
 ghost use Rattle.sqlite_disk.specs.Disk.{Holds};
 ghost use Rattle.bh_packs.specs.Stands.{Stands};
+ghost use Rattle.bh_packs.specs.declared.place.Lane.TheVariants as lane;
 ghost use Rattle.bh_shelf.specs.Contents.{AreSameBut};
 ghost use Rattle.bh_shelf.specs.Ranges.{range_of};
 ghost use Rattle.bh_shelf.specs.declared.closed.Listed.{Listed};
@@ -183,5 +184,13 @@ fn open_at<S: Held>(
     ensures clean { IsTrue (⟦<Shelved<PackFile<S>, PackFolder<S>> as Shelf>⟧.is_clean shelf.new)
         → IsTrue (⟦<Shelved<PackFile<S>, PackFolder<S>> as Shelf>⟧.is_clean shelf.old) }
 {
-    shelf.open(row.pack, file, row.length, Lane::Small)
+    let lane = lane_of(file.is_shared());
+    shelf.open(row.pack, file, row.length, lane)
+}
+
+/// Who appends to a pack: nobody, if its file has another name, too. Else two hosts could write to one file.
+fn lane_of(is_shared: bool) -> Lane
+    ensures { result ≡ (if is_shared then lane.Nobody else lane.Small) }
+{
+    if is_shared { Lane::Nobody } else { Lane::Small }
 }

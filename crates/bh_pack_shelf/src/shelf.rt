@@ -2,6 +2,7 @@
 
 ghost use Rattle.bh_shelf.specs.Laws.{kept_seen, kept_stands, leaves_standing, may_stay, seen_ends};
 
+use bh_pack_files::FolderPath;
 use bh_packs::folder::Folder;
 use bh_packs::place::{Bounds, Hold, Lane, Place};
 use bh_packs::trouble::Trouble;
@@ -15,6 +16,8 @@ pub struct PackShelf<D: Disk, F> {
     pub(crate) shelf: Shelved<D, F>,
     pub(crate) rt: HostRuntime,
     pub(crate) bounds: Bounds,
+    /// Where their files are.
+    pub(crate) folder: FolderPath,
 }
 
 impl<D: Disk + Drop, F: Folder<D>> Shelf for PackShelf<D, F> {

@@ -64,6 +64,7 @@ impl<D: Disk + Drop> Pack<D> {
     pub(crate) fn open(mut disk: D, mark: usize, lane: Lane) -> Result<Pack<D>, Trouble>
         ensures holds { IfOk result (λ pack. pack.holds ≡ 0) }
         ensures marked { IfOk result (λ pack. (pack.synced ≡ mark) × (pack.end ≡ mark)) }
+        ensures lane { IfOk result (λ pack. pack.lane ≡ lane) }
         ensures settled { IfOk result (λ pack. (at : ℕ) (bytes : List ℕ) → at + length bytes ≤ mark
             → Stands D.Disk disk at bytes → IsSettled D.Disk pack at bytes) }
         ensures long { IfOk result (λ pack. IsTrue (D.Disk.is_clean pack.disk) → mark ≤ length (D.Disk.seen disk)) }

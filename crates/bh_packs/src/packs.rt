@@ -43,6 +43,7 @@ impl<D: Disk + Drop> Packs<D> {
         ensures settled { OnOk result ((at : ℕ) (bytes : List ℕ) → at + length bytes ≤ mark
             → Stands D.Disk file at bytes → IsSettledIn D.Disk (pack_at self.new pack) at bytes) }
         ensures end { OnOk result (end_in (pack_at self.new pack) ≡ mark) }
+        ensures lane { OnOk result (IsOfLane (pack_at self.new pack) lane) }
         ensures long { OnOk result (IsCleanIn D.Disk (pack_at self.new pack) → mark ≤ length (D.Disk.seen file)) }
         ensures keeps { Keeps D.Disk self.old self.new }
         ensures removed { self.new.removed ≡ self.old.removed }
@@ -266,6 +267,7 @@ impl<D: Disk + Drop> Packs<D> {
         ensures settled { OnOk result ((at : ℕ) (bytes : List ℕ) → IsSettled D.Disk pack at bytes
             → IsSettledIn D.Disk (pack_at self.new number) at bytes) }
         ensures end { OnOk result (end_in (pack_at self.new number) ≡ pack.end) }
+        ensures lane { OnOk result (IsOfLane (pack_at self.new number) pack.lane) }
         ensures clean { OnOk result (IsCleanIn D.Disk (pack_at self.new number) → IsTrue (D.Disk.is_clean pack.disk)) }
         ensures keeps { Keeps D.Disk self.old self.new }
         ensures removed { self.new.removed ≡ self.old.removed }

@@ -14,11 +14,12 @@ pub struct Place {
     pub sum: u64,
 }
 
-/// Who appends to a pack: all small bodies, or one large body at a time.
+/// Who appends to a pack: all small bodies, one large body at a time, or nobody, as if a copy shares its file.
 #[derive(Clone, Copy, PartialEq, Eq)]
 pub enum Lane {
     Small,
     Large(Large),
+    Nobody,
 }
 
 /// One of the eight lanes of large bodies.

@@ -19,6 +19,7 @@ pub(crate) fn put_in<D: Disk + Drop>(
     ensures settled { OnOk result ((at : ℕ) (bytes : List ℕ) → IsSettled D.Disk pack at bytes
         → IsSettledIn D.Disk slot.new at bytes) }
     ensures end { OnOk result (end_in slot.new ≡ pack.end) }
+    ensures lane { OnOk result (IsOfLane slot.new pack.lane) }
     ensures clean { OnOk result (IsCleanIn D.Disk slot.new → IsTrue (D.Disk.is_clean pack.disk)) }
     ensures keeps { KeepsPack D.Disk slot.old slot.new }
     ensures holds { holds_in slot.new ≡ holds_in slot.old }

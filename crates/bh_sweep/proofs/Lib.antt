@@ -7,3 +7,4 @@ pub mod Measured
 pub mod Summing
 pub mod Sizes
 pub mod PlacedText
+pub mod PackTexts

@@ -3,6 +3,7 @@
 #![tactic(auto)]
 
 pub mod laws;
+pub mod packs;
 pub mod report;
 mod rows;
 pub mod sweep;

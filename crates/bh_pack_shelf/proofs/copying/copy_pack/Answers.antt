@@ -17,6 +17,6 @@ returns-clause-copied g c =
     (λ opened from to.
     let some : 0 < mark = omega (arith, c.if-mark-eq0.false) in
     let (all, has) = c.kept_to-mark.ensures.whole some in
-    part_copied g.D.Disk old.packs old.marks old.sound (c.fill.ensures.stays.clean from) pack mark all has (disk.seen c.fill.new.file)
-    (c.in_ok-fill.ensures.written from all has) (contents_of disk new.packs (kept_of new.marks)) (opened to) c.kept_to-mark.ensures.ends)
+    part_copied g.D.Disk old.packs old.marks old.sound (c.file_of_copy.ensures.stays.clean from) pack mark all has (disk.seen c.in_ok-file.file)
+    (c.in_ok-file.ensures.written from all has) (contents_of disk new.packs (kept_of new.marks)) (opened to) c.kept_to-mark.ensures.ends)
     c.open.ensures.opened

@@ -1,4 +1,4 @@
-use Rattle.std.proofs.Common.{rules, ◌≡◌, ◌+◌, ◌<◌, ◌≤◌, ◌∙◌, ℕ, List, Some, length, take, IsTrue, sym, subst, ap, arith, length-take}
+use Rattle.std.proofs.Common.{rules, ◌≡◌, ◌+◌, ◌<◌, ◌≤◌, ◌∙◌, ℕ, List, Some, length, take, sym, subst, ap, arith, length-take}
 use Rattle.sqlite_disk.specs.Disk.{Holds, Torn}
 use Rattle.bh_shelf.specs.Contents.{Contents}
 use Rattle.bh_shelf.specs.Marks.{seen_of}
