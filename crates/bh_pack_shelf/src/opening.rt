@@ -2,6 +2,7 @@
 
 ghost use Rattle.std.specs.Prelude.{◌≡◌, if◌then◌else◌, ◌==◌, ◌∷◌, [], ℕ, List, IfOk, OnOk, IsTrue};
 ghost use Rattle.sqlite_disk.specs.Disk.{Holds};
+ghost use Rattle.bh_packs.specs.Packs.{IsOfLane, pack_at};
 ghost use Rattle.bh_packs.specs.Stands.{Stands};
 ghost use Rattle.bh_packs.specs.declared.place.Lane.TheVariants as lane;
 ghost use Rattle.bh_shelf.specs.Contents.{AreSameBut};
@@ -178,6 +179,7 @@ fn open_at<S: Held>(
     ensures opened { OnOk result (IsTrue (⟦<Shelved<PackFile<S>, PackFolder<S>> as Shelf>⟧.is_clean shelf.new) → (offset size : ℕ)
         → ⟦<Shelved<PackFile<S>, PackFolder<S>> as Shelf>⟧.kept shelf.new row.pack offset size
         ≡ range_of (⟦<PackFile<S> as Disk>⟧.seen file) row.length offset size) }
+    ensures lane { OnOk result (IsOfLane (pack_at shelf.new.packs row.pack) (if file.is_shared then lane.Nobody else lane.Small)) }
     ensures others { IsTrue (⟦<Shelved<PackFile<S>, PackFolder<S>> as Shelf>⟧.is_clean shelf.new)
         → AreSameBut row.pack (⟦<Shelved<PackFile<S>, PackFolder<S>> as Shelf>⟧.kept shelf.new)
         (⟦<Shelved<PackFile<S>, PackFolder<S>> as Shelf>⟧.kept shelf.old) }

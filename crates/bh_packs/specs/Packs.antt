@@ -70,11 +70,12 @@ module _ {D : Type 0} where
     IsCleanIn None = Unit {0}
     IsCleanIn (Some p) = IsTrue (g.is_clean p.disk)
 
-    -- what was written or settled in a pack still is, and its place of appending doesn't go back
+    -- what was written or settled in a pack still is, its place of appending doesn't go back, and its lane is the same
     pub record KeepsPack (old new : Option (Pack D)) : Type 0 where
       pub written : (at : ℕ) (bytes : List ℕ) → IsWrittenIn old at bytes → IsWrittenIn new at bytes
       pub settled : (at : ℕ) (bytes : List ℕ) → IsSettledIn old at bytes → IsSettledIn new at bytes
       pub ends : end_in old ≤ end_in new
+      pub lane : (lane : Lane) → IsOfLane old lane → IsOfLane new lane
       pub clean : IsCleanIn new → IsCleanIn old
 
     -- the same of each pack

@@ -2,7 +2,7 @@
 
 ghost use Rattle.std.specs.Prelude.{◌≡◌, ◌<◌, ◌≤◌, ℕ, List, length, Some, IsTrue, OnOk};
 ghost use Rattle.sqlite_disk.specs.Disk.{Holds};
-ghost use Rattle.bh_packs.specs.Packs.{Keeps, KeepsHolds as AreHeld};
+ghost use Rattle.bh_packs.specs.Packs.{IsOfLane, Keeps, KeepsHolds as AreHeld, pack_at};
 ghost use Rattle.bh_packs.specs.Stands.{Stands};
 ghost use Rattle.bh_shelf.specs.Contents.{AreSameBut, EndsBy, HasNothing, KeepsHolds, Rises, Within};
 ghost use Rattle.bh_shelf.specs.Laws.{kept_seen, kept_stands, leaves_standing, may_stay, seen_ends};
@@ -68,6 +68,7 @@ impl<D: Disk + Drop, F: Folder<D>> Shelved<D, F> {
         requires { (offset : ℕ) (bytes : List ℕ) → Holds (D.Disk.seen file) offset bytes → Stands D.Disk file offset bytes }
         ensures opened { OnOk result (IsTrue (⟦<Shelved<D, F> as Shelf>⟧.is_clean self.new) → (offset size : ℕ)
             → ⟦<Shelved<D, F> as Shelf>⟧.kept self.new pack offset size ≡ range_of (D.Disk.seen file) mark offset size) }
+        ensures lane { OnOk result (IsOfLane (pack_at self.new.packs pack) lane) }
         ensures others { IsTrue (⟦<Shelved<D, F> as Shelf>⟧.is_clean self.new)
             → AreSameBut pack (⟦<Shelved<D, F> as Shelf>⟧.kept self.new) (⟦<Shelved<D, F> as Shelf>⟧.kept self.old) }
         ensures seen { IsTrue (⟦<Shelved<D, F> as Shelf>⟧.is_clean self.new)
