@@ -11,24 +11,20 @@ use Rattle.bh_types.specs.declared.refusal.Refusal.TheVariants.{AccessDenied, In
 use Rattle.bh_http.specs.Fields.{Occurrence, Missing, Once, Repeated, field_named}
 use Rattle.bh_types.specs.Ids.{upload_of}
 use Rattle.bh_types.specs.Digits.{is_number}
-use Rattle.bh_operation.specs.Actions.{method_of, bucket_action, object_action}
 use Rattle.bh_operation.specs.Addresses.{is_colon, own_part, bucket_name, object_key, bucket_named, object_named}
 use Rattle.bh_operation.specs.Headers.{dates_upload, supported, lock_from, lock_in, at_most_once, checksum_in, copy_source, stands}
 use Rattle.bh_types.specs.Tokens as tokens
 use Rattle.hex.specs.Hex.{decode_of}
 use Rattle.hex.specs.declared.error.FromHexError.{FromHexError}
+use Rattle.bh_operation.specs.Methods.{method_of}
 use Rattle.bh_operation.specs.Numbers.{or_invalid_argument, short_number, page_size, part_marker, part_number}
-use Rattle.bh_operation.specs.Operations.{Octets, Fields, at_name, host_operation, list_objects, list_versions, list_uploads, create_bucket, bucket_operation, put_object, copy_object, upload_part, list_parts, object_operation, operation_at, operation}
+use Rattle.bh_operation.specs.Operations.{Octets, Fields, at_name, host_operation, list_objects, list_versions, list_uploads, create_bucket, bucket_operation, is_numbered, is_copy, put_object, copy_object, put, get_object, upload_part, put_part, list_parts, unnumbered, object_operation, operation_at, operation}
 use Rattle.bh_operation.specs.Pages.{page_in, key_page, upload_page, part_page, is_second, second_version, token_from, token_of, version_marker_from, version_marker, upload_marker_from, upload_marker}
 use Rattle.bh_operation.specs.Queries.{value_of, is_given, is_unsupported, is_repeated, parameters_of, given_once, parameters_in, count_selectors, selected}
 use Rattle.bh_operation.specs.Sources.{source_path, named_by, version_after, source_version, source_part, source_of, source_in}
 use Rattle.bh_operation.specs.Targets.{is_question, is_slash, path_of, query_of, kind_of, or_invalid_uri, routed, decoded, text_of, bucket_part, key_part, name_at, target_at}
-use Rattle.bh_operation.specs.declared.action.BucketAction.{BucketAction}
-use Rattle.bh_operation.specs.declared.action.BucketAction.TheVariants as bucket
-use Rattle.bh_operation.specs.declared.action.Method.{Method}
-use Rattle.bh_operation.specs.declared.action.Method.TheVariants.{Get, Head, Put, Post, Delete, Other}
-use Rattle.bh_operation.specs.declared.action.ObjectAction.{ObjectAction}
-use Rattle.bh_operation.specs.declared.action.ObjectAction.TheVariants as object
+use Rattle.bh_operation.specs.declared.method.Method.{Method}
+use Rattle.bh_operation.specs.declared.method.Method.TheVariants.{Get, Head, Put, Post, Delete, Other}
 use Rattle.bh_operation.specs.declared.operation.Operation.{Operation}
 use Rattle.bh_operation.specs.declared.query.Parameter.{Parameter}
 use Rattle.bh_operation.specs.declared.query.Selector.{Selector}
@@ -100,94 +96,6 @@ host_only Put s = refl
 host_only Post s = refl
 host_only Delete s = refl
 host_only Other s = refl
-
-bucket_action_only : (m : Method) (s : Option Selector) → Only (bucket_action m s)
-unfolding bucket_action
-bucket_action_only Get None = refl
-bucket_action_only Get (Some ListType) = tt
-bucket_action_only Get (Some Versions) = tt
-bucket_action_only Get (Some Uploads) = tt
-bucket_action_only Get (Some Versioning) = tt
-bucket_action_only Get (Some Lifecycle) = tt
-bucket_action_only Get (Some Usage) = refl
-bucket_action_only Get (Some UploadId) = refl
-bucket_action_only Get (Some Retention) = refl
-bucket_action_only Put None = tt
-bucket_action_only Put (Some Versioning) = tt
-bucket_action_only Put (Some Lifecycle) = tt
-bucket_action_only Put (Some ListType) = refl
-bucket_action_only Put (Some Versions) = refl
-bucket_action_only Put (Some Uploads) = refl
-bucket_action_only Put (Some Usage) = refl
-bucket_action_only Put (Some UploadId) = refl
-bucket_action_only Put (Some Retention) = refl
-bucket_action_only Head None = tt
-bucket_action_only Head (Some s) = refl
-bucket_action_only Delete None = tt
-bucket_action_only Delete (Some Lifecycle) = tt
-bucket_action_only Delete (Some ListType) = refl
-bucket_action_only Delete (Some Versions) = refl
-bucket_action_only Delete (Some Uploads) = refl
-bucket_action_only Delete (Some Versioning) = refl
-bucket_action_only Delete (Some Usage) = refl
-bucket_action_only Delete (Some UploadId) = refl
-bucket_action_only Delete (Some Retention) = refl
-bucket_action_only Post None = refl
-bucket_action_only Post (Some s) = refl
-bucket_action_only Other None = refl
-bucket_action_only Other (Some s) = refl
-
-object_action_only : (m : Method) (s : Option Selector) (numbered copied : Bool) → Only (object_action m s numbered copied)
-unfolding object_action
-object_action_only Get None true copied = refl
-object_action_only Get None false copied = tt
-object_action_only Head None true copied = refl
-object_action_only Head None false copied = tt
-object_action_only Put None true copied = refl
-object_action_only Put None false true = tt
-object_action_only Put None false false = tt
-object_action_only Post None true copied = refl
-object_action_only Post None false copied = refl
-object_action_only Delete None true copied = refl
-object_action_only Delete None false copied = tt
-object_action_only Other None true copied = refl
-object_action_only Other None false copied = refl
-object_action_only Get (Some UploadId) numbered copied = tt
-object_action_only Get (Some Uploads) numbered copied = refl
-object_action_only Get (Some ListType) numbered copied = refl
-object_action_only Get (Some Versions) numbered copied = refl
-object_action_only Get (Some Versioning) numbered copied = refl
-object_action_only Get (Some Lifecycle) numbered copied = refl
-object_action_only Get (Some Usage) numbered copied = refl
-object_action_only Get (Some Retention) numbered copied = tt
-object_action_only Post (Some UploadId) numbered copied = tt
-object_action_only Post (Some Uploads) numbered copied = tt
-object_action_only Post (Some ListType) numbered copied = refl
-object_action_only Post (Some Versions) numbered copied = refl
-object_action_only Post (Some Versioning) numbered copied = refl
-object_action_only Post (Some Lifecycle) numbered copied = refl
-object_action_only Post (Some Usage) numbered copied = refl
-object_action_only Post (Some Retention) numbered copied = refl
-object_action_only Delete (Some UploadId) numbered copied = tt
-object_action_only Delete (Some Uploads) numbered copied = refl
-object_action_only Delete (Some ListType) numbered copied = refl
-object_action_only Delete (Some Versions) numbered copied = refl
-object_action_only Delete (Some Versioning) numbered copied = refl
-object_action_only Delete (Some Lifecycle) numbered copied = refl
-object_action_only Delete (Some Usage) numbered copied = refl
-object_action_only Delete (Some Retention) numbered copied = refl
-object_action_only Put (Some UploadId) false copied = refl
-object_action_only Put (Some UploadId) true true = refl
-object_action_only Put (Some UploadId) true false = tt
-object_action_only Put (Some Uploads) numbered copied = refl
-object_action_only Put (Some ListType) numbered copied = refl
-object_action_only Put (Some Versions) numbered copied = refl
-object_action_only Put (Some Versioning) numbered copied = refl
-object_action_only Put (Some Lifecycle) numbered copied = refl
-object_action_only Put (Some Usage) numbered copied = refl
-object_action_only Put (Some Retention) numbered copied = tt
-object_action_only Head (Some s) numbered copied = refl
-object_action_only Other (Some s) numbered copied = refl
 
 -- ---- names
 
@@ -323,67 +231,169 @@ source_only Repeated = refl
 
 -- ---- operations
 
-bucket_only : (caller text : Octets) (parameters : List Parameter) (fields : Fields) (action : BucketAction) → Only (bucket_operation caller text parameters fields action)
-unfolding bucket_operation create_bucket list_objects list_versions list_uploads key_page upload_page token_of version_marker upload_marker
-bucket_only caller text parameters fields bucket.Create =
+created_only : (caller text : Octets) (fields : Fields) → Only (create_bucket caller text fields)
+unfolding create_bucket
+created_only caller text fields =
     then_only may (lock_in fields) _ (lock_only fields)
     (λ _. then_only may (bucket_named caller text) _ (bucket_named_only caller text) (λ _. tt))
-bucket_only caller text parameters fields bucket.Head = at_name_only _ (bucket_named caller text) (bucket_named_only caller text)
-bucket_only caller text parameters fields bucket.Delete = at_name_only _ (bucket_named caller text) (bucket_named_only caller text)
-bucket_only caller text parameters fields bucket.ListObjects =
+
+objects_listed_only : (caller text : Octets) (parameters : List Parameter) → Only (list_objects caller text parameters)
+unfolding list_objects key_page token_of
+objects_listed_only caller text parameters =
     then_only may (second_version parameters) _ (second_only parameters)
     (λ _. then_only may (key_page parameters) _ (page_only (codes "max-keys") parameters)
     (λ _. then_only may (token_of parameters) _ (token_only (value_of (codes "continuation-token") parameters))
     (λ _. then_only may (bucket_named caller text) _ (bucket_named_only caller text) (λ _. tt))))
-bucket_only caller text parameters fields bucket.ListVersions =
+
+versions_listed_only : (caller text : Octets) (parameters : List Parameter) → Only (list_versions caller text parameters)
+unfolding list_versions key_page version_marker
+versions_listed_only caller text parameters =
     then_only may (key_page parameters) _ (page_only (codes "max-keys") parameters)
     (λ _. then_only may (version_marker parameters) _ (version_marker_only (value_of (codes "key-marker") parameters) (value_of (codes "version-id-marker") parameters))
     (λ _. then_only may (bucket_named caller text) _ (bucket_named_only caller text) (λ _. tt)))
-bucket_only caller text parameters fields bucket.ListUploads =
+
+uploads_listed_only : (caller text : Octets) (parameters : List Parameter) → Only (list_uploads caller text parameters)
+unfolding list_uploads upload_page upload_marker
+uploads_listed_only caller text parameters =
     then_only may (upload_page parameters) _ (page_only (codes "max-uploads") parameters)
     (λ _. then_only may (upload_marker parameters) _ (upload_marker_only (value_of (codes "key-marker") parameters) (value_of (codes "upload-id-marker") parameters))
     (λ _. then_only may (bucket_named caller text) _ (bucket_named_only caller text) (λ _. tt)))
-bucket_only caller text parameters fields bucket.GetVersioning = at_name_only _ (bucket_named caller text) (bucket_named_only caller text)
-bucket_only caller text parameters fields bucket.PutVersioning = at_name_only _ (bucket_named caller text) (bucket_named_only caller text)
-bucket_only caller text parameters fields bucket.GetLifecycle = at_name_only _ (bucket_named caller text) (bucket_named_only caller text)
-bucket_only caller text parameters fields bucket.PutLifecycle = at_name_only _ (bucket_named caller text) (bucket_named_only caller text)
-bucket_only caller text parameters fields bucket.DeleteLifecycle = at_name_only _ (bucket_named caller text) (bucket_named_only caller text)
 
-object_only : (caller text key : Octets) (parameters : List Parameter) (fields : Fields) (action : ObjectAction) → Only (object_operation caller text key parameters fields action)
-unfolding object_operation put_object copy_object upload_part list_parts
-object_only caller text key parameters fields object.Put =
+bucket_only : (caller text : Octets) (parameters : List Parameter) (fields : Fields) (m : Method) (s : Option Selector)
+    → Only (bucket_operation caller text parameters fields m s)
+unfolding bucket_operation
+bucket_only caller text parameters fields Get None = refl
+bucket_only caller text parameters fields Get (Some ListType) = objects_listed_only caller text parameters
+bucket_only caller text parameters fields Get (Some Versions) = versions_listed_only caller text parameters
+bucket_only caller text parameters fields Get (Some Uploads) = uploads_listed_only caller text parameters
+bucket_only caller text parameters fields Get (Some Versioning) = at_name_only _ (bucket_named caller text) (bucket_named_only caller text)
+bucket_only caller text parameters fields Get (Some Lifecycle) = at_name_only _ (bucket_named caller text) (bucket_named_only caller text)
+bucket_only caller text parameters fields Get (Some Usage) = refl
+bucket_only caller text parameters fields Get (Some UploadId) = refl
+bucket_only caller text parameters fields Get (Some Retention) = refl
+bucket_only caller text parameters fields Put None = created_only caller text fields
+bucket_only caller text parameters fields Put (Some ListType) = refl
+bucket_only caller text parameters fields Put (Some Versions) = refl
+bucket_only caller text parameters fields Put (Some Uploads) = refl
+bucket_only caller text parameters fields Put (Some Versioning) = at_name_only _ (bucket_named caller text) (bucket_named_only caller text)
+bucket_only caller text parameters fields Put (Some Lifecycle) = at_name_only _ (bucket_named caller text) (bucket_named_only caller text)
+bucket_only caller text parameters fields Put (Some Usage) = refl
+bucket_only caller text parameters fields Put (Some UploadId) = refl
+bucket_only caller text parameters fields Put (Some Retention) = refl
+bucket_only caller text parameters fields Head None = at_name_only _ (bucket_named caller text) (bucket_named_only caller text)
+bucket_only caller text parameters fields Head (Some s) = refl
+bucket_only caller text parameters fields Delete None = at_name_only _ (bucket_named caller text) (bucket_named_only caller text)
+bucket_only caller text parameters fields Delete (Some ListType) = refl
+bucket_only caller text parameters fields Delete (Some Versions) = refl
+bucket_only caller text parameters fields Delete (Some Uploads) = refl
+bucket_only caller text parameters fields Delete (Some Versioning) = refl
+bucket_only caller text parameters fields Delete (Some Lifecycle) = at_name_only _ (bucket_named caller text) (bucket_named_only caller text)
+bucket_only caller text parameters fields Delete (Some Usage) = refl
+bucket_only caller text parameters fields Delete (Some UploadId) = refl
+bucket_only caller text parameters fields Delete (Some Retention) = refl
+bucket_only caller text parameters fields Post None = refl
+bucket_only caller text parameters fields Post (Some s) = refl
+bucket_only caller text parameters fields Other None = refl
+bucket_only caller text parameters fields Other (Some s) = refl
+
+object_put_only : (caller text key : Octets) (fields : Fields) → Only (put_object caller text key fields)
+unfolding put_object
+object_put_only caller text key fields =
     then_only may (checksum_in fields) _ (checksum_only fields)
     (λ _. then_only may (object_named caller text key) _ (object_named_only caller text key) (λ _. tt))
-object_only caller text key parameters fields object.Copy =
+
+object_copied_only : (caller text key : Octets) (fields : Fields) → Only (copy_object caller text key fields)
+unfolding copy_object
+object_copied_only caller text key fields =
     then_only may (source_in (copy_source fields)) _ (source_only (copy_source fields))
     (λ source. then_only may (checksum_in fields) _ (checksum_only fields)
     (λ _. then_only may (object_named caller text key) _ (object_named_only caller text key)
     (λ _. then_only may (object_named caller source.bucket source.key) _ (object_named_only caller source.bucket source.key) (λ _. tt))))
-object_only caller text key parameters fields object.Get = at_name_only _ (object_named caller text key) (object_named_only caller text key)
-object_only caller text key parameters fields object.Head = at_name_only _ (object_named caller text key) (object_named_only caller text key)
-object_only caller text key parameters fields object.Delete = at_name_only _ (object_named caller text key) (object_named_only caller text key)
-object_only caller text key parameters fields object.GetRetention = at_name_only _ (object_named caller text key) (object_named_only caller text key)
-object_only caller text key parameters fields object.PutRetention = at_name_only _ (object_named caller text key) (object_named_only caller text key)
-object_only caller text key parameters fields object.CreateUpload = at_name_only _ (object_named caller text key) (object_named_only caller text key)
-object_only caller text key parameters fields object.UploadPart =
+
+object_got_only : (caller text key : Octets) (parameters : List Parameter) (fields : Fields) → Only (get_object caller text key parameters fields)
+unfolding get_object
+object_got_only caller text key parameters fields = at_name_only _ (object_named caller text key) (object_named_only caller text key)
+
+part_stored_only : (caller text key : Octets) (parameters : List Parameter) (fields : Fields) → Only (upload_part caller text key parameters fields)
+unfolding upload_part
+part_stored_only caller text key parameters fields =
     then_only may (part_number (value_of (codes "partNumber") parameters)) _ (part_number_only (value_of (codes "partNumber") parameters))
     (λ _. then_only may (checksum_in fields) _ (checksum_only fields)
     (λ _. then_only may (object_named caller text key) _ (object_named_only caller text key) (λ _. tt)))
-object_only caller text key parameters fields object.ListParts =
+
+parts_listed_only : (caller text key : Octets) (parameters : List Parameter) → Only (list_parts caller text key parameters)
+unfolding list_parts
+parts_listed_only caller text key parameters =
     then_only may (part_page parameters) _ (part_page_only parameters)
     (λ _. then_only may (object_named caller text key) _ (object_named_only caller text key) (λ _. tt))
-object_only caller text key parameters fields object.CompleteUpload = at_name_only _ (object_named caller text key) (object_named_only caller text key)
-object_only caller text key parameters fields object.AbortUpload = at_name_only _ (object_named caller text key) (object_named_only caller text key)
+
+either_only : (b : Bool) (one other : Result Operation Refusal) → Only one → Only other → Only (cond b one other)
+either_only true one other is so = is
+either_only false one other is so = so
+
+unnumbered_only : (parameters : List Parameter) (r : Result Operation Refusal) → Only r → Only (unnumbered parameters r)
+unnumbered_only parameters r only = either_only (is_numbered parameters) (Err InvalidArgument) r refl only
+
+put_only : (caller text key : Octets) (fields : Fields) → Only (put caller text key fields)
+put_only caller text key fields =
+    either_only (is_copy fields) (copy_object caller text key fields) (put_object caller text key fields)
+    (object_copied_only caller text key fields) (object_put_only caller text key fields)
+
+part_put_only : (caller text key : Octets) (parameters : List Parameter) (fields : Fields) → Only (put_part caller text key parameters fields)
+part_put_only caller text key parameters fields =
+    either_only (is_numbered parameters) (cond (is_copy fields) (Err NotImplemented) (upload_part caller text key parameters fields)) (Err InvalidArgument)
+    (either_only (is_copy fields) (Err NotImplemented) (upload_part caller text key parameters fields) refl (part_stored_only caller text key parameters fields))
+    refl
+
+object_only : (caller text key : Octets) (parameters : List Parameter) (fields : Fields) (m : Method) (s : Option Selector)
+    → Only (object_operation caller text key parameters fields m s)
+unfolding object_operation
+object_only caller text key parameters fields Get None = unnumbered_only parameters _ (object_got_only caller text key parameters fields)
+object_only caller text key parameters fields Get (Some ListType) = refl
+object_only caller text key parameters fields Get (Some Versions) = refl
+object_only caller text key parameters fields Get (Some Uploads) = refl
+object_only caller text key parameters fields Get (Some Versioning) = refl
+object_only caller text key parameters fields Get (Some Lifecycle) = refl
+object_only caller text key parameters fields Get (Some Usage) = refl
+object_only caller text key parameters fields Get (Some UploadId) = parts_listed_only caller text key parameters
+object_only caller text key parameters fields Get (Some Retention) = at_name_only _ (object_named caller text key) (object_named_only caller text key)
+object_only caller text key parameters fields Put None = unnumbered_only parameters _ (put_only caller text key fields)
+object_only caller text key parameters fields Put (Some ListType) = refl
+object_only caller text key parameters fields Put (Some Versions) = refl
+object_only caller text key parameters fields Put (Some Uploads) = refl
+object_only caller text key parameters fields Put (Some Versioning) = refl
+object_only caller text key parameters fields Put (Some Lifecycle) = refl
+object_only caller text key parameters fields Put (Some Usage) = refl
+object_only caller text key parameters fields Put (Some UploadId) = part_put_only caller text key parameters fields
+object_only caller text key parameters fields Put (Some Retention) = at_name_only _ (object_named caller text key) (object_named_only caller text key)
+object_only caller text key parameters fields Head None = unnumbered_only parameters _ (at_name_only _ (object_named caller text key) (object_named_only caller text key))
+object_only caller text key parameters fields Head (Some s) = refl
+object_only caller text key parameters fields Delete None = unnumbered_only parameters _ (at_name_only _ (object_named caller text key) (object_named_only caller text key))
+object_only caller text key parameters fields Delete (Some ListType) = refl
+object_only caller text key parameters fields Delete (Some Versions) = refl
+object_only caller text key parameters fields Delete (Some Uploads) = refl
+object_only caller text key parameters fields Delete (Some Versioning) = refl
+object_only caller text key parameters fields Delete (Some Lifecycle) = refl
+object_only caller text key parameters fields Delete (Some Usage) = refl
+object_only caller text key parameters fields Delete (Some UploadId) = at_name_only _ (object_named caller text key) (object_named_only caller text key)
+object_only caller text key parameters fields Delete (Some Retention) = refl
+object_only caller text key parameters fields Post None = unnumbered_only parameters _ (refl)
+object_only caller text key parameters fields Post (Some ListType) = refl
+object_only caller text key parameters fields Post (Some Versions) = refl
+object_only caller text key parameters fields Post (Some Uploads) = at_name_only _ (object_named caller text key) (object_named_only caller text key)
+object_only caller text key parameters fields Post (Some Versioning) = refl
+object_only caller text key parameters fields Post (Some Lifecycle) = refl
+object_only caller text key parameters fields Post (Some Usage) = refl
+object_only caller text key parameters fields Post (Some UploadId) = at_name_only _ (object_named caller text key) (object_named_only caller text key)
+object_only caller text key parameters fields Post (Some Retention) = refl
+object_only caller text key parameters fields Other None = unnumbered_only parameters _ (refl)
+object_only caller text key parameters fields Other (Some s) = refl
 
 at_only : (caller : Octets) (m : Method) (parameters : List Parameter) (fields : Fields) (t : Target) (s : Option Selector) → Only (operation_at caller m parameters fields t s)
 unfolding operation_at
 at_only caller m parameters fields target.Host s = host_only m s
-at_only caller m parameters fields (target.Bucket text) s =
-    then_only may (bucket_action m s) _ (bucket_action_only m s) (λ action. bucket_only caller text parameters fields action)
-at_only caller m parameters fields (target.Object text key) s =
-    then_only may (object_action m s (is_given (codes "partNumber") parameters) (stands (copy_source fields))) _
-    (object_action_only m s (is_given (codes "partNumber") parameters) (stands (copy_source fields)))
-    (λ action. object_only caller text key parameters fields action)
+at_only caller m parameters fields (target.Bucket text) s = bucket_only caller text parameters fields m s
+at_only caller m parameters fields (target.Object text key) s = object_only caller text key parameters fields m s
 
 pub operation_only : OperationRefusals
 unfolding operation

@@ -6,8 +6,8 @@ use Rattle.bh_types.specs.Moments.{moment_of}
 use Rattle.bh_types.specs.declared.refusal.Refusal.{Refusal}
 use Rattle.bh_types.specs.declared.refusal.Refusal.TheVariants.{InvalidArgument, NotImplemented}
 use Rattle.bh_http.specs.Fields.{Occurrence, Missing, Once, Repeated, field_named}
-use Rattle.bh_operation.specs.declared.action.Method.{Method}
-use Rattle.bh_operation.specs.declared.action.Method.TheVariants as method
+use Rattle.bh_operation.specs.declared.method.Method.{Method}
+use Rattle.bh_operation.specs.declared.method.Method.TheVariants as method
 use Rattle.bh_operation.specs.declared.query.Parameter.{Parameter}
 use Rattle.bh_operation.specs.Queries.{is_unsupported}
 use Rattle.bh_operation.specs.Targets.{text_of}

@@ -1,7 +1,7 @@
-pub mod Actions
 pub mod Addresses
 pub mod Allowed
 pub mod Headers
+pub mod Methods
 pub mod Numbers
 pub mod Operations
 pub mod Pages

@@ -1,26 +1,22 @@
 -- The operation of a request, or its first refusal.
-use Rattle.std.specs.Prelude.{ℕ, List, codes, Option, Some, None, option_and_then, Result, Ok, Err}
+use Rattle.std.specs.Prelude.{ℕ, Bool, true, false, if◌then◌else◌, List, codes, Option, Some, None, option_and_then, Result, Ok, Err}
 use Rattle.bh_types.specs.Outcomes.{◌>>=◌}
 use Rattle.bh_types.specs.Ids.{upload_of}
 use Rattle.bh_types.specs.declared.id.UploadId.{UploadId}
 use Rattle.bh_types.specs.declared.wanted.Wanted.{Wanted}
 use Rattle.bh_types.specs.declared.refusal.Refusal.{Refusal}
-use Rattle.bh_types.specs.declared.refusal.Refusal.TheVariants.{MethodNotAllowed}
+use Rattle.bh_types.specs.declared.refusal.Refusal.TheVariants.{InvalidArgument, NotImplemented, MethodNotAllowed}
 use Rattle.bh_http.specs.Views.{Taken}
-use Rattle.bh_operation.specs.Actions.{method_of, bucket_action, object_action}
 use Rattle.bh_operation.specs.Addresses.{bucket_named, object_named}
 use Rattle.bh_operation.specs.Headers.{supported, lock_in, date_in, checksum_in, copy_source, range_in, stands}
+use Rattle.bh_operation.specs.Methods.{method_of}
 use Rattle.bh_operation.specs.Numbers.{part_number, wanted}
 use Rattle.bh_operation.specs.Pages.{key_page, part_page, upload_page, second_version, token_of, version_marker, upload_marker}
 use Rattle.bh_operation.specs.Queries.{parameters_in, selected, value_of, is_given}
 use Rattle.bh_operation.specs.Sources.{source_in}
 use Rattle.bh_operation.specs.Targets.{path_of, query_of, routed, target_at}
-use Rattle.bh_operation.specs.declared.action.Method.{Method}
-use Rattle.bh_operation.specs.declared.action.Method.TheVariants as method
-use Rattle.bh_operation.specs.declared.action.BucketAction.{BucketAction}
-use Rattle.bh_operation.specs.declared.action.BucketAction.TheVariants as bucket
-use Rattle.bh_operation.specs.declared.action.ObjectAction.{ObjectAction}
-use Rattle.bh_operation.specs.declared.action.ObjectAction.TheVariants as object
+use Rattle.bh_operation.specs.declared.method.Method.{Method}
+use Rattle.bh_operation.specs.declared.method.Method.TheVariants as method
 use Rattle.bh_operation.specs.declared.address.ObjectName.{ObjectName}
 use Rattle.bh_operation.specs.declared.operation.Operation.{Operation}
 use Rattle.bh_operation.specs.declared.operation.Operation.TheVariants.{Bare, ByDocument, Store, GetObject}
@@ -95,17 +91,6 @@ abbrev pub at_name : {A : Type 0} → (A → Operation) → Result A Refusal →
 at_name make (Ok name) = Ok (make name)
 at_name make (Err refusal) = Err refusal
 
--- the operation of an action that needs only a bucket's name
-abbrev pub on_bucket : Octets → BucketAction → Option Operation
-on_bucket name bucket.Head = Some (Bare (Bucket (HeadBucket name)))
-on_bucket name bucket.Delete = Some (Bare (Bucket (DeleteBucket name)))
-on_bucket name bucket.GetVersioning = Some (Bare (Bucket (GetBucketVersioning name)))
-on_bucket name bucket.PutVersioning = Some (ByDocument (PutBucketVersioning name))
-on_bucket name bucket.GetLifecycle = Some (Bare (Lifecycle (GetLifecycle name)))
-on_bucket name bucket.PutLifecycle = Some (ByDocument (PutLifecycle name))
-on_bucket name bucket.DeleteLifecycle = Some (Bare (Lifecycle (DeleteLifecycle name)))
-on_bucket name action = None
-
 -- Amazon S3 API Reference, CreateBucket
 unfoldable pub create_bucket : Octets → Octets → Fields → Result Operation Refusal
 create_bucket caller text fields = do
@@ -113,25 +98,29 @@ create_bucket caller text fields = do
   name ← bucket_named caller text
   Ok (Bare (Bucket (CreateBucket name locked)))
 
-unfoldable pub bucket_operation : Octets → Octets → List Parameter → Fields → BucketAction → Result Operation Refusal
-bucket_operation caller text parameters fields bucket.Create = create_bucket caller text fields
-bucket_operation caller text parameters fields bucket.Head =
+-- a GET of a bucket with no selector is S3's ListObjects (version 1), which the host doesn't support
+-- Amazon S3 API Reference, each operation's page has its method and selector
+unfoldable pub bucket_operation : Octets → Octets → List Parameter → Fields → Method → Option Selector → Result Operation Refusal
+bucket_operation caller text parameters fields method.Put None = create_bucket caller text fields
+bucket_operation caller text parameters fields method.Get None = Err NotImplemented
+bucket_operation caller text parameters fields method.Get (Some by.ListType) = list_objects caller text parameters
+bucket_operation caller text parameters fields method.Get (Some by.Versions) = list_versions caller text parameters
+bucket_operation caller text parameters fields method.Get (Some by.Uploads) = list_uploads caller text parameters
+bucket_operation caller text parameters fields method.Head None =
     at_name (λ name. Bare (Bucket (HeadBucket name))) (bucket_named caller text)
-bucket_operation caller text parameters fields bucket.Delete =
+bucket_operation caller text parameters fields method.Delete None =
     at_name (λ name. Bare (Bucket (DeleteBucket name))) (bucket_named caller text)
-bucket_operation caller text parameters fields bucket.ListObjects = list_objects caller text parameters
-bucket_operation caller text parameters fields bucket.ListVersions = list_versions caller text parameters
-bucket_operation caller text parameters fields bucket.ListUploads = list_uploads caller text parameters
-bucket_operation caller text parameters fields bucket.GetVersioning =
+bucket_operation caller text parameters fields method.Get (Some by.Versioning) =
     at_name (λ name. Bare (Bucket (GetBucketVersioning name))) (bucket_named caller text)
-bucket_operation caller text parameters fields bucket.PutVersioning =
+bucket_operation caller text parameters fields method.Put (Some by.Versioning) =
     at_name (λ name. ByDocument (PutBucketVersioning name)) (bucket_named caller text)
-bucket_operation caller text parameters fields bucket.GetLifecycle =
+bucket_operation caller text parameters fields method.Get (Some by.Lifecycle) =
     at_name (λ name. Bare (Lifecycle (GetLifecycle name))) (bucket_named caller text)
-bucket_operation caller text parameters fields bucket.PutLifecycle =
+bucket_operation caller text parameters fields method.Put (Some by.Lifecycle) =
     at_name (λ name. ByDocument (PutLifecycle name)) (bucket_named caller text)
-bucket_operation caller text parameters fields bucket.DeleteLifecycle =
+bucket_operation caller text parameters fields method.Delete (Some by.Lifecycle) =
     at_name (λ name. Bare (Lifecycle (DeleteLifecycle name))) (bucket_named caller text)
+bucket_operation caller text parameters fields m selector = Err MethodNotAllowed
 
 -- Amazon S3 API Reference, PutObject
 unfoldable pub put_object : Octets → Octets → Octets → Fields → Result Operation Refusal
@@ -172,55 +161,69 @@ list_parts caller text key parameters = do
   name ← object_named caller text key
   Ok (Bare (Upload (ListParts name (upload_in parameters) page)))
 
--- the operation of an action that needs only an object's name and an optional id
-abbrev pub on_object : ObjectName → List Parameter → ObjectAction → Option Operation
-on_object name parameters object.Head = Some (Bare (Object (HeadObject name (version_in parameters))))
-on_object name parameters object.Delete = Some (Bare (Object (DeleteObject name (version_in parameters))))
-on_object name parameters object.GetRetention = Some (Bare (Object (GetRetention name (version_in parameters))))
-on_object name parameters object.PutRetention = Some (ByDocument (PutRetention name (version_in parameters)))
-on_object name parameters object.CreateUpload = Some (Bare (Upload (CreateMultipartUpload name)))
-on_object name parameters object.CompleteUpload = Some (ByDocument (CompleteMultipartUpload name (upload_in parameters)))
-on_object name parameters object.AbortUpload = Some (Bare (Upload (AbortMultipartUpload name (upload_in parameters))))
-on_object name parameters action = None
+-- whether there is a part number
+abbrev pub is_numbered : List Parameter → Bool
+is_numbered parameters = is_given (codes "partNumber") parameters
 
-unfoldable pub object_operation : Octets → Octets → Octets → List Parameter → Fields → ObjectAction → Result Operation Refusal
-object_operation caller text key parameters fields object.Put = put_object caller text key fields
-object_operation caller text key parameters fields object.Copy = copy_object caller text key fields
-object_operation caller text key parameters fields object.Get =
+-- whether there is a copy source
+abbrev pub is_copy : Fields → Bool
+is_copy fields = stands (copy_source fields)
+
+-- a PUT of an object without a selector
+abbrev pub put : Octets → Octets → Octets → Fields → Result Operation Refusal
+put caller text key fields = if is_copy fields then copy_object caller text key fields else put_object caller text key fields
+
+-- Amazon S3 API Reference, GetObject
+unfoldable pub get_object : Octets → Octets → Octets → List Parameter → Fields → Result Operation Refusal
+get_object caller text key parameters fields =
     at_name (λ name. GetObject name (version_in parameters) (range_in fields)) (object_named caller text key)
-object_operation caller text key parameters fields object.Head =
-    at_name (λ name. Bare (Object (HeadObject name (version_in parameters)))) (object_named caller text key)
-object_operation caller text key parameters fields object.Delete =
-    at_name (λ name. Bare (Object (DeleteObject name (version_in parameters)))) (object_named caller text key)
-object_operation caller text key parameters fields object.GetRetention =
-    at_name (λ name. Bare (Object (GetRetention name (version_in parameters)))) (object_named caller text key)
-object_operation caller text key parameters fields object.PutRetention =
-    at_name (λ name. ByDocument (PutRetention name (version_in parameters))) (object_named caller text key)
-object_operation caller text key parameters fields object.CreateUpload =
+
+-- a part needs its number; S3's UploadPartCopy is not supported
+abbrev pub put_part : Octets → Octets → Octets → List Parameter → Fields → Result Operation Refusal
+put_part caller text key parameters fields =
+    if is_numbered parameters
+    then (if is_copy fields then Err NotImplemented else upload_part caller text key parameters fields)
+    else Err InvalidArgument
+
+-- an operation on an object itself has no part number
+-- Amazon S3 API Reference, each operation's page has its method and selector
+abbrev pub unnumbered : List Parameter → Result Operation Refusal → Result Operation Refusal
+unnumbered parameters operation = if is_numbered parameters then Err InvalidArgument else operation
+
+unfoldable pub object_operation : Octets → Octets → Octets → List Parameter → Fields → Method → Option Selector → Result Operation Refusal
+object_operation caller text key parameters fields method.Put None = unnumbered parameters (put caller text key fields)
+object_operation caller text key parameters fields method.Get None = unnumbered parameters (get_object caller text key parameters fields)
+object_operation caller text key parameters fields method.Head None =
+    unnumbered parameters (at_name (λ name. Bare (Object (HeadObject name (version_in parameters)))) (object_named caller text key))
+object_operation caller text key parameters fields method.Delete None =
+    unnumbered parameters (at_name (λ name. Bare (Object (DeleteObject name (version_in parameters)))) (object_named caller text key))
+object_operation caller text key parameters fields m None = unnumbered parameters (Err MethodNotAllowed)
+object_operation caller text key parameters fields method.Put (Some by.UploadId) = put_part caller text key parameters fields
+object_operation caller text key parameters fields method.Get (Some by.UploadId) = list_parts caller text key parameters
+object_operation caller text key parameters fields method.Post (Some by.Uploads) =
     at_name (λ name. Bare (Upload (CreateMultipartUpload name))) (object_named caller text key)
-object_operation caller text key parameters fields object.UploadPart = upload_part caller text key parameters fields
-object_operation caller text key parameters fields object.ListParts = list_parts caller text key parameters
-object_operation caller text key parameters fields object.CompleteUpload =
+object_operation caller text key parameters fields method.Post (Some by.UploadId) =
     at_name (λ name. ByDocument (CompleteMultipartUpload name (upload_in parameters))) (object_named caller text key)
-object_operation caller text key parameters fields object.AbortUpload =
+object_operation caller text key parameters fields method.Delete (Some by.UploadId) =
     at_name (λ name. Bare (Upload (AbortMultipartUpload name (upload_in parameters)))) (object_named caller text key)
+object_operation caller text key parameters fields method.Get (Some by.Retention) =
+    at_name (λ name. Bare (Object (GetRetention name (version_in parameters)))) (object_named caller text key)
+object_operation caller text key parameters fields method.Put (Some by.Retention) =
+    at_name (λ name. ByDocument (PutRetention name (version_in parameters))) (object_named caller text key)
+object_operation caller text key parameters fields m selector = Err MethodNotAllowed
 
 -- fifth to seventh step
 unfoldable pub operation_at : Octets → Method → List Parameter → Fields → Target → Option Selector → Result Operation Refusal
 operation_at caller m parameters fields target.Host selector = host_operation m selector
-operation_at caller m parameters fields (target.Bucket text) selector = do
-  action ← bucket_action m selector
-  bucket_operation caller text parameters fields action
-operation_at caller m parameters fields (target.Object text key) selector = do
-  action ← object_action m selector (is_given (codes "partNumber") parameters) (stands (copy_source fields))
-  object_operation caller text key parameters fields action
+operation_at caller m parameters fields (target.Bucket text) selector = bucket_operation caller text parameters fields m selector
+operation_at caller m parameters fields (target.Object text key) selector = object_operation caller text key parameters fields m selector
 
 -- third to seventh step
-abbrev pub supported_operation : Octets → Octets → List Parameter → Fields → Target → Result Operation Refusal
-supported_operation caller method parameters fields target = do
-  _ ← supported (method_of method) parameters fields
+abbrev pub supported_operation : Octets → Method → List Parameter → Fields → Target → Result Operation Refusal
+supported_operation caller m parameters fields target = do
+  _ ← supported m parameters fields
   selector ← selected parameters
-  operation_at caller (method_of method) parameters fields target selector
+  operation_at caller m parameters fields target selector
 
 -- the operation of a caller's request, or the first refusal
 unfoldable pub operation : Octets → Taken → Result Operation Refusal
@@ -228,4 +231,4 @@ operation caller request = do
   kind ← routed (path_of request.target)
   target ← target_at kind (path_of request.target)
   parameters ← parameters_in (query_of request.target)
-  supported_operation caller request.method parameters request.fields target
+  supported_operation caller (method_of request.method) parameters request.fields target

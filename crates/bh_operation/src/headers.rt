@@ -6,7 +6,7 @@ ghost use Rattle.bh_http.specs.Views.{pairs_of};
 ghost use Rattle.bh_operation.specs.Headers as spec;
 ghost use Rattle.bh_operation.specs.Queries.{is_unsupported as is_unsupported_name};
 
-use crate::action::Method;
+use crate::method::Method;
 use crate::query::{Parameter, is_unsupported};
 use crate::target::text_of;
 use crate::text::Bytes;

@@ -2,15 +2,18 @@
 //! Refusals have one fixed order.
 #![tactic(auto)]
 
-mod action;
 pub mod address;
 pub mod allow;
+mod buckets;
 mod headers;
 pub mod laws;
+mod method;
 mod number;
+mod objects;
 pub mod operation;
 pub mod page;
 mod query;
+mod read;
 pub mod routes;
 mod source;
 mod target;
