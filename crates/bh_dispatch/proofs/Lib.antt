@@ -6,6 +6,6 @@ pub mod Offering
 pub mod Receiving
 pub mod Operating
 pub mod Documented
-pub mod Unchanged
+pub mod Leaving
 pub mod Piecing
 mod Cutting

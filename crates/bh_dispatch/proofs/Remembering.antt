@@ -41,8 +41,9 @@ use Rattle.bh_memo.proofs.Recalling.{alone, works_holding, works_alone, works_un
 use Rattle.bh_schema.specs.Storage as storage
 use Rattle.sqlite_typed.specs.Tests.{bytes_eq}
 use Rattle.bh_view.proofs.Keys.{octets}
-use Rattle.bh_dispatch.proofs.Unchanged.{stays, told_same}
-use Rattle.bh_dispatch.specs.Telling.{only_tells}
+use Rattle.bh_memo.proofs.Keeping.{holds_kept}
+use Rattle.bh_dispatch.proofs.Leaving.{leaves, done_leaves}
+use Rattle.bh_dispatch.specs.Changing.{changes_buckets}
 use Rattle.bh_dispatch.specs.Seeing.{GoesOn, seen, RecallsOn}
 use Rattle.bh_dispatch.specs.declared.recalling.RecallingStorage.{RecallingStorage}
 use Rattle.bh_dispatch.specs.declared.storage.HostStorage.{HostStorage}
@@ -191,16 +192,16 @@ all_same t old new own others u = elim (bytes_eq u t) as (λ b. bytes_eq u t ≡
   | false ↦ λ e. others u (λ same. true≢false (sym ((octets.decides u t).1 same) ∙ e))
 ] refl
 
--- an operation that only tells changes nothing that is remembered
-pub tells_so : (facts : Facts) (limits : HostLimits) (at : ℕ) (t : Octets) (operation : Operation) → only_tells operation ≡ true → (start end : Coming) (read old new : Tables) (clean : Type 0) → (clean → holds facts old ≡ true)
+-- an operation that changes no bucket itself leaves each fact as it is
+pub leaves_so : (facts : Facts) (limits : HostLimits) (at : ℕ) (t : Octets) (operation : Operation) → changes_buckets operation ≡ false → (start end : Coming) (read old new : Tables) (clean : Type 0) → (clean → holds facts old ≡ true)
     → (result : Result (Outcome Offer Rejection) (StepError Rejection)) → Operates (offer_view read) t (λ given. operated limits at given operation) clean start end old new result → UnlessSpoilt result (clean → holds facts new ≡ true)
-tells_so facts limits at t operation tells start end read old new clean held (Ok (Done x)) h = λ c.
+leaves_so facts limits at t operation changes start end read old new clean held (Ok (Done x)) h = λ c.
     let it = h.carries c in
-    let own = told_same (view old t) (view new t) (operated limits at h.given operation (view old t)) (offer_view read x) (stays (view old t) limits at h.given operation tells) it.gives in
-    holds_same facts old new (all_same t old new own it.others) it.latest (held c)
-tells_so facts limits at t operation tells start end read old new clean held (Ok (Spoilt r)) h = tt
-tells_so facts limits at t operation tells start end read old new clean held (Err (Refused r)) h = λ c. ap (holds facts) (h.carries c).1 ∙ held c
-tells_so facts limits at t operation tells start end read old new clean held (Err (Failed trouble)) h = tt
+    let own = done_leaves (view old t) (view new t) (operated limits at h.given operation (view old t)) (offer_view read x) (leaves (view old t) at limits h.given operation changes) it.gives in
+    holds_kept t old new it.others facts own it.latest (held c)
+leaves_so facts limits at t operation changes start end read old new clean held (Ok (Spoilt r)) h = tt
+leaves_so facts limits at t operation changes start end read old new clean held (Err (Refused r)) h = λ c. ap (holds facts) (h.carries c).1 ∙ held c
+leaves_so facts limits at t operation changes start end read old new clean held (Err (Failed trouble)) h = tt
 
 pub none_so : (facts : Facts) (tables : Tables) → facts ≡ nothing → holds facts tables ≡ true
 none_so facts tables is = ap (λ f. holds f tables) is

@@ -2,4 +2,4 @@ pub mod Documents
 pub mod Operating
 pub mod Seeing
 pub mod Stored
-pub mod Telling
+pub mod Changing

@@ -4,6 +4,7 @@
 
 mod answers;
 pub mod asked;
+mod changing;
 mod commands;
 mod documents;
 pub mod lifecycle;
@@ -11,5 +12,4 @@ mod listings;
 pub mod operations;
 pub mod recalling;
 pub mod storage;
-mod telling;
 pub mod uploads;

@@ -15,9 +15,9 @@ ghost use Rattle.bh_objects.specs.Found.{mode_in};
 ghost use Rattle.bh_dispatch.specs.Seeing.{seen, RecallsOn};
 ghost use Rattle.bh_dispatch.specs.Stored.{CutsBody};
 
+use crate::changing::changes_buckets;
 use crate::operations::bytes_of;
 use crate::storage::{HostStorage, block_size_of};
-use crate::telling::only_tells;
 use bh_event::event::Command;
 use bh_http::body::{Body, drain};
 use bh_memo::memo::Memo;
@@ -200,12 +200,12 @@ impl<S: Alter + Drop, P: Shelf + Drop, D: Digester + Drop> RecallingStorage<S, P
                 version,
                 range,
             } => self.get_object(tenant, object, *version, bytes_of(range), body),
-            _ if only_tells(operation) => {
+            _ if changes_buckets(operation) => {
+                self.memo.forget(tenant);
                 let storage = &mut self.storage;
                 storage.operate_in_blocks(size, alloc, tenant, at, operation, body)
             }
             _ => {
-                self.memo.forget(tenant);
                 let storage = &mut self.storage;
                 storage.operate_in_blocks(size, alloc, tenant, at, operation, body)
             }

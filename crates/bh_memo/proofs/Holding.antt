@@ -63,7 +63,7 @@ holds_nothing tables = refl
 
 -- ---- the tables change
 
-same_latest_fact : (latest : Option ℕ) (old new : Tables) → latest_of new ≡ latest_of old → is_latest latest old ≡ true → is_latest latest new ≡ true
+pub same_latest_fact : (latest : Option ℕ) (old new : Tables) → latest_of new ≡ latest_of old → is_latest latest old ≡ true → is_latest latest new ≡ true
 same_latest_fact latest old new same h = ap (λ n. option_map_or (λ m. nat_eq m n) latest true) same ∙ h
 
 -- no tenant sees it

@@ -62,14 +62,14 @@ module _ {X : Type 0} (p : X → Bool) where
   abbrev all_of : List (Octets × X) → Bool
   all_of es = list_all (λ e. p e.1) es
 
-  found_of : (q : Octets) (es : List (Octets × X)) (v : X) → map.find octets_cmp q es ≡ Some v → all_of es ≡ true → p v ≡ true
+  pub found_of : (q : Octets) (es : List (Octets × X)) (v : X) → map.find octets_cmp q es ≡ Some v → all_of es ≡ true → p v ≡ true
   found_of q [] v is all = absurd (none_some is)
   found_of q (e ∷ es) v is all = elim (eq_by_cmp octets_cmp q e.0) as (λ b. cond b (Some e.1) (map.find octets_cmp q es) ≡ Some v → p v ≡ true) [
     | true ↦ λ here. ap p (sym (same_Some here)) ∙ (and_parts _ _ all).0
     | false ↦ λ later. found_of q es v later (and_parts _ _ all).1
   ] is
 
-  put_of : (k : Octets) (v : X) (es : List (Octets × X)) → p v ≡ true → all_of es ≡ true → all_of (put octets_cmp k v es) ≡ true
+  pub put_of : (k : Octets) (v : X) (es : List (Octets × X)) → p v ≡ true → all_of es ≡ true → all_of (put octets_cmp k v es) ≡ true
   put_of k v [] new all = both_true new refl
   put_of k v (e ∷ es) new all =
       let parts = and_parts _ _ all in

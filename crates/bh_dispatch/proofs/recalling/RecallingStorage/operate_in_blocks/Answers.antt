@@ -8,7 +8,7 @@ use Rattle.bh_memo.proofs.Recalling.{same_limits}
 use Rattle.bh_schema.specs.Storage as storage
 use Rattle.bh_dispatch.specs.Seeing.{seen}
 use Rattle.bh_dispatch.proofs.Cutting.{cuts_no_object}
-use Rattle.bh_dispatch.proofs.Remembering.{unless_spoilt, finds, tells_so, so, alone_is, host_works}
+use Rattle.bh_dispatch.proofs.Remembering.{unless_spoilt, finds, leaves_so, so, alone_is, host_works}
 use Rattle.bh_dispatch.proofs.recalling.RecallingStorage.operate_in_blocks.Goals as goal
 
 pub get_object-requires-clause-going : goal.get_object-requires-clause-going
@@ -53,7 +53,7 @@ pub returns-in_default : goal.returns-in_default
 returns-in_default g c =
     let digest = g.D.Digester.digest_of in
     let old = c.args.self.now in
-    let new = record old { storage = c.operate_in_blocks.new.self } in
+    let new = record old { storage = c.operate_in_blocks.new.self; memo = c.forget.new.self } in
     let h = c.operate_in_blocks.ensures in
     let w = h.goes_on.within in
     let a = storage.seen g.S.Store g.P.Shelf old.storage.host in
@@ -65,19 +65,20 @@ returns-in_default g c =
     let start = g.B.Body.coming c.args.body.now in
     let end = g.B.Body.coming c.operate_in_blocks.new.body in
     let was = λ (clean : Clean). alone_is g.S.Store g.P.Shelf digest old c.requires.working (first clean) in
-    let it = tells_so old.memo a.limits c.args.at t c.args.operation.now (sym c.only_tells.ensures ∙ c.if-only_tells.true) start end b.now a.now b.now Clean (λ clean. so g.S.Store g.P.Shelf digest old c.requires.working (first clean)) c.operate_in_blocks.result h.operates in
+    let it = forgotten old.memo c.forget.new.self a b Clean was t step start end (record { latest = c.forget.ensures.latest; quiet = c.forget.ensures.quiet; buckets = c.forget.ensures.buckets; secrets = c.forget.ensures.secrets })
+    (λ clean. so g.S.Store g.P.Shelf digest old c.requires.working (first clean)) c.operate_in_blocks.result h.operates in
     record {
       goes_on = unless_spoilt g.S.Store g.P.Shelf digest old new c.operate_in_blocks.result h.goes_on it;
       cuts = h.cuts;
-      operates = rw (same_limits old.memo a) (operates_shown old.memo old.memo a b Clean was t step start end c.operate_in_blocks.result it h.operates);
-      measured = measured_shown old.memo old.memo a b Clean was c.operate_in_blocks.result it h.measured;
+      operates = rw (same_limits old.memo a) (operates_shown old.memo c.forget.new.self a b Clean was t step start end c.operate_in_blocks.result it h.operates);
+      measured = measured_shown old.memo c.forget.new.self a b Clean was c.operate_in_blocks.result it h.measured;
     }
 
 pub returns-in_default-2 : goal.returns-in_default-2
 returns-in_default-2 g c =
     let digest = g.D.Digester.digest_of in
     let old = c.args.self.now in
-    let new = record old { storage = c.operate_in_blocks-in_default-2.new.self; memo = c.forget.new.self } in
+    let new = record old { storage = c.operate_in_blocks-in_default-2.new.self } in
     let h = c.operate_in_blocks-in_default-2.ensures in
     let w = h.goes_on.within in
     let a = storage.seen g.S.Store g.P.Shelf old.storage.host in
@@ -89,11 +90,10 @@ returns-in_default-2 g c =
     let start = g.B.Body.coming c.args.body.now in
     let end = g.B.Body.coming c.operate_in_blocks-in_default-2.new.body in
     let was = λ (clean : Clean). alone_is g.S.Store g.P.Shelf digest old c.requires.working (first clean) in
-    let it = forgotten old.memo c.forget.new.self a b Clean was t step start end (record { latest = c.forget.ensures.latest; quiet = c.forget.ensures.quiet; buckets = c.forget.ensures.buckets; secrets = c.forget.ensures.secrets })
-    (λ clean. so g.S.Store g.P.Shelf digest old c.requires.working (first clean)) c.operate_in_blocks-in_default-2.result h.operates in
+    let it = leaves_so old.memo a.limits c.args.at t c.args.operation.now (sym c.changes_buckets.ensures ∙ c.if-changes_buckets.false) start end b.now a.now b.now Clean (λ clean. so g.S.Store g.P.Shelf digest old c.requires.working (first clean)) c.operate_in_blocks-in_default-2.result h.operates in
     record {
       goes_on = unless_spoilt g.S.Store g.P.Shelf digest old new c.operate_in_blocks-in_default-2.result h.goes_on it;
       cuts = h.cuts;
-      operates = rw (same_limits old.memo a) (operates_shown old.memo c.forget.new.self a b Clean was t step start end c.operate_in_blocks-in_default-2.result it h.operates);
-      measured = measured_shown old.memo c.forget.new.self a b Clean was c.operate_in_blocks-in_default-2.result it h.measured;
+      operates = rw (same_limits old.memo a) (operates_shown old.memo old.memo a b Clean was t step start end c.operate_in_blocks-in_default-2.result it h.operates);
+      measured = measured_shown old.memo old.memo a b Clean was c.operate_in_blocks-in_default-2.result it h.measured;
     }
