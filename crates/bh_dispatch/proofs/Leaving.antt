@@ -1,5 +1,5 @@
 -- An operation that changes no bucket itself leaves what is remembered of its tenant as it is.
-use Rattle.std.proofs.Common.{◌≡◌, ℕ, true, false, true≢false, length, map, List, Option, Some, None, option_map, Result, Ok, Err, refl, subst, IfOk}
+use Rattle.std.proofs.Common.{◌≡◌, ℕ, true, false, true≢false, length, map, List, Option, Some, option_map, Result, Ok, Err, refl, subst, IfOk}
 use Rattle.std.specs.Prelude.{ok_or}
 use Rattle.std.specs.FinMap.{get}
 use Rattle.bh_types.specs.Checksums.{checksum_text}
@@ -187,10 +187,10 @@ module _ (s : Option State) (moment : ℕ) where
 
   pub leaves : (limits : HostLimits) (body : Octets) (operation : Operation) → changes_buckets operation ≡ false → Leaves s (operated limits moment body operation s)
   unfolding operated
-  leaves limits body (Bare operation) leaves = bare_leaves operation leaves
-  leaves limits body (ByDocument operation) leaves = document_leaves limits body operation leaves
-  leaves limits body (Store operation) leaves = store_leaves body operation
-  leaves limits body (GetObject object version range) leaves =
+  leaves limits body (Bare operation) none = bare_leaves operation none
+  leaves limits body (ByDocument operation) none = document_leaves limits body operation none
+  leaves limits body (Store operation) none = store_leaves body operation
+  leaves limits body (GetObject object version range) none =
       then_leaves s (wanted_version object.bucket object.key version s) _ (λ f. then_leaves s (planned range (length f.1.bytes)) _ (λ plan. same s))
 
 -- so does a step that is done

@@ -35,13 +35,13 @@ use Rattle.bh_view.specs.View.{view}
 use Rattle.bh_memo.specs.Facts.{Facts, nothing, has_no_rule, has_state, is_accepted, holds}
 use Rattle.bh_memo.specs.Recalled.{recalled}
 use Rattle.bh_memo.proofs.Calls.{ok_with, unless_with, spoilt_with, within_recalled, within_then, goes_on, stays_same}
-use Rattle.bh_memo.proofs.Holding.{holds_same, Forgets, AddsQuiet, AddsBucket, AddsSecret, holds_others, holds_stamped, holds_quiet, holds_bucket, holds_secret, mode_of_bucket, state_by}
+use Rattle.bh_memo.proofs.Holding.{holds_same, AddsQuiet, AddsBucket, AddsSecret, holds_stamped, holds_quiet, holds_bucket, holds_secret, mode_of_bucket, state_by}
 use Rattle.bh_memo.proofs.Rules.{purged_same}
 use Rattle.bh_memo.proofs.Recalling.{alone, works_holding, works_alone, works_under}
 use Rattle.bh_schema.specs.Storage as storage
 use Rattle.sqlite_typed.specs.Tests.{bytes_eq}
 use Rattle.bh_view.proofs.Keys.{octets}
-use Rattle.bh_memo.proofs.Keeping.{holds_kept}
+use Rattle.bh_memo.proofs.Keeping.{Keeps, purge_keeps, holds_kept}
 use Rattle.bh_dispatch.proofs.Leaving.{leaves, done_leaves}
 use Rattle.bh_dispatch.specs.Changing.{changes_buckets}
 use Rattle.bh_dispatch.specs.Seeing.{GoesOn, seen, RecallsOn}
@@ -126,9 +126,12 @@ module _ {S P D : Type 0} (g : Ghosts S) (k : Shelves P) where
         ap (λ f. holds f (storage.seen g k b.host).now) is ∙ holds_stamped old.memo m (storage.seen g k old.storage.host).now (storage.seen g k b.host).now it.views it.latest (held clean)
 
     module _ (t : Octets) (at : ℕ) (purges : Clean → Purges t at (storage.seen g k old.storage.host).now (storage.seen g k b.host).now) where
-      -- a tenant has rules, and what is remembered of it is forgotten
-      pub ruled_so : Forgets t old.memo after → Clean → holds after (storage.seen g k b.host).now ≡ true
-      ruled_so forgets clean = let it = purges clean in holds_others t old.memo after (storage.seen g k old.storage.host).now (storage.seen g k b.host).now forgets it.others it.latest (held clean)
+      -- a tenant has rules: what is remembered of it stays
+      pub ruled_so : Clean → holds old.memo (storage.seen g k b.host).now ≡ true
+      ruled_so clean =
+          let it = purges clean in
+          let a = (storage.seen g k old.storage.host).now in
+          holds_kept t a (storage.seen g k b.host).now it.others old.memo (subst (Keeps (view a t)) (sym it.own) (purge_keeps (view a t) at)) it.latest (held clean)
 
       -- it has none, and that is remembered
       pub quiet_so : AddsQuiet t old.memo after → (Clean → has_no_rule (view (storage.seen g k old.storage.host).now t) ≡ true) → Clean → holds after (storage.seen g k b.host).now ≡ true

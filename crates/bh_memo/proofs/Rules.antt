@@ -84,7 +84,7 @@ module _ {X : Type 0} (p : X → Bool) where
   entries_none [] h = refl
   entries_none (e ∷ es) h = absurd (omega (arith, h))
 
-  made_of : (es : List (Octets × X)) → all_of es ≡ true → all_of (entries (from_entries {R = octets_cmp} es)) ≡ true
+  pub made_of : (es : List (Octets × X)) → all_of es ≡ true → all_of (entries (from_entries {R = octets_cmp} es)) ≡ true
   made_of [] all = entries_none _ (sym (len-entries (empty {X = X} {R = octets_cmp})) ∙ len-empty octets_cmp X)
   made_of (e ∷ es) all =
       let parts = and_parts _ _ all in
