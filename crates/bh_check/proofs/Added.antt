@@ -1,10 +1,9 @@
 -- A sum that grows.
-use Rattle.std.proofs.Common.{arith, ◌≡◌, inl, inr, ℕ, ◌+◌, pos, Bool, true, false, ◌&&◌, cond, List, if◌then◌else◌, Option, Some, None, unwrap_or, refl, sym, ap, ap₂, ◌∙◌, subst, Ordering, Less, Equal, Greater}
+use Rattle.std.proofs.Common.{arith, ◌≡◌, ℕ, ◌+◌, pos, Bool, true, false, ◌&&◌, cond, if◌then◌else◌, Some, unwrap_or, refl, ap, ◌∙◌, Ordering, Less, Equal, Greater}
 use Rattle.std.specs.Ordering.{nat_cmp, int_eq, is_eq, ordering_then}
 use Rattle.std.specs.Cmp.Lexicographic.{slice_cmp}
-use Rattle.std.specs.BTreeMap.{BTreeMap, get, is_at, Updates}
+use Rattle.std.specs.BTreeMap.{BTreeMap, get, Updates}
 use Rattle.std.specs.Map.{lookup}
-use Rattle.std.proofs.lemmas.Bool.{cases_Bool}
 use Rattle.std.proofs.lemmas.Int.{ints}
 use Rattle.bh_tables.specs.Bodies.{Name, same_name}
 use Rattle.bh_tables.proofs.TotalLemmas.{name_Decides}

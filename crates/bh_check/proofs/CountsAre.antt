@@ -1,12 +1,12 @@
 -- The rows that count the references to each block are the typed rows that a host keeps.
-use Rattle.std.proofs.Common.{arith, ◌≡◌, ℕ, ◌+◌, pos, true, List, [], ◌∷◌, length, map, filter, refl, sym, ap, ap₂, ◌∙◌, sum_by}
+use Rattle.std.proofs.Common.{arith, ◌≡◌, ℕ, pos, true, List, [], ◌∷◌, length, map, filter, refl, sym, ap, ap₂, ◌∙◌, sum_by}
 use Rattle.std.specs.List.{AllByRecursion, AllZip}
 use Rattle.std.proofs.lemmas.List.Sums.{sum_by-cons}
 use Rattle.sqlite.specs.Order.{Row}
 use Rattle.sqlite.specs.Tree.{Trees}
 use Rattle.bh_rows.specs.Form.{typed}
-use Rattle.bh_tables.specs.Bodies.{Name, same_name, ref_name, block_name}
-use Rattle.bh_tables.specs.Typed.{RefRow, use_of, use_form, use_among, ref_of, ref_form, block_of, block_form}
+use Rattle.bh_tables.specs.Bodies.{Name, same_name, ref_name}
+use Rattle.bh_tables.specs.Typed.{RefRow, use_form, use_among, ref_of, ref_form, block_form}
 use Rattle.bh_stored.specs.Cells.{is_fit}
 use Rattle.bh_stored.specs.Fits.{use_kinds}
 use Rattle.bh_stored.proofs.Fitted.{count_is}

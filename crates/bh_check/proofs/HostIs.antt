@@ -1,16 +1,16 @@
 -- The rows that were checked are typed rows.
-use Rattle.std.proofs.Common.{◌≡◌, ℕ, pos, ◌+◌, sum_by, filter, Bool, true, false, ◌&&◌, List, [], ◌∷◌, ◌++◌, map, flat_map, refl, sym, ap, ap₂, ◌∙◌}
+use Rattle.std.proofs.Common.{◌≡◌, ℕ, pos, ◌+◌, sum_by, filter, true, ◌&&◌, List, [], ◌∷◌, ◌++◌, flat_map, refl, sym, ap, ap₂, ◌∙◌}
 use Rattle.std.specs.List.{AllByRecursion}
 use Rattle.std.specs.Ordering.{int_eq}
 use Rattle.sqlite.specs.Effect.{Database}
-use Rattle.sqlite.specs.Order.{Row, column}
+use Rattle.sqlite.specs.Order.{column}
 use Rattle.sqlite.specs.Tree.{Trees}
 use Rattle.sqlite_keyed.proofs.ListLemmas.{all_from_test, all_both, all_map}
 use Rattle.sqlite_typed.specs.Columns.{bytes_of, int_of}
 use Rattle.sqlite_typed.specs.Tests.{bytes_eq}
 use Rattle.bh_rows.specs.Form.{typed}
 use Rattle.bh_tables.specs.Schema.{Octets, host_schema}
-use Rattle.bh_tables.specs.Bodies.{resolved, resolved_part, same_name}
+use Rattle.bh_tables.specs.Bodies.{resolved, resolved_part}
 use Rattle.bh_tables.specs.Typed.{Totals, totals_of, tables_in, raw, unfilled_trees, AreHeld, TenantColumns, UploadColumns, VersionRow, PartRow, tenant_columns, upload_columns, tenant_form, stored_tenant_form, upload_form, stored_upload_form, block_form, ref_form, tally_form, garbage_form, version_of, part_of, bytes_used, bytes_kept}
 use Rattle.bh_tables.proofs.StoredLemmas.{Uses, Keeps, held_shown}
 use Rattle.bh_stored.specs.Cells.{is_fit}

@@ -1,5 +1,5 @@
 -- What a check of the store that a connection leaves says of the connection's tables.
-use Rattle.std.proofs.Common.{arith, ◌≡◌, ◌⊎◌, ◌≤◌, ℕ, length, IsTrue, Result, Ok, Err, IfOk, refl, sym, ap, ◌∙◌, subst}
+use Rattle.std.proofs.Common.{arith, ◌≡◌, ◌⊎◌, ◌≤◌, length, IsTrue, Result, Ok, Err, IfOk, sym, ap, ◌∙◌, subst}
 use Rattle.sqlite.specs.Effect.{Database, IsDatabase}
 use Rattle.sqlite.specs.Held.{Held, state}
 use Rattle.sqlite.specs.State.{IsLive}
@@ -18,7 +18,7 @@ use Rattle.bh_open.specs.Packed.{tables_beside}
 use Rattle.bh_check.specs.Awaits.{HasReached}
 use Rattle.bh_check.proofs.ListedPacks.{opened_beside}
 use Rattle.bh_base.specs.Layer.{IsStateClean, IsIntact, IsOpen}
-use Rattle.bh_base.specs.Placed.{filled_trees, filled}
+use Rattle.bh_base.specs.Placed.{filled_trees}
 use Rattle.bh_stored.specs.Stored.{seen}
 use Rattle.bh_stored.specs.declared.stored.Edition.{Edition}
 use Rattle.bh_stored.specs.declared.stored.Edition.TheVariants.{Fifth}

@@ -1,9 +1,8 @@
 -- Sums that were looked up are those over the rows.
-use Rattle.std.proofs.Common.{◌≡◌, ℕ, List, refl, sym, ap, ◌∙◌, subst, subst₂}
+use Rattle.std.proofs.Common.{◌≡◌, ℕ, List, ◌∙◌, subst, subst₂}
 use Rattle.sqlite.specs.Order.{Row}
 use Rattle.sqlite.specs.Tree.{Trees}
 use Rattle.bh_tables.specs.Bodies.{Name}
-use Rattle.bh_check.specs.Sums.{Keeps}
 use Rattle.bh_check.specs.Holds.{owner, first_two, part_body, next_entry, next_version, body_bytes, body_refs, body_versions, IsVersionBy, IsPartBy, IsVersionMeasured, IsPartMeasured, Holds}
 use Rattle.bh_check.specs.declared.rows.PartTotals.{PartTotals}
 use Rattle.bh_check.specs.declared.rows.VersionTotals.{VersionTotals}

@@ -1,14 +1,13 @@
 -- The bytes of a body, from the references and blocks that were found.
-use Rattle.std.proofs.Common.{arith, ◌≡◌, inl, inr, ℕ, zero, suc, ◌+◌, ◌<◌, ◌≤◌, Bool, true, false, ◌&&◌, cond, if◌then◌else◌, List, [], ◌∷◌, ◌++◌, append_assoc, append-nil, length, length-append, take, drop, get_or, map, filter, Option, Some, refl, sym, ap, ap₂, ◌∙◌, subst, sum_by}
-use Rattle.std.specs.List.{AllByRecursion, list_all, flat_map}
+use Rattle.std.proofs.Common.{arith, ◌≡◌, inl, inr, ℕ, zero, suc, ◌+◌, ◌<◌, ◌≤◌, Bool, true, false, cond, if◌then◌else◌, List, [], ◌∷◌, ◌++◌, append_assoc, append-nil, length, length-append, take, drop, get_or, map, filter, Some, refl, sym, ap, ap₂, ◌∙◌, subst}
+use Rattle.std.specs.List.{list_all}
 use Rattle.std.specs.Option.{option_map_or}
-use Rattle.std.proofs.lemmas.Bool.{cases_Bool, and_parts}
+use Rattle.std.proofs.lemmas.Bool.{cases_Bool}
 use Rattle.std.proofs.lemmas.List.{take-append-drop}
 use Rattle.std.proofs.lemmas.List.Sums.{sum_by-cons}
 use Rattle.sqlite.specs.Order.{Row}
 use Rattle.sqlite_keyed.proofs.ListLemmas.{filter-map, filter_all, all_from_test}
 use Rattle.bh_rows.specs.Form.{typed}
-use Rattle.bh_tables.specs.Schema.{Octets}
 use Rattle.bh_tables.specs.Bodies.{Name, same_name, block_name, block_at, first}
 use Rattle.bh_tables.specs.Typed.{BlockRow, block_of, block_form}
 use Rattle.bh_check.specs.Blocks.{block_octets, AreNamed, refs_of, named_octets}

@@ -1,12 +1,12 @@
 -- A walk over blocks that hold different bytes.
-use Rattle.std.proofs.Common.{arith, ◌≡◌, inl, inr, ℕ, zero, suc, ◌+◌, ◌<◌, ◌≤◌, Bool, true, false, ◌||◌, List, [], ◌∷◌, ◌++◌, length, take, get_or, filter, refl, sym, ap, ◌∙◌, subst}
+use Rattle.std.proofs.Common.{arith, ◌≡◌, inl, inr, ℕ, zero, suc, ◌+◌, ◌<◌, ◌≤◌, Bool, true, false, ◌||◌, List, [], ◌∷◌, ◌++◌, length, take, get_or, refl, sym, ap, ◌∙◌, subst}
 use Rattle.std.specs.List.{AllByRecursion, list_any}
 use Rattle.std.proofs.lemmas.Bool.{cases_Bool}
 use Rattle.sqlite.specs.Order.{Row, column}
 use Rattle.sqlite_typed.specs.Columns.{bytes_of}
 use Rattle.sqlite_typed.specs.Tests.{bytes_eq}
 use Rattle.bh_tables.specs.Schema.{Octets}
-use Rattle.bh_tables.specs.Bodies.{Name, same_name}
+use Rattle.bh_tables.specs.Bodies.{same_name}
 use Rattle.bh_tables.proofs.TotalLemmas.{bytes_Decides, name_Decides}
 use Rattle.bh_view.proofs.FactLemmas.{unique_pushed}
 use Rattle.bh_view.proofs.Keys.{octets}

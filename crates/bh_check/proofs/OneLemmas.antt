@@ -1,5 +1,5 @@
 -- The unique indexes of a host's schema hold the rows apart: of each key there is one at most.
-use Rattle.std.proofs.Common.{arith, ◌≡◌, inl, inr, ℕ, ℤ, ◌≤◌, pos, Bool, true, false, ◌&&◌, List, [], ◌∷◌, length, filter, find, Option, Some, None, cond, refl, sym, ap, ◌∙◌, subst, codes}
+use Rattle.std.proofs.Common.{arith, ◌≡◌, inl, inr, ℕ, ◌≤◌, pos, Bool, true, false, ◌&&◌, List, [], ◌∷◌, length, filter, find, Option, Some, None, cond, refl, sym, ap, ◌∙◌, subst, codes}
 use Rattle.std.specs.Cmp.{signed_Decides}
 use Rattle.std.specs.Cmp.Derive.{both_true}
 use Rattle.std.specs.Ordering.{int_eq}
@@ -7,13 +7,12 @@ use Rattle.std.proofs.lemmas.Bool.{and_parts, cases_Bool}
 use Rattle.sqlite.specs.Effect.{IsDatabase}
 use Rattle.sqlite.specs.Tree.{Trees}
 use Rattle.sqlite_sql.specs.declared.ops.CompareOp.TheVariants.{Eq}
-use Rattle.sqlite_value.specs.Keys.{plain, first_key}
+use Rattle.sqlite_value.specs.Keys.{first_key}
 use Rattle.sqlite_schema.specs.declared.schema.Constraint.TheVariants.{Unique}
-use Rattle.sqlite_schema.specs.Rules.{agree}
 use Rattle.sqlite_tied.specs.Compute.{everything}
 use Rattle.sqlite_typed.specs.Tests.{bytes_eq}
 use Rattle.sqlite_typed.proofs.TestLemmas.{at_texts, at_blobs, at_ints, last_term, then_term}
-use Rattle.bh_rows.specs.Form.{put, typed}
+use Rattle.bh_rows.specs.Form.{typed}
 use Rattle.bh_rows.proofs.ObeyedLemmas.{one_passes}
 use Rattle.bh_tables.specs.Schema.{Octets, tenants_table, keys_table, buckets_table, versions_table, blocks_table, uploads_table, parts_table, locks_table, retains_table, at, auto}
 use Rattle.bh_tables.specs.Typed.{Totals, TenantRow, KeyRow, BucketRow, VersionColumns, BlockRow, UploadRow, PartColumns, tenant_form, key_form, bucket_form, version_form, block_form, upload_form, part_form, LockRow, RetainRow, lock_form, retain_form, raw, AreHeld}

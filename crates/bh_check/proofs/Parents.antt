@@ -1,5 +1,5 @@
 -- The foreign keys of a host's schema: where a parent is not there, no row names it.
-use Rattle.std.proofs.Common.{◌≡◌, inl, inr, ℕ, pos, Bool, true, false, ◌&&◌, ◌||◌, List, [], ◌∷◌, filter, Option, Some, None, cond, refl, sym, ap, subst, ◌∙◌, codes}
+use Rattle.std.proofs.Common.{◌≡◌, inl, inr, ℕ, pos, Bool, true, false, ◌&&◌, ◌||◌, List, [], ◌∷◌, filter, Some, None, cond, refl, sym, ap, subst, ◌∙◌, codes}
 use Rattle.std.specs.List.{list_any}
 use Rattle.std.specs.Ordering.{int_eq}
 use Rattle.std.specs.Cmp.Derive.{both_true}
@@ -18,7 +18,7 @@ use Rattle.sqlite_keyed.proofs.ListLemmas.{none_from_any, filter_none}
 use Rattle.bh_rows.specs.Form.{typed}
 use Rattle.bh_rows.proofs.ObeyedLemmas.{has_parents}
 use Rattle.bh_tables.specs.Schema.{Octets, host_schema, keys_table, buckets_table, versions_table, refs_table, uploads_table, parts_table, locks_table, retains_table, at, refers}
-use Rattle.bh_tables.specs.Typed.{Totals, TenantRow, KeyRow, BucketRow, VersionColumns, PartColumns, RefRow, BlockRow, UploadRow, tenant_form, key_form, bucket_form, version_form, block_form, ref_form, upload_form, part_form, LockRow, RetainRow, lock_form, retain_form, raw, AreHeld, tables_in}
+use Rattle.bh_tables.specs.Typed.{Totals, KeyRow, BucketRow, VersionColumns, PartColumns, RefRow, UploadRow, tenant_form, key_form, bucket_form, version_form, block_form, ref_form, upload_form, part_form, LockRow, RetainRow, lock_form, retain_form, raw, AreHeld, tables_in}
 use Rattle.bh_tables.specs.Bodies.{Name, same_name, ref_name, block_name, first}
 use Rattle.bh_tables.specs.Shown.{is_tenant, is_bucket, is_upload, is_block}
 use Rattle.bh_tables.proofs.TotalLemmas.{name_Decides}

@@ -1,5 +1,5 @@
 -- References that stand in the order of their places: those of a body are at 0, 1, .., and so are they once they are sorted.
-use Rattle.std.proofs.Common.{arith, ◌≡◌, ℕ, ◌+◌, Bool, true, false, cond, if◌then◌else◌, List, [], ◌∷◌, length, map, filter, pos, refl, sym, ap, ap₂, ◌∙◌, subst, int_cmp, Less}
+use Rattle.std.proofs.Common.{arith, ◌≡◌, ℕ, ◌+◌, Bool, true, false, cond, if◌then◌else◌, List, [], ◌∷◌, length, map, pos, refl, ap, ap₂, ◌∙◌, int_cmp, Less}
 use Rattle.std.specs.List.{range_with_len}
 use Rattle.std.specs.Ordering.{is_gt}
 use Rattle.std.proofs.lemmas.Int.{ints}

@@ -1,5 +1,5 @@
 -- Equality as the code tests it, and as the tables do.
-use Rattle.std.proofs.Common.{arith, ◌≡◌, ℕ, pos, nat_eq, Bool, true, false, List, refl, sym, ap, ◌∙◌}
+use Rattle.std.proofs.Common.{arith, ◌≡◌, ℕ, pos, nat_eq, Bool, true, false, List, refl, sym}
 use Rattle.std.specs.Prelude.{Decides}
 use Rattle.std.specs.Cmp.Lexicographic.{pointwise, bytes_decides}
 use Rattle.std.specs.Ordering.{int_eq}

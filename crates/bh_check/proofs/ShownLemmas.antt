@@ -1,5 +1,5 @@
 -- What is known of blocks by their names and lengths, and what of those that a host shows with their bytes.
-use Rattle.std.proofs.Common.{Option, Some, IfSome, subst, arith, ap₂, length, ◌≡◌, ℕ, ◌+◌, List, [], ◌∷◌, ◌++◌, map, sum_by, if◌then◌else◌, refl, sym, ap, ◌∙◌}
+use Rattle.std.proofs.Common.{Option, Some, IfSome, subst, arith, ap₂, length, ◌≡◌, ℕ, ◌+◌, List, [], ◌∷◌, ◌++◌, map, if◌then◌else◌, refl, sym, ap, ◌∙◌}
 use mathlib.Core.List.{map-append}
 use Rattle.std.specs.List.{AllByRecursion, AllZip}
 use Rattle.std.proofs.lemmas.List.Sums.{sum_by-append, sum_by-cons}

@@ -1,10 +1,10 @@
 -- The tables of a database that was checked are those of a sound host.
-use Rattle.std.proofs.Common.{◌≡◌, ℕ, ◌+◌, ◌≤◌, ◌^◌, true, ◌==◌, ◌&&◌, List, [], ◌∷◌, length, map, filter, Option, Some, None, refl, sym, ap, ◌∙◌, subst}
+use Rattle.std.proofs.Common.{◌≡◌, ◌+◌, ◌≤◌, ◌^◌, true, ◌==◌, ◌&&◌, List, [], ◌∷◌, length, map, Option, Some, None, refl, sym, ap, ◌∙◌, subst}
 use Rattle.std.specs.List.{AllByRecursion, list_all}
 use Rattle.std.specs.Option.{option_map_or}
 use Rattle.std.proofs.lemmas.Bool.{and_from, eq-eqb}
 use Rattle.sqlite.specs.Effect.{Database, IsDatabase}
-use Rattle.sqlite.specs.Order.{Row, column}
+use Rattle.sqlite.specs.Order.{column}
 use Rattle.sqlite.specs.Schema.{Schema}
 use Rattle.sqlite.specs.Tree.{Trees}
 use Rattle.sqlite_keyed.proofs.ListLemmas.{all_map, all_weaker}
@@ -21,7 +21,7 @@ use Rattle.bh_tables.proofs.HostTests.{host_opens, first_opens, second_opens, th
 use Rattle.bh_view.specs.Blocks.{AreDigests}
 use Rattle.bh_view.specs.Bodies.{AreBounded, IsSoundHost}
 use Rattle.bh_view.specs.Sound.{IsTenantRow, AreSound, IsSound}
-use Rattle.bh_view.specs.View.{view, rows_of, state_of, latest_of}
+use Rattle.bh_view.specs.View.{view, rows_of, latest_of}
 use Rattle.bh_view.proofs.FactLemmas.{all_first}
 use Rattle.bh_view.proofs.UsedLemmas.{used_is}
 use Rattle.bh_view.proofs.ViewLemmas.{own_row}

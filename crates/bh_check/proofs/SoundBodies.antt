@@ -1,8 +1,7 @@
 -- The bodies of a database that was checked: the bytes that their references name, and who has them.
-use Rattle.std.proofs.Common.{arith, ◌≡◌, inl, inr, ◌⊎◌, ℕ, zero, suc, ◌+◌, ◌<◌, ◌≤◌, Bool, true, false, ◌&&◌, ◌||◌, pos, List, [], ◌∷◌, ◌++◌, length, length-append, map, filter, Option, Some, None, refl, sym, ap, ap₂, ◌∙◌, subst, sum_by}
-use Rattle.std.specs.List.{AllByRecursion, list_any, flat_map, range_with_len}
+use Rattle.std.proofs.Common.{arith, ◌≡◌, inl, inr, ℕ, zero, suc, ◌+◌, ◌<◌, ◌≤◌, Bool, true, false, ◌&&◌, ◌||◌, List, [], ◌∷◌, ◌++◌, length, length-append, map, filter, refl, sym, ap, ap₂, ◌∙◌, subst, sum_by}
+use Rattle.std.specs.List.{AllByRecursion, list_any, flat_map}
 use Rattle.std.specs.Option.{option_map_or}
-use Rattle.std.specs.Ordering.{int_eq}
 use Rattle.std.specs.Cmp.Derive.{both_true}
 use Rattle.std.proofs.lemmas.Bool.{cases_Bool, or_left, or_right}
 use Rattle.std.proofs.lemmas.List.Folds.{list_any-append}
@@ -10,16 +9,16 @@ use Rattle.std.proofs.lemmas.List.Sums.{sum_by-cons}
 use Rattle.sqlite.specs.Effect.{Database, IsDatabase}
 use Rattle.sqlite.specs.Order.{Row}
 use Rattle.sqlite.specs.Tree.{Trees}
-use Rattle.sqlite_keyed.proofs.ListLemmas.{all_map, all_weaker, all-filter, filter-map, filter_none}
+use Rattle.sqlite_keyed.proofs.ListLemmas.{all_map, all_weaker, all-filter, filter-map}
 use Rattle.sqlite_rules.specs.Lists.{Has}
 use Rattle.sqlite_rules.proofs.ListLemmas.{some_has, some_from}
 use Rattle.bh_rows.specs.Form.{typed}
 use Rattle.bh_tables.specs.Schema.{Octets, host_schema}
-use Rattle.bh_tables.specs.Bodies.{Name, same_name, block_name, ref_name, body_name, version_name, part_name, first, block_at, placed, whole, matching, resolved, resolved_part}
+use Rattle.bh_tables.specs.Bodies.{Name, same_name, ref_name, body_name, version_name, part_name, first, block_at, placed, whole, matching, resolved, resolved_part}
 use Rattle.bh_tables.specs.Shown.{is_block}
 use Rattle.bh_tables.specs.Typed.{Totals, totals_of, tables_in, BlockRow, RefRow, VersionRow, PartRow, block_of, block_form, ref_of, ref_form, version_of, version_form, part_of, part_form}
 use Rattle.bh_tables.proofs.TotalLemmas.{name_Decides, name_swap}
-use Rattle.bh_view.specs.Bodies.{AreBodies, HasBodies, bodies_of, bodies_in}
+use Rattle.bh_view.specs.Bodies.{HasBodies, bodies_of, bodies_in}
 use Rattle.bh_view.specs.Grouped.{same_number}
 use Rattle.bh_check.specs.Blocks.{AreNamed, named_octets, refs_of}
 use Rattle.bh_stored.specs.Stored.{seen}

@@ -1,7 +1,6 @@
 -- The rows of a database that was checked are sound: versions, uploads and parts, of each tenant.
-use Rattle.std.proofs.Common.{arith, ◌≡◌, inl, inr, ℕ, ◌+◌, ◌<◌, ◌≤◌, Bool, true, false, ◌&&◌, cond, pos, List, [], ◌∷◌, length, map, filter, Option, None, refl, sym, ap, ◌∙◌, subst, sum_by}
+use Rattle.std.proofs.Common.{◌≡◌, inl, inr, ℕ, ◌<◌, ◌≤◌, Bool, true, false, ◌&&◌, cond, List, [], ◌∷◌, length, map, filter, refl, sym, ap, ◌∙◌, subst, sum_by}
 use Rattle.std.specs.List.{AllByRecursion, list_any}
-use Rattle.std.specs.Ordering.{int_eq}
 use Rattle.std.proofs.lemmas.Bool.{cases_Bool}
 use Rattle.sqlite.specs.Effect.{Database, IsDatabase}
 use Rattle.sqlite.specs.Order.{Row, column}
@@ -13,12 +12,12 @@ use Rattle.sqlite_typed.proofs.TestLemmas.{same_bytes}
 use Rattle.bh_types.specs.Checksums.{checksum_text}
 use Rattle.bh_rows.specs.Form.{typed}
 use Rattle.bh_tables.specs.Schema.{Octets, host_schema}
-use Rattle.bh_tables.specs.Bodies.{Name, first, matching, whole, resolved, resolved_part, same_name}
-use Rattle.bh_tables.specs.Shown.{is_tenant, is_upload}
+use Rattle.bh_tables.specs.Bodies.{first, whole, resolved, resolved_part}
+use Rattle.bh_tables.specs.Shown.{is_tenant}
 use Rattle.bh_tables.specs.Typed.{Totals, totals_of, tables_in, TenantRow, BucketRow, VersionRow, VersionColumns, UploadRow, PartRow, PartColumns, RefRow, BlockRow, tenant_of, version_of, version_form, upload_of, part_of, part_form, ref_form, block_form}
-use Rattle.bh_view.specs.Grouped.{same_number, HasUnique, Refers}
+use Rattle.bh_view.specs.Grouped.{same_number}
 use Rattle.bh_view.specs.Sound.{IsVersionRow, IsBelow, AreVersions, IsUploadRow, AreUploads, IsPartRow, AreParts}
-use Rattle.bh_view.specs.View.{rows_of, in_bucket, at_key, of_upload}
+use Rattle.bh_view.specs.View.{rows_of, in_bucket}
 use Rattle.bh_view.proofs.FilterLemmas.{filter_both}
 use Rattle.bh_check.specs.Blocks.{HasChecksum}
 use Rattle.bh_stored.specs.Stored.{seen}

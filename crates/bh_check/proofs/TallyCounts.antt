@@ -1,6 +1,6 @@
 -- What was counted of the stored versions of each tenant is what a host tallies.
 use Rattle.std.proofs.Common.{arith, ◌≡◌, ℕ, ◌+◌, pos, int_lt, Bool, true, false, ◌&&◌, not, cond, if◌then◌else◌, List, [], ◌∷◌, length, map, filter, refl, sym, ap, ap₂, ◌∙◌, sum_by}
-use Rattle.std.specs.List.{AllByRecursion, AllZip, list_any}
+use Rattle.std.specs.List.{AllByRecursion, list_any}
 use Rattle.std.specs.Ordering.{int_eq}
 use Rattle.std.proofs.lemmas.List.Sums.{sum_by-cons}
 use Rattle.sqlite.specs.Order.{Row, column}
@@ -11,7 +11,7 @@ use Rattle.bh_rows.specs.Form.{typed}
 use Rattle.bh_tables.specs.Schema.{Octets}
 use Rattle.bh_tables.specs.Bodies.{resolved}
 use Rattle.bh_tables.specs.Entries.{has_marker, is_later, current_versions}
-use Rattle.bh_tables.specs.Typed.{VersionRow, VersionColumns, tenant_of, version_of, version_form, ref_form, block_form, tally_form, tally_of}
+use Rattle.bh_tables.specs.Typed.{VersionRow, VersionColumns, tenant_of, version_of, ref_form, block_form, tally_form, tally_of}
 use Rattle.bh_stored.specs.Cells.{is_fit}
 use Rattle.bh_stored.specs.Fits.{tally_kinds}
 use Rattle.bh_stored.proofs.Fitted.{tallied_is}

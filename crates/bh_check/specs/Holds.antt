@@ -1,17 +1,13 @@
 -- The check of each stored row, given sums over the other tables.
-use Rattle.std.specs.Prelude.{◌≡◌, ℕ, ◌+◌, ◌<◌, ◌≤◌, ◌^◌, List, [], ◌∷◌, ◌++◌, length, IsTrue, take, get_or}
-use Rattle.std.specs.List.{AllByRecursion}
+use Rattle.std.specs.Prelude.{◌≡◌, ℕ, ◌+◌, ◌<◌, ◌≤◌, ◌^◌, [], ◌++◌, length, IsTrue}
 use Rattle.std.specs.Str.{IsUtf8}
 use Rattle.sqlite.specs.Order.{Row, column}
 use Rattle.sqlite.specs.Tree.{Trees}
 use Rattle.sqlite_typed.specs.Columns.{bytes_of}
-use Rattle.bh_types.specs.Checksums.{checksum_text}
 use Rattle.bh_types.specs.Names.{is_object_key}
-use Rattle.bh_tables.specs.Typed.{column_number, host_of, tenant_of, key_of, bucket_of, version_of, upload_of, part_of, ref_of, ref_form}
-use Rattle.bh_tables.specs.Typed.{block_form}
-use Rattle.bh_tables.specs.Bodies.{Name, whole}
-use Rattle.bh_view.specs.Sound.{IsHostRow, IsTenantRow, IsKeyRow, IsBucketRow}
-use Rattle.bh_rows.specs.Form.{typed}
+use Rattle.bh_tables.specs.Typed.{column_number, tenant_of, key_of, bucket_of}
+use Rattle.bh_tables.specs.Bodies.{Name}
+use Rattle.bh_view.specs.Sound.{IsTenantRow, IsKeyRow, IsBucketRow}
 use Rattle.bh_check.specs.Sums.{total, Keeps}
 use Rattle.bh_check.specs.declared.measures.Measures.{Measures}
 use Rattle.bh_check.specs.declared.rows.PartTotals.{PartTotals}

@@ -2,7 +2,7 @@
 
 ghost use Rattle.std.specs.Prelude.{◌≡◌, ℕ, ◌+◌, if◌then◌else◌, IsTrue, IfOk, OnOk};
 ghost use Rattle.bh_tables.specs.Bodies.{Name, same_name};
-ghost use Rattle.bh_check.specs.Sums.{Key, key_name, kept_at, Keeps, IsSumOf, total, name_in, amount_in};
+ghost use Rattle.bh_check.specs.Sums.{kept_at, Keeps, IsSumOf, total, name_in, amount_in};
 
 use bh_stored::cells::{bytes_in, number_in};
 use bh_stored::failure::Failure;

@@ -1,8 +1,6 @@
 -- An operation that changes no bucket itself leaves what is remembered of its tenant as it is.
-use Rattle.std.proofs.Common.{◌≡◌, ℕ, true, false, true≢false, length, map, List, Option, Some, option_map, Result, Ok, Err, refl, subst, IfOk}
+use Rattle.std.proofs.Common.{◌≡◌, ℕ, false, true≢false, length, map, List, Option, Some, option_map, Result, Ok, Err, refl, subst, IfOk}
 use Rattle.std.specs.Prelude.{ok_or}
-use Rattle.std.specs.FinMap.{get}
-use Rattle.bh_types.specs.Checksums.{checksum_text}
 use Rattle.bh_types.specs.Limits.{HostLimits}
 use Rattle.bh_types.specs.Outcomes.{◌>>=◌, require}
 use Rattle.bh_types.specs.Rejections.{plainly, for_date}
@@ -11,13 +9,13 @@ use Rattle.bh_types.specs.declared.refusal.Refusal.{Refusal}
 use Rattle.bh_types.specs.declared.refusal.Refusal.TheVariants.{AccessDenied, BadDigest, NoSuchLifecycleConfiguration}
 use Rattle.bh_types.specs.declared.wanted.Wanted.{Wanted}
 use Rattle.bh_docs.specs.Requests.{retention_of, complete_of}
-use Rattle.bh_machine.specs.Machine.{operated, bare_operated, service_operated, bucket_operated, listing_operated, lifecycle_operated, upload_operated, object_operated, document_operated, store_operated, page_asked, place_asked, upload_asked, naming, set_retention, finish_upload}
+use Rattle.bh_machine.specs.Machine.{operated, bare_operated, service_operated, bucket_operated, listing_operated, lifecycle_operated, upload_operated, object_operated, document_operated, store_operated, page_asked, place_asked, upload_asked, naming, finish_upload}
 use Rattle.bh_model.specs.Counting.{counts, after_entry, after_delete}
 use Rattle.bh_model.specs.Listings.{objects_listed, versions_listed, uploads_listed, parts_listed, list_objects, list_versions, list_uploads, list_parts}
 use Rattle.bh_model.specs.Operations.{Outcome, added_tenant, tenant_bucket, tell_usage, wanted_version, planned, head_bucket, get_versioning, get_lifecycle, put_object, copy_object, delete_object, put_retention, require_quota, with_object, with_copy, with_new_date, with_deleted, source_version, found_version}
 use Rattle.bh_model.specs.Parts.{Naming, is_checksum, completed}
 use Rattle.bh_model.specs.Retention.{first_date, may_go, named_date, may_retain, can_retain, date_of, with_date}
-use Rattle.bh_model.specs.State.{Octets, Part, Upload, Bucket, State}
+use Rattle.bh_model.specs.State.{Octets, Part, State}
 use Rattle.bh_model.specs.Uploads.{create_upload, upload_part, complete_upload, abort_upload, with_upload, without_upload, new_upload, with_stored, with_completed, after_begin, after_part}
 use Rattle.bh_model.proofs.Changes.{found, of_bucket, of_plain_bucket, of_upload}
 use Rattle.bh_memo.proofs.Keeping.{Keeps, keeps_same, bucket_put}

@@ -1,8 +1,7 @@
 -- A host as a storage, beside what is remembered of its tables.
-use Rattle.std.proofs.Common.{rules, ◌≡◌, ℕ, true, false, true≢false, is_ok, Option, Some, Result, Ok, Err, OnOk, IfOk, refl, sym, ap, ◌∙◌, subst}
+use Rattle.std.proofs.Common.{rules, ◌≡◌, ℕ, true, false, is_ok, Option, Some, Result, Ok, Err, OnOk, IfOk, refl, sym, ap, ◌∙◌, subst}
 use Rattle.sqlite_trees.specs.declared.store.Store.{Ghosts}
 use Rattle.bh_shelf.specs.declared.shelf.Shelf.{Ghosts as Shelves}
-use Rattle.bh_base.specs.declared.connection.Connection.{Connection}
 use Rattle.bh_types.specs.Limits.{HostLimits}
 use Rattle.bh_types.specs.declared.access_key.AccessKeyId.{AccessKeyId}
 use Rattle.bh_types.specs.declared.bucket_state.BucketState.{BucketState}
@@ -25,7 +24,7 @@ use Rattle.bh_storage.specs.Plans.{IsMeasured}
 use Rattle.bh_storage.specs.declared.answer.FoundVersion.{FoundVersion}
 use Rattle.bh_storage.specs.declared.answer.Offer.{Offer}
 use Rattle.bh_tables.specs.Typed.{Tables}
-use Rattle.bh_storage.specs.Calls.{Seen, IsWorking, Within, Unless, UnlessSpoilt, Stamps, Purges, Decides, Carries, Operates, OthersSame}
+use Rattle.bh_storage.specs.Calls.{Seen, IsWorking, Within, Unless, UnlessSpoilt, Stamps, Purges, Decides, Carries, Operates}
 use Rattle.bh_storage.specs.declared.error.Outcome.{Outcome}
 use Rattle.bh_storage.specs.declared.error.Outcome.TheVariants.{Done, Spoilt}
 use Rattle.bh_storage.specs.declared.error.StepError.{StepError}
@@ -35,12 +34,10 @@ use Rattle.bh_view.specs.View.{view}
 use Rattle.bh_memo.specs.Facts.{Facts, nothing, has_no_rule, has_state, is_accepted, holds}
 use Rattle.bh_memo.specs.Recalled.{recalled}
 use Rattle.bh_memo.proofs.Calls.{ok_with, unless_with, spoilt_with, within_recalled, within_then, goes_on, stays_same}
-use Rattle.bh_memo.proofs.Holding.{holds_same, AddsQuiet, AddsBucket, AddsSecret, holds_stamped, holds_quiet, holds_bucket, holds_secret, mode_of_bucket, state_by}
+use Rattle.bh_memo.proofs.Holding.{AddsQuiet, AddsBucket, AddsSecret, holds_stamped, holds_quiet, holds_bucket, holds_secret, mode_of_bucket, state_by}
 use Rattle.bh_memo.proofs.Rules.{purged_same}
 use Rattle.bh_memo.proofs.Recalling.{alone, works_holding, works_alone, works_under}
 use Rattle.bh_schema.specs.Storage as storage
-use Rattle.sqlite_typed.specs.Tests.{bytes_eq}
-use Rattle.bh_view.proofs.Keys.{octets}
 use Rattle.bh_memo.proofs.Keeping.{Keeps, purge_keeps, holds_kept}
 use Rattle.bh_dispatch.proofs.Leaving.{leaves, done_leaves}
 use Rattle.bh_dispatch.specs.Changing.{changes_buckets}
@@ -187,13 +184,6 @@ told_so facts Told stays old new clean (Err e) held h = tt
 
 pub still_so : {X E : Type 0} (facts : Facts) (old new : Tables) (clean : Type 0) (result : Result X (StepError E)) → (clean → holds facts old ≡ true) → Unless result (clean → new ≡ old) → Unless result (clean → holds facts new ≡ true)
 still_so facts old new clean result held same = unless_map result _ _ (λ is c. ap (holds facts) (is c) ∙ held c) same
-
--- every tenant sees what it saw
-all_same : (t : Octets) (old new : Tables) → view new t ≡ view old t → OthersSame t old new → (u : Octets) → view new u ≡ view old u
-all_same t old new own others u = elim (bytes_eq u t) as (λ b. bytes_eq u t ≡ b → view new u ≡ view old u) [
-  | true ↦ λ e. subst (λ z. view new z ≡ view old z) (sym ((octets.decides u t).0 e)) own
-  | false ↦ λ e. others u (λ same. true≢false (sym ((octets.decides u t).1 same) ∙ e))
-] refl
 
 -- an operation that changes no bucket itself leaves each fact as it is
 pub leaves_so : (facts : Facts) (limits : HostLimits) (at : ℕ) (t : Octets) (operation : Operation) → changes_buckets operation ≡ false → (start end : Coming) (read old new : Tables) (clean : Type 0) → (clean → holds facts old ≡ true)

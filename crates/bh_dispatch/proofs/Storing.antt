@@ -3,7 +3,6 @@ use Rattle.std.proofs.Common.{◌≡◌, ℕ, ◌≤◌, true, length, Option, R
 use Rattle.sqlite.specs.State.{State}
 use Rattle.sqlite_trees.specs.declared.store.Store.{Ghosts}
 use Rattle.bh_shelf.specs.declared.shelf.Shelf.{Ghosts as Shelves}
-use Rattle.bh_base.specs.declared.connection.Connection.{Connection}
 use Rattle.bh_types.specs.Limits.{HostLimits}
 use Rattle.bh_model.proofs.BoundLemmas.{used_stays_bounded}
 use Rattle.bh_model.specs.Runs.{purged_tenant}

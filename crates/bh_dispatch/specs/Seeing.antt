@@ -1,7 +1,6 @@
 -- A host as a storage, alone and with remembered facts.
 use Rattle.sqlite_trees.specs.declared.store.Store.{Ghosts}
 use Rattle.bh_shelf.specs.declared.shelf.Shelf.{Ghosts as Shelves}
-use Rattle.bh_base.specs.declared.connection.Connection.{Connection}
 use Rattle.bh_model.specs.State.{Octets}
 use Rattle.bh_storage.specs.Calls.{Seen, StaysAtWork}
 use Rattle.bh_view.specs.Bodies.{IsSoundHost}

@@ -5,7 +5,7 @@ ghost use Rattle.bh_model.specs.Operations as machine;
 ghost use Rattle.bh_view.specs.View.{view, latest_of};
 ghost use Rattle.bh_memo.specs.Facts.{nothing};
 ghost use Rattle.bh_storage.specs.Answers.{found_answer, offer_view};
-ghost use Rattle.bh_storage.specs.Calls.{Clean, IsWorking, Unless, UnlessSpoilt, Decides, Carries, Operates, Reports};
+ghost use Rattle.bh_storage.specs.Calls.{IsWorking, Unless, UnlessSpoilt, Decides, Carries, Operates, Reports};
 ghost use Rattle.bh_storage.specs.Plans.{IsMeasured, IfPlanned};
 ghost use Rattle.bh_base.specs.Connections.{IsClean as IsConnectionClean, packs};
 ghost use Rattle.bh_sweep.specs.Counted.{packs_counted};

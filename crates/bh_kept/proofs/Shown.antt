@@ -1,5 +1,5 @@
 -- What a host shows that was closed and opened again.
-use Rattle.std.proofs.Common.{◌≡◌, false, IsTrue, Option, Some, None, IfSome, refl, sym, ap, ap₂, subst, ◌∙◌}
+use Rattle.std.proofs.Common.{◌≡◌, false, IsTrue, Option, Some, refl, sym, ap, ap₂, subst, ◌∙◌}
 use Rattle.sqlite_disk.specs.declared.Disk.{Ghosts}
 use Rattle.sqlite_store.specs.declared.store.FileStore.{FileStore}
 use Rattle.sqlite.specs.Files.{file_state}

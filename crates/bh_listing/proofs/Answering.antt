@@ -10,7 +10,7 @@ use Rattle.bh_types.specs.Outcomes.{◌>>=◌}
 use Rattle.bh_types.specs.declared.bucket_state.BucketState.{BucketState}
 use Rattle.bh_model.specs.State.{Octets, Bucket, State}
 use Rattle.bh_model.specs.Pages as model
-use Rattle.bh_model.specs.Pages.{objects_page, Listed, Paged, ObjectItem, ObjectsListed, last_of, paged, objects_told, objects_in, entries_after, after_name}
+use Rattle.bh_model.specs.Pages.{objects_page, Listed, ObjectItem, ObjectsListed, last_of, paged, objects_told, objects_in, entries_after, after_name}
 use Rattle.bh_model.specs.Listings.{objects_listed, list_objects}
 use Rattle.bh_model.specs.Operations.{Objects}
 use Rattle.bh_tables.specs.Typed.{VersionRow, Tables}

@@ -4,7 +4,6 @@ ghost use Rattle.std.specs.Prelude.{◌≡◌, ◌++◌, false, codes, IfOk, Mat
 ghost use Rattle.std.specs.String.{string_bytes};
 ghost use Rattle.sqlite.specs.Files.{over_files};
 ghost use Rattle.sqlite_wal.specs.Files.{image_at};
-ghost use Rattle.bh_blocks.specs.Digests.{digest_by};
 ghost use Rattle.bh_maintenance.specs.Clocks.{is_beyond, moment_of};
 ghost use Rattle.bh_maintenance.specs.Files.{HoldsSoundHost};
 ghost use Rattle.bh_maintenance.specs.Found.{IsJoinedByRow};

@@ -66,17 +66,6 @@ holds_nothing tables = refl
 pub same_latest_fact : (latest : Option ℕ) (old new : Tables) → latest_of new ≡ latest_of old → is_latest latest old ≡ true → is_latest latest new ≡ true
 same_latest_fact latest old new same h = ap (λ n. option_map_or (λ m. nat_eq m n) latest true) same ∙ h
 
--- no tenant sees it
-pub holds_same : (facts : Facts) (old new : Tables) → ((u : Octets) → view new u ≡ view old u) → latest_of new ≡ latest_of old → holds facts old ≡ true → holds facts new ≡ true
-holds_same facts old new views latest h =
-    let so = are_so facts old h in
-    holds_by facts new (record {
-      latest = same_latest_fact facts.latest old new latest so.latest;
-      quiet = λ t there. ap has_no_rule (views t) ∙ so.quiet t there;
-      buckets = λ b there. ap (has_state b.bucket b.state) (views b.tenant) ∙ so.buckets b there;
-      secrets = λ k there. ap (is_accepted k) (views k.key.tenant) ∙ so.secrets k there;
-    })
-
 itself : (n : ℕ) → nat_eq n n ≡ true
 itself n = search rules
 

@@ -1,4 +1,4 @@
-ghost use Rattle.std.specs.Prelude.{◌≡◌, ◌≤◌, ◌<◌, ◌^◌, ◌++◌, ◌∷◌, [], length, false, Some, IfOk, IfErr, OnOk, IfSome, MatchOption};
+ghost use Rattle.std.specs.Prelude.{◌≡◌, ◌<◌, ◌++◌, ◌∷◌, [], false, Some, IfOk, IfErr, OnOk, MatchOption};
 ghost use Rattle.bh_event.specs.Events.{arrival};
 ghost use Rattle.bh_host.specs.Replies.{reply_bytes};
 ghost use Rattle.bh_storage.specs.Calls.{Clean, IsAtRest};

@@ -6,7 +6,7 @@ use Rattle.bh_types.specs.declared.bucket_state.BucketState.{BucketState}
 use Rattle.bh_types.specs.declared.id.UploadId.{UploadId}
 use Rattle.bh_model.specs.State.{Octets, Bucket, State}
 use Rattle.bh_model.specs.Pages as model
-use Rattle.bh_model.specs.Pages.{Listed, UploadItem, UploadPlace, UploadsListed, paged, passes_upload, all_uploads, entries_after, uploads_page, uploads_told}
+use Rattle.bh_model.specs.Pages.{Listed, UploadItem, UploadPlace, UploadsListed, paged, all_uploads, uploads_page, uploads_told}
 use Rattle.bh_model.specs.Listings.{uploads_listed, list_uploads}
 use Rattle.bh_model.specs.Operations.{Uploads}
 use Rattle.bh_tables.specs.Typed.{Tables}

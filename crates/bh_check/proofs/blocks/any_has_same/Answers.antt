@@ -1,4 +1,4 @@
-use Rattle.std.proofs.Common.{arith, sym, ap, subst, ◌∙◌, ◌≡◌, false}
+use Rattle.std.proofs.Common.{arith, sym, ap, subst, ◌∙◌, false}
 use Rattle.std.specs.List.{list_any}
 use Rattle.bh_rows.specs.Form.{typed}
 use Rattle.sqlite_typed.specs.Tests.{bytes_eq}

@@ -1,4 +1,4 @@
-use Rattle.std.proofs.Common.{arith, ◌≡◌, ◌+◌, if◌then◌else◌, take, refl, ◌∙◌, sym, subst}
+use Rattle.std.proofs.Common.{arith, ◌+◌, if◌then◌else◌, take, refl, ◌∙◌, sym, subst}
 use Rattle.sqlite_exec.proofs.AgreeLemmas.{zip-take}
 use Rattle.bh_rows.specs.Form.{typed}
 use Rattle.bh_shelf.specs.Contents.{Contents}

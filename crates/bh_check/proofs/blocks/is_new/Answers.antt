@@ -1,4 +1,4 @@
-use Rattle.std.proofs.Common.{List, sym, ap, ◌∙◌}
+use Rattle.std.proofs.Common.{sym, ◌∙◌}
 use Rattle.bh_rows.specs.Form.{typed}
 use Rattle.bh_tables.specs.Rows.{pack_form, place_form}
 use Rattle.bh_check.specs.Holds.{owner, one}

@@ -1,4 +1,4 @@
-use Rattle.std.proofs.Common.{IsTrue, Option, sym, subst, ◌∙◌}
+use Rattle.std.proofs.Common.{IsTrue, sym, subst}
 use Rattle.sqlite.specs.Effect.{IsDatabase}
 use Rattle.sqlite.specs.Tree.{Trees}
 use Rattle.sqlite_trees.specs.View.{IsClean}

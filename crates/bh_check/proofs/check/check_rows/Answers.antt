@@ -1,12 +1,6 @@
-use Rattle.std.proofs.Common.{◌≡◌, [], arith, refl, sym, ap, subst, ◌∙◌}
-use Rattle.sqlite.specs.Tree.{Trees}
-use Rattle.bh_tables.specs.Packs.{places_in, packs_in}
-use Rattle.bh_tables.specs.Rows.{place_form}
-use Rattle.bh_rows.specs.Form.{typed}
+use Rattle.std.proofs.Common.{◌≡◌, [], refl, sym, subst, ◌∙◌}
 use Rattle.bh_shelf.specs.Contents.{nothing}
 use Rattle.bh_stored.specs.Stored.{seen}
-use Rattle.bh_check.specs.Awaits.{HasReached}
-use Rattle.bh_check.specs.Blocks.{AreNamed}
 use Rattle.bh_check.specs.Checked.{IsChecked}
 use Rattle.bh_check.proofs.FilledRows.{unplaced, none_named, none_reached}
 use Rattle.bh_check.proofs.check.check_rows.Goals as goal

@@ -1,4 +1,4 @@
-use Rattle.std.proofs.Common.{◌≡◌, ◌++◌, ◌∷◌, List, [], arith, length, sym, ap, ap₂, subst, refl, ◌∙◌, append_assoc, append-nil}
+use Rattle.std.proofs.Common.{◌++◌, List, [], length, sym, ap, subst, refl, ◌∙◌, append_assoc, append-nil}
 use Rattle.std.proofs.lemmas.Map.Views.{exact_unsigned_eq}
 use Rattle.sqlite.specs.Order.{Row}
 use Rattle.bh_rows.specs.Form.{typed}

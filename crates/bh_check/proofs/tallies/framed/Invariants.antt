@@ -1,4 +1,4 @@
-use Rattle.std.proofs.Common.{◌≡◌, List, [], ◌∷◌, take}
+use Rattle.std.proofs.Common.{◌≡◌, [], ◌∷◌, take}
 use Rattle.std.specs.List.{flat_map}
 use Rattle.bh_check.proofs.tallies.framed.Given as goal
 

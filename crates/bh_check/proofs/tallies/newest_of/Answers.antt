@@ -1,4 +1,4 @@
-use Rattle.std.proofs.Common.{arith, [], take, subst}
+use Rattle.std.proofs.Common.{arith, take, subst}
 use Rattle.bh_check.specs.Tallies.{IsNewest}
 use Rattle.bh_check.proofs.NewestLemmas.{none_less, take_more, take_all}
 use Rattle.bh_check.proofs.tallies.newest_of.Goals as goal

@@ -1,5 +1,5 @@
-use Rattle.std.proofs.Common.{arith, ◌≡◌, ◌+◌, if◌then◌else◌, ap, sym, ◌∙◌}
-use Rattle.bh_tables.specs.Bodies.{Name, same_name}
+use Rattle.std.proofs.Common.{arith, ◌≡◌, ◌+◌, if◌then◌else◌, ◌∙◌}
+use Rattle.bh_tables.specs.Bodies.{same_name}
 use Rattle.bh_check.specs.Holds.{number_at}
 use Rattle.bh_check.specs.Tallies.{entry_key}
 use Rattle.bh_check.proofs.NewestLemmas.{ok_weaker, raised, unraised}

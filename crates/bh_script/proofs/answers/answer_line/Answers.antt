@@ -1,4 +1,4 @@
-use Rattle.std.proofs.Common.{◌≢◌, ◌∷◌, [], length, sym, ap, ◌∙◌, Some, option_map, arith}
+use Rattle.std.proofs.Common.{◌≢◌, ◌∷◌, [], length, sym, ap, ◌∙◌, option_map, arith}
 use Rattle.std.proofs.lemmas.Bool.Decides.{nat_tests}
 use Rattle.bh_event.specs.Events.{arrival}
 use Rattle.bh_script.specs.Answers.{reply_line}

@@ -1,4 +1,4 @@
-use Rattle.std.proofs.Common.{◌≡◌, ◌+◌, ◌∷◌, [], length, sym, ap, ◌∙◌, subst, arith, Option, Some, List, ℕ}
+use Rattle.std.proofs.Common.{◌≡◌, ◌+◌, length, sym, ap, ◌∙◌, subst, arith}
 use Rattle.bh_script.specs.Lines.{lines}
 use Rattle.bh_script.proofs.Telling.{lines_fit}
 use Rattle.bh_script.proofs.Cutting.{lines_left, taken}

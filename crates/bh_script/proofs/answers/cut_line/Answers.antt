@@ -1,4 +1,4 @@
-use Rattle.std.proofs.Common.{◌≡◌, ◌∷◌, ◌∙◌, ap, take}
+use Rattle.std.proofs.Common.{◌∷◌, ◌∙◌, ap, take}
 use Rattle.bh_script.specs.Lines.{lines}
 use Rattle.bh_script.proofs.Cutting.{one_line, first_line, rest_of}
 use Rattle.bh_script.proofs.answers.cut_line.Goals as goal

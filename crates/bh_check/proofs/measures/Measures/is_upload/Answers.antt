@@ -1,6 +1,6 @@
-use Rattle.std.proofs.Common.{refl, subst₂, subst}
-use Rattle.bh_check.specs.Holds.{owner, first_two, part_body, ref_block, next_version, next_upload, next_entry, version_bytes, part_bytes, upload_bytes, body_bytes, body_refs, body_versions, body_parts, block_bytes, IsTenantBy, IsRefBy, IsUploadBy}
-use Rattle.bh_check.proofs.Measured.{at_name, at_tenant, version_measured, part_measured}
+use Rattle.std.proofs.Common.{subst₂}
+use Rattle.bh_check.specs.Holds.{next_upload, upload_bytes, IsUploadBy}
+use Rattle.bh_check.proofs.Measured.{at_name, at_tenant}
 use Rattle.bh_check.proofs.measures.Measures.is_upload.Goals as goal
 
 pub returns : goal.returns

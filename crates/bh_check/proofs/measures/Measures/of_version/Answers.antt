@@ -1,5 +1,5 @@
 use Rattle.std.proofs.Common.{refl}
-use Rattle.bh_check.specs.Holds.{next_version, next_entry, body_bytes, body_refs, body_versions}
+use Rattle.bh_check.specs.Holds.{next_version, next_entry, body_bytes, body_refs}
 use Rattle.bh_check.proofs.Measured.{at_name, at_tenant}
 use Rattle.bh_check.proofs.measures.Measures.of_version.Goals as goal
 

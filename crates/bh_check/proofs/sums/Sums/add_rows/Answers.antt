@@ -1,4 +1,4 @@
-use Rattle.std.proofs.Common.{arith, ℕ, ◌+◌, if◌then◌else◌, take, sym, ap, ◌∙◌}
+use Rattle.std.proofs.Common.{arith, ℕ, ◌+◌, if◌then◌else◌, take, ap, ◌∙◌}
 use Rattle.bh_tables.specs.Bodies.{Name, same_name}
 use Rattle.bh_check.specs.Sums.{total, name_in, amount_in}
 use Rattle.bh_check.proofs.Walks.{total_more, total_at_end, keeps_same}

@@ -2,7 +2,6 @@ use Rattle.std.proofs.Common.{◌≡◌, ◌⊎◌, OnOk, OnErr, sym, subst}
 use Rattle.sqlite.specs.Files.{over_files}
 use Rattle.bh_tables.specs.Typed.{Tables}
 use Rattle.bh_schema.specs.Storage as storage
-use Rattle.bh_dispatch.specs.Seeing as recalling
 use Rattle.bh_kept.specs.Kept as kept
 use Rattle.bh_kept.proofs.storage.KeptHostStorage.commit.Goals as goal
 

@@ -1,7 +1,6 @@
 use Rattle.std.proofs.Common.{sym, subst}
 use Rattle.sqlite.specs.Files.{over_files}
 use Rattle.bh_storage.specs.Calls.{TakesBack}
-use Rattle.bh_schema.specs.Storage as storage
 use Rattle.bh_dispatch.specs.Seeing as recalling
 use Rattle.bh_kept.specs.Kept as kept
 use Rattle.bh_kept.proofs.storage.KeptHostStorage.take_back.Goals as goal
