@@ -1,5 +1,5 @@
 -- What is remembered of a tenant stays so while its buckets keep their states and rules, and it its keys.
-use Rattle.std.proofs.Common.{◌≡◌, ◌≢◌, ℕ, Bool, true, false, true≢false, nat_eq, cond, List, [], ◌∷◌, Contains, Option, Some, None, is_none, option_map, option_and_then, is_eq, refl, sym, ap, ◌∙◌, subst}
+use Rattle.std.proofs.Common.{◌≡◌, ◌≢◌, ℕ, Bool, true, false, true≢false, nat_eq, cond, List, [], ◌∷◌, Option, Some, None, is_none, option_map, option_and_then, is_eq, refl, sym, ap, ◌∙◌, subst}
 use Rattle.std.specs.List.{list_all, filter_map, cons_option}
 use Rattle.std.specs.Option.{option_map_or}
 use Rattle.std.specs.Cmp.{Equal-is}
