@@ -123,7 +123,8 @@ fn list_parts(asked: &RequestParts, text: Text, key: Text) -> Result<Operation, 
 
 #[tactic(auto, unfolding(crate::specs::Operations::get_object))]
 fn get_object(asked: &RequestParts, text: Text, key: Text) -> Result<Operation, RequestError>
-    ensures { Gives (λ x. x) result (spec.get_object asked.now.caller.now text key asked.now.parameters.now (pairs_of asked.now.fields.now)) }
+    ensures { Gives (λ x. x) result (spec.get_object asked.now.caller.now text key asked.now.parameters.now
+        (pairs_of asked.now.fields.now)) }
 {
     let object = named(asked, text, key)?;
     let range = range_in(asked.alloc, asked.fields)?;
@@ -174,7 +175,8 @@ fn of_itself(asked: &RequestParts, text: Text, key: Text) -> Result<Operation, R
 /// The operation that stores a part. Fails with InvalidArgument if there is no part number, and with NotImplemented for S3's
 /// UploadPartCopy.
 fn put_part(asked: &RequestParts, text: Text, key: Text) -> Result<Operation, RequestError>
-    ensures { Gives (λ x. x) result (spec.put_part asked.now.caller.now text key asked.now.parameters.now (pairs_of asked.now.fields.now)) }
+    ensures { Gives (λ x. x) result (spec.put_part asked.now.caller.now text key asked.now.parameters.now
+        (pairs_of asked.now.fields.now)) }
 {
     if !is_numbered(asked) {
         return Err(RequestError::Refused(Refusal::InvalidArgument));
