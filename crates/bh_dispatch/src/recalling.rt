@@ -262,9 +262,10 @@ impl<S: Alter + Drop, P: Shelf + Drop, D: Digester + Drop> Storage for Recalling
             return Ok(());
         }
         let ruled = self.storage.purge_telling(alloc, tenant, at)?;
-        if !ruled {
-            self.memo.remember_quiet(tenant);
+        if ruled {
+            return Ok(());
         }
+        self.memo.remember_quiet(tenant);
         Ok(())
     }
 

@@ -30,28 +30,28 @@ returns-then-ruled-clause-goes_on g c =
     let old = c.args.self.now in
     let h = c.in_ok-ruled.ensures in
     let s = h.goes_on in
-    on_ok g.S.Store g.P.Shelf g.D.Digester.digest_of old (record old { storage = c.purge_telling.new.self; memo = c.forget.new.self }) {X = Unit {0}} {E = Trouble} (Ok tt) (record { within = s.within; opens = s.opens; working = s.working })
-    (ruled_so g.S.Store g.P.Shelf g.D.Digester.digest_of old c.requires c.forget.new.self c.purge_telling.new.self s.within c.args.tenant.now c.args.at h.purges (record { latest = c.forget.ensures.latest; quiet = c.forget.ensures.quiet; buckets = c.forget.ensures.buckets; secrets = c.forget.ensures.secrets }))
+    on_ok g.S.Store g.P.Shelf g.D.Digester.digest_of old (record old { storage = c.purge_telling.new.self }) {X = Unit {0}} {E = Trouble} (Ok tt) (record { within = s.within; opens = s.opens; working = s.working })
+    (ruled_so g.S.Store g.P.Shelf g.D.Digester.digest_of old c.requires old.memo c.purge_telling.new.self s.within c.args.tenant.now c.args.at h.purges)
 
 pub returns-then-ruled-clause-purges : goal.returns-then-ruled-clause-purges
 returns-then-ruled-clause-purges g c clean =
     let old = c.args.self.now in
     let h = c.in_ok-ruled.ensures in
     let w = h.goes_on.within in
-    shown old.memo c.forget.new.self (storage.seen g.S.Store g.P.Shelf old.storage.host) (storage.seen g.S.Store g.P.Shelf c.purge_telling.new.self.host) (storage.IsClean g.S.Store g.P.Shelf c.purge_telling.new.self.host)
-    (was g.S.Store g.P.Shelf g.D.Digester.digest_of old c.requires c.forget.new.self c.purge_telling.new.self w) (Purges c.args.tenant.now c.args.at) clean
-    (ruled_so g.S.Store g.P.Shelf g.D.Digester.digest_of old c.requires c.forget.new.self c.purge_telling.new.self w c.args.tenant.now c.args.at h.purges (record { latest = c.forget.ensures.latest; quiet = c.forget.ensures.quiet; buckets = c.forget.ensures.buckets; secrets = c.forget.ensures.secrets }) clean) (h.purges clean)
+    shown old.memo old.memo (storage.seen g.S.Store g.P.Shelf old.storage.host) (storage.seen g.S.Store g.P.Shelf c.purge_telling.new.self.host) (storage.IsClean g.S.Store g.P.Shelf c.purge_telling.new.self.host)
+    (was g.S.Store g.P.Shelf g.D.Digester.digest_of old c.requires old.memo c.purge_telling.new.self w) (Purges c.args.tenant.now c.args.at) clean
+    (ruled_so g.S.Store g.P.Shelf g.D.Digester.digest_of old c.requires old.memo c.purge_telling.new.self w c.args.tenant.now c.args.at h.purges clean) (h.purges clean)
 
-pub returns-else-ruled-clause-goes_on : goal.returns-else-ruled-clause-goes_on
-returns-else-ruled-clause-goes_on g c =
+pub returns-clause-goes_on : goal.returns-clause-goes_on
+returns-clause-goes_on g c =
     let old = c.args.self.now in
     let h = c.in_ok-ruled.ensures in
     let s = h.goes_on in
     on_ok g.S.Store g.P.Shelf g.D.Digester.digest_of old (record old { storage = c.purge_telling.new.self; memo = c.remember_quiet.new.self }) {X = Unit {0}} {E = Trouble} (Ok tt) (record { within = s.within; opens = s.opens; working = s.working })
     (quiet_so g.S.Store g.P.Shelf g.D.Digester.digest_of old c.requires c.remember_quiet.new.self c.purge_telling.new.self s.within c.args.tenant.now c.args.at h.purges (record { latest = c.remember_quiet.ensures.latest; quiet = c.remember_quiet.ensures.quiet; buckets = c.remember_quiet.ensures.buckets; secrets = c.remember_quiet.ensures.secrets }) (λ clean. h.ruled clean c.if-ruled.false))
 
-pub returns-else-ruled-clause-purges : goal.returns-else-ruled-clause-purges
-returns-else-ruled-clause-purges g c clean =
+pub returns-clause-purges : goal.returns-clause-purges
+returns-clause-purges g c clean =
     let old = c.args.self.now in
     let h = c.in_ok-ruled.ensures in
     let w = h.goes_on.within in
