@@ -122,20 +122,3 @@ def mark(crates):
         if os.path.isdir(crate.library):
             with open(crate.marker, "w", encoding="utf-8") as file:
                 file.write(crate.made_of)
-
-
-def build_libraries(crates):
-    """Builds the crates as libraries in out/, which also proves them, where that isn't done. Those that aren't proved are
-    returned."""
-    failed = []
-    for crate in crates:
-        if crate.is_proved:
-            continue
-        if not {it.name for it in crate.below} & {it.name for it in failed}:
-            words = ["rt", "lib", "--jobs", "1"]
-            ran = subprocess.run(words, cwd=crate.folder, stdin=subprocess.DEVNULL, capture_output=True)
-            if ran.returncode == 0:
-                mark([crate])
-                continue
-        failed.append(crate)
-    return failed

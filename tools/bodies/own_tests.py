@@ -4,7 +4,7 @@ import tempfile
 import unittest
 from types import SimpleNamespace
 
-from .crates import build_libraries
+from .libraries import build_libraries
 from .edits import Place, edits_in
 from .rooms import Room
 from .stamps import AGED, FRESH, NEVER, Stamp, Standing, stamp_of

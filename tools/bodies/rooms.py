@@ -15,6 +15,21 @@ PATIENCE = 3600
 NO_FUNCTION = re.compile(r"has no function `([^`]*)`")
 
 
+def words_over(crate):
+    """The words by which rattle reads a crate, over the libraries below it in out/."""
+    kit = kit_folder()
+    words = ["--crate-name", crate.name, crate.root_file]
+    for name in ["std", *[it for it in crate.listed if os.path.isdir(f"{kit}/rlibs/{it}.rlib")]]:
+        words += ["--extern", f"{name}={kit}/rlibs/{name}.rlib"]
+    words += ["-L", f"dependency={kit}/rlibs"]
+    for it in crate.uses:
+        words += ["--extern", f"{it.name}={it.library}"]
+    for it in crate.below:
+        words += ["-L", f"dependency={os.path.dirname(it.library)}"]
+    words += ["--antt-project", f"{kit}/rattle/logic/antt-project.json", "--logic-built", f"{kit}/logic_built"]
+    return [*words, "--links", f"{crate.name}="]
+
+
 class OutOfTime(Exception):
     """A check was ended at the time until which it might run, or killed."""
 
@@ -35,17 +50,7 @@ class Room:
     @cached_property
     def words(self):
         """The words of a check of the crate, but for the functions."""
-        kit = kit_folder()
-        words = [f"{kit}/bin/rattle", "check", "--crate-name", self.crate.name, self.crate.root_file]
-        for name in ["std", *[it for it in self.crate.listed if os.path.isdir(f"{kit}/rlibs/{it}.rlib")]]:
-            words += ["--extern", f"{name}={kit}/rlibs/{name}.rlib"]
-        words += ["-L", f"dependency={kit}/rlibs"]
-        for it in self.crate.uses:
-            words += ["--extern", f"{it.name}={it.library}"]
-        for it in self.crate.below:
-            words += ["-L", f"dependency={os.path.dirname(it.library)}"]
-        words += ["--antt-project", f"{kit}/rattle/logic/antt-project.json", "--logic-built", f"{kit}/logic_built"]
-        return [*words, "--links", f"{self.crate.name}=", "--jobs", "1", "--incremental", f"{self.folder}/incremental"]
+        return [f"{kit_folder()}/bin/rattle", "check", *words_over(self.crate), "--jobs", "1", "--incremental", f"{self.folder}/incremental"]
 
     def check(self, texts, places):
         """Checks functions, or the crate where None is among the places, with these texts in place of its own."""
