@@ -1,5 +1,5 @@
-"""How often a get asks the store, counted by valgrind's callgrind: for the version, its references and each block, once the last
-stamp, that the tenant has no rule, the bucket's state and the key's secret are remembered.
+"""How often a get and a put ask the store, counted by valgrind's callgrind. A get asks for the version, its references and each block,
+once the last stamp, that the tenant has no rule, the bucket's state and the key's secret are remembered. A put forgets none of it.
 
 Nothing can be counted of a program whose functions have no names: as Rattle's own compiler builds one; of another that is a failure.
 """
@@ -17,13 +17,19 @@ pytestmark = pytest.mark.proved
 ASKS = "sqlite::connection::Connection::query_all"
 MANY = 100
 GET = event(request("green", "GET", "/plans/x", None))
-# What is asked first, what stands before each get, and how often a get asks.
+PUT = event(request("green", "PUT", "/plans/y", b"abcd"))
+RULE = b'{"Rules":[{"AbortIncompleteMultipartUpload":{"DaysAfterInitiation":3},"Status":"Enabled"}]}'
+# What is asked first, what stands before each of those that are counted, one of these, and how often it asks.
 CASES = {
-    "a get": (GET, "", 3),
-    "after another tenant's put too": (GET, event(request("blue", "PUT", "/plans/y", b"abcd")), 3),
-    "after a head of the object": (GET, event(request("green", "HEAD", "/plans/x", None)), 3),
-    # For secret, rules and bucket again, of which the next put spares the secret and the rules.
-    "after its own put one more": (GET, event(request("green", "PUT", "/plans/y", b"abcd")), 4),
+    "a get": (GET, "", GET, 3),
+    "a get after another tenant's put": (GET, event(request("blue", "PUT", "/plans/y", b"abcd")), GET, 3),
+    "a get after a head of the object": (GET, event(request("green", "HEAD", "/plans/x", None)), GET, 3),
+    "a get after its own put": (GET, PUT, GET, 3),
+    # The rules are asked for each time, and which uploads are stale.
+    "a get of a tenant with a rule": (event(request("green", "PUT", "/plans?lifecycle", RULE)) + GET, "", GET, 5),
+    # For the secret and the rules no more.
+    "a put": (PUT, "", PUT, 14),
+    "a put after a get": (PUT, GET, PUT, 14),
 }
 
 
@@ -53,11 +59,11 @@ def calls(program, folder, events):
 
 
 @pytest.mark.parametrize("name", CASES)
-def test_calls_of_a_get(program, folder, name):
-    """So often a get asks for which this stands before it, beside what that asks alone, but for the first and the last."""
+def test_calls_of_a_request(program, folder, name):
+    """So often a request asks for which this stands before it, beside what that asks alone, but for the first and the last."""
     need("valgrind")
-    before, between, wanted = CASES[name]
-    without, both = (calls(program, folder, before + it * MANY) for it in (between, between + GET))
+    before, between, asked, wanted = CASES[name]
+    without, both = (calls(program, folder, before + it * MANY) for it in (between, between + asked))
     if without is None and program.endswith(".by-rattle"):
         pytest.skip("Rattle's own compiler gives functions no names")
     assert without is not None and both is not None, f"the program names no function {ASKS}"
