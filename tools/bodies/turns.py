@@ -10,7 +10,7 @@ from .stamps import AGED, FRESH, NEVER
 from .trials import batches
 
 # How long all of this may take at a landing, and how much of it goes to those that are fresh, in seconds.
-TURN, TURN_OF_FRESH = 40 * 60, 5 * 60
+TURN, TURN_OF_FRESH = 20 * 60, 5 * 60
 
 
 def by_age(edits, standing, famous, landing):
