@@ -52,14 +52,17 @@ class Proofs:
         return bool(ready)
 
     def prove(self, crate, jobs):
-        began = time.monotonic()
-        is_well = is_library_made(crate, jobs)
-        with self.turn:
-            self.free, self.going = self.free + jobs, self.going - 1
-            self.failed += [] if is_well else [crate]
-            said = f"proved, in {time.monotonic() - began:.0f} s with {jobs} jobs" if is_well else f"NOT PROVED: {log_of(crate)}"
-            print(f"{crate.name}: {said}", flush=True)
-            self.turn.notify()
+        began, is_well = time.monotonic(), False
+        try:
+            is_well = is_library_made(crate, jobs)
+        finally:
+            # Whatever happens, no other one waits for this one's end in vain.
+            with self.turn:
+                self.free, self.going = self.free + jobs, self.going - 1
+                self.failed += [] if is_well else [crate]
+                said = f"proved, in {time.monotonic() - began:.0f} s with {jobs} jobs" if is_well else f"NOT PROVED: {log_of(crate)}"
+                print(f"{crate.name}: {said}", flush=True)
+                self.turn.notify()
 
 
 def log_of(crate):
