@@ -17,7 +17,7 @@ use Rattle.bh_tables.specs.Typed.{Tables}
 use Rattle.bh_tables.proofs.HostTests.{other_schema, unlike_second, unlike_third, unlike_fourth}
 use Rattle.bh_view.specs.Bodies.{IsSoundHost}
 use Rattle.bh_storage.specs.Calls.{Seen, IsAtRest}
-use Rattle.bh_storage.specs.declared.storage.Storage as storage
+use Rattle.bh_host.specs.declared.storage.Storage as storage
 use Rattle.bh_cache.specs.Kept.{KeptBlocks}
 use Rattle.bh_base.specs.Connections.{backing}
 use Rattle.bh_base.specs.Layer.{standing}

@@ -14,7 +14,7 @@ use Rattle.bh_tables.specs.Typed.{Tables}
 use Rattle.bh_view.specs.Bodies.{IsSoundHost}
 use Rattle.bh_view.specs.View.{latest_of}
 use Rattle.bh_storage.specs.Calls.{Seen, IsAtRest}
-use Rattle.bh_storage.specs.declared.storage.Storage as storage
+use Rattle.bh_host.specs.declared.storage.Storage as storage
 use Rattle.bh_base.specs.Databases as connection
 use Rattle.bh_base.specs.Layer.{standing, Leaves}
 use Rattle.bh_base.specs.Placed.{filled, IsWhole}

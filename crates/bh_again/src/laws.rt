@@ -7,7 +7,7 @@ ghost use Rattle.bh_again.specs.Stops.{AfterKeptGroup, AfterKeptReply, AfterKept
 use bh_kept::{BlockSize, KeptHost};
 use bh_schema::host::Digester;
 use bh_shelf::shelf::Shelf;
-use bh_storage::storage::Storage;
+use bh_host::storage::Storage;
 use sqlite_disk::Crash;
 
 /// An event is applied, the machine stops, and the files are opened again. The host then has the

@@ -15,7 +15,7 @@ use bh_host::{Reply, apply};
 use bh_maintenance::fault::Fault;
 use bh_maintenance::printed::Printed;
 use bh_operation::routes::Routes;
-use bh_storage::storage::Storage;
+use bh_host::storage::Storage;
 use bh_wires::serve_many;
 use std::alloc::{AllocError, Global};
 

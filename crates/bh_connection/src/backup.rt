@@ -6,7 +6,7 @@ ghost use Rattle.bh_storage.specs.Calls.{Clean, IsAtRest};
 ghost use Rattle.bh_connection.specs.Backups.{IsBackedUp, unneeded_of};
 ghost use Rattle.bh_connection.specs.Connections.{IsTakenBack};
 
-use bh_storage::storage::Storage;
+use bh_host::storage::Storage;
 
 /// The reply if a copy was made and synced.
 const BACKUP: &[u8] = b"backup";

@@ -23,7 +23,7 @@ use bh_link::link::Link;
 use bh_link::request::{Opening, TakeError, take_head};
 use bh_operation::routes::Routes;
 use bh_storage::error::Trouble;
-use bh_storage::storage::Storage;
+use bh_host::storage::Storage;
 use bh_types::moment::LAST_READING;
 use httparse::spans::{EMPTY_HEADER_SPAN, HeaderSpan};
 use std::alloc::Global;

@@ -11,7 +11,7 @@ use bh_link::ends::Sink;
 use bh_link::link::Link;
 use bh_storage::error::Trouble;
 use bh_storage::plan::Plan;
-use bh_storage::storage::Storage;
+use bh_host::storage::Storage;
 use bh_types::moment::Moment;
 use std::alloc::Global;
 

@@ -24,7 +24,7 @@ use bh_link::ends::{Sink, Source};
 use bh_link::request::TakeError;
 use bh_operation::routes::Routes;
 use bh_storage::error::Trouble;
-use bh_storage::storage::Storage;
+use bh_host::storage::Storage;
 use bh_types::moment::LAST_READING;
 use std::alloc::Global;
 

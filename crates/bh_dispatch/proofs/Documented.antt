@@ -11,7 +11,7 @@ use Rattle.bh_machine.specs.Machine.{document_operated}
 use Rattle.bh_model.specs.State.{Octets, State as Machine}
 use Rattle.bh_operation.specs.declared.operation.DocumentOperation.{DocumentOperation}
 use Rattle.bh_operation.specs.declared.operation.DocumentOperation.TheVariants.{PutBucketVersioning, PutLifecycle, CompleteMultipartUpload, PutRetention}
-use Rattle.bh_storage.specs.Answers.{answer_view}
+use Rattle.bh_host.specs.Offers.{answer_view}
 use Rattle.bh_storage.specs.Calls.{Operates}
 use Rattle.bh_storage.specs.Errors.{step_rejected}
 use Rattle.bh_storage.specs.declared.error.StepError.{StepError}

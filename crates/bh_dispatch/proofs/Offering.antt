@@ -12,13 +12,15 @@ use Rattle.bh_model.specs.Operations as machine
 use Rattle.bh_model.specs.State.{Octets, State as Machine}
 use Rattle.bh_cache.specs.Kept.{KeptBlocks, Agrees}
 use Rattle.bh_base.specs.Connections.{IsClean, tables}
-use Rattle.bh_storage.specs.Answers.{answer_view, found_answer, offer_view}
+use Rattle.bh_storage.specs.Answers.{found_answer}
+use Rattle.bh_host.specs.Offers.{answer_view, offer_view}
 use Rattle.bh_storage.specs.Calls.{Carries, GivesStep, Operates, OperatesBy, UnlessSpoilt}
-use Rattle.bh_storage.specs.Plans.{IfPlanned, IsMeasured}
-use Rattle.bh_storage.specs.declared.answer.Answer.{Answer}
+use Rattle.bh_storage.specs.Plans.{IsMeasured}
+use Rattle.bh_host.specs.Offers.{IfPlanned}
+use Rattle.bh_host.specs.declared.offer.Answer.{Answer}
 use Rattle.bh_storage.specs.declared.answer.FoundVersion.{FoundVersion}
-use Rattle.bh_storage.specs.declared.answer.Offer.{Offer}
-use Rattle.bh_storage.specs.declared.answer.Offer.TheVariants.{Whole, Planned}
+use Rattle.bh_host.specs.declared.offer.Offer.{Offer}
+use Rattle.bh_host.specs.declared.offer.Offer.TheVariants.{Whole, Planned}
 use Rattle.bh_storage.specs.declared.error.Outcome.{Outcome}
 use Rattle.bh_storage.specs.declared.error.Outcome.TheVariants.{Done, Spoilt}
 use Rattle.bh_storage.specs.declared.error.StepError.{StepError}

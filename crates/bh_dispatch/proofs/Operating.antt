@@ -17,10 +17,10 @@ use Rattle.bh_http.specs.Bodies.{Coming}
 use Rattle.bh_model.specs.Operations as machine
 use Rattle.bh_model.specs.Operations.{Outcome as Step}
 use Rattle.bh_model.specs.State.{Octets, State as Machine}
-use Rattle.bh_storage.specs.Answers.{answer_view}
+use Rattle.bh_host.specs.Offers.{answer_view}
 use Rattle.bh_storage.specs.Calls.{Unless, UnlessSpoilt, Carries, OperatesBy}
 use Rattle.bh_storage.specs.Errors.{request_rejected, step_rejected}
-use Rattle.bh_storage.specs.declared.answer.Answer.{Answer}
+use Rattle.bh_host.specs.declared.offer.Answer.{Answer}
 use Rattle.bh_storage.specs.declared.error.Outcome.{Outcome}
 use Rattle.bh_storage.specs.declared.error.StepError.{StepError}
 use Rattle.bh_storage.specs.declared.error.StepError.TheVariants.{Refused, Failed}

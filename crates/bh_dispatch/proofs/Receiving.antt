@@ -17,10 +17,10 @@ use Rattle.bh_schema.specs.Working.{tables_at, StillWorking, StillWorkingBy}
 use Rattle.bh_schema.proofs.Storing.{AreBoth, both, shows_in, plain}
 use Rattle.bh_cache.specs.Kept.{KeptBlocks, Agrees}
 use Rattle.bh_cache.proofs.Agreeing.{agrees_grown}
-use Rattle.bh_storage.specs.Answers.{answer_view}
+use Rattle.bh_host.specs.Offers.{answer_view}
 use Rattle.bh_storage.specs.Calls.{IsWorking, Carries, Operates, OperatesBy, Unless, UnlessSpoilt}
 use Rattle.bh_storage.specs.Errors.{step_rejected}
-use Rattle.bh_storage.specs.declared.answer.Answer.{Answer as Told}
+use Rattle.bh_host.specs.declared.offer.Answer.{Answer as Told}
 use Rattle.bh_storage.specs.declared.error.Outcome.{Outcome}
 use Rattle.bh_storage.specs.declared.error.Outcome.TheVariants.{Done, Spoilt}
 use Rattle.bh_storage.specs.declared.error.StepError.{StepError}

@@ -18,11 +18,11 @@ use Rattle.bh_model.specs.State.{Octets, Bucket, State}
 use Rattle.bh_operation.specs.declared.address.ObjectName.{ObjectName}
 use Rattle.bh_operation.specs.declared.operation.Operation.{Operation}
 use Rattle.bh_operation.specs.declared.operation.Operation.TheVariants.{GetObject}
-use Rattle.bh_storage.specs.Answers.{offer_view}
+use Rattle.bh_host.specs.Offers.{offer_view}
 use Rattle.bh_storage.specs.Errors.{step_rejected}
 use Rattle.bh_storage.specs.Plans.{IsMeasured}
 use Rattle.bh_storage.specs.declared.answer.FoundVersion.{FoundVersion}
-use Rattle.bh_storage.specs.declared.answer.Offer.{Offer}
+use Rattle.bh_host.specs.declared.offer.Offer.{Offer}
 use Rattle.bh_tables.specs.Typed.{Tables}
 use Rattle.bh_storage.specs.Calls.{Seen, IsWorking, Within, Unless, UnlessSpoilt, Stamps, Purges, Decides, Carries, Operates}
 use Rattle.bh_storage.specs.declared.error.Outcome.{Outcome}

@@ -15,9 +15,9 @@ use Rattle.bh_types.specs.declared.refusal.Refusal.{Refusal}
 use Rattle.bh_types.specs.declared.rejection.Rejection.{Rejection}
 use Rattle.bh_base.specs.Connections.{IsClean, tables}
 use Rattle.bh_storage.specs.Calls.{IfDone}
-use Rattle.bh_storage.specs.declared.answer.Answer.{Answer}
-use Rattle.bh_storage.specs.declared.answer.Offer.{Offer}
-use Rattle.bh_storage.specs.declared.answer.Offer.TheVariants.{Whole}
+use Rattle.bh_host.specs.declared.offer.Answer.{Answer}
+use Rattle.bh_host.specs.declared.offer.Offer.{Offer}
+use Rattle.bh_host.specs.declared.offer.Offer.TheVariants.{Whole}
 use Rattle.bh_storage.specs.declared.error.Outcome.{Outcome}
 use Rattle.bh_storage.specs.declared.error.Outcome.TheVariants.{Done, Spoilt}
 use Rattle.bh_storage.specs.declared.error.StepError.{StepError}

@@ -2,10 +2,10 @@
 ghost use Rattle.std.specs.Prelude.{◌≡◌};
 ghost use Rattle.std.specs.Result.{result_map_both};
 ghost use Rattle.bh_storage.specs.Errors.{step_rejected};
-ghost use Rattle.bh_storage.specs.declared.answer.Answer as told;
+ghost use Rattle.bh_host.specs.declared.offer.Answer as told;
 ghost use Rattle.bh_dispatch.specs.Stored.{Makes, outcome_as, offer_as};
 
-use bh_storage::answer::{Answer, Offer};
+use bh_host::offer::{Answer, Offer};
 use bh_storage::error::{Outcome, StepError};
 use bh_types::refusal::Refusal;
 use bh_types::rejection::Rejection;

@@ -1,13 +1,13 @@
 //! Replies to operators about one tenant, and a tenant's removal.
 
 ghost use Rattle.bh_model.specs.Operations as machine;
-ghost use Rattle.bh_storage.specs.Answers.{command_answer_view};
+ghost use Rattle.bh_host.specs.Offers.{command_answer_view};
 ghost use Rattle.bh_schema.specs.Working.{Works};
 ghost use Rattle.bh_dispatch.specs.Operating.{CarriesOut};
 
 use bh_base::connection::Connection;
 use bh_shelf::shelf::Shelf;
-use bh_storage::answer::CommandAnswer;
+use bh_host::offer::CommandAnswer;
 use bh_storage::error::StepError;
 use bh_types::moment::Moment;
 use bh_types::names::TenantName;

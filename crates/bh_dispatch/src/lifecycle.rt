@@ -1,6 +1,6 @@
 //! The operations on the rule of a bucket, as answers of a host's storage.
 ghost use Rattle.bh_machine.specs.Machine.{lifecycle_operated};
-ghost use Rattle.bh_storage.specs.Answers.{answer_view};
+ghost use Rattle.bh_host.specs.Offers.{answer_view};
 ghost use Rattle.bh_schema.specs.Working.{Works};
 ghost use Rattle.bh_dispatch.specs.Operating.{CarriesOut};
 
@@ -8,7 +8,7 @@ use crate::answers::told;
 use bh_base::connection::Connection;
 use bh_operation::operation::LifecycleOperation;
 use bh_shelf::shelf::Shelf;
-use bh_storage::answer::Answer;
+use bh_host::offer::Answer;
 use bh_storage::error::StepError;
 use bh_types::names::TenantName;
 use bh_types::rejection::Rejection;

@@ -4,7 +4,7 @@ ghost use Rattle.std.specs.Prelude.{◌≡◌, option_map};
 ghost use Rattle.bh_listing.specs.Told.{asked_view};
 ghost use Rattle.bh_machine.specs.Machine.{listing_operated, page_asked, place_asked, upload_asked};
 ghost use Rattle.bh_pages.specs.Seen.{token_of};
-ghost use Rattle.bh_storage.specs.Answers.{answer_view};
+ghost use Rattle.bh_host.specs.Offers.{answer_view};
 ghost use Rattle.bh_schema.specs.Working.{Works};
 ghost use Rattle.bh_dispatch.specs.Operating.{CarriesOut};
 
@@ -17,7 +17,7 @@ use bh_operation::operation::ListingOperation;
 use bh_operation::page::{Page, UploadMarker, VersionMarker};
 use bh_pages::gathering::PageAsked;
 use bh_shelf::shelf::Shelf;
-use bh_storage::answer::Answer;
+use bh_host::offer::Answer;
 use bh_storage::error::StepError;
 use bh_types::id::UploadId;
 use bh_types::names::TenantName;

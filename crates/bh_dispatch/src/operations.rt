@@ -5,8 +5,9 @@ ghost use Rattle.bh_machine.specs.Machine.{operated, bare_operated, service_oper
 ghost use Rattle.bh_model.specs.Operations as machine;
 ghost use Rattle.bh_view.specs.Bodies.{StoresPieces};
 ghost use Rattle.bh_view.specs.View.{latest_of};
-ghost use Rattle.bh_storage.specs.Answers.{answer_view, offer_view};
-ghost use Rattle.bh_storage.specs.Plans.{IfPlanned, IsMeasured};
+ghost use Rattle.bh_host.specs.Offers.{answer_view, offer_view};
+ghost use Rattle.bh_storage.specs.Plans.{IsMeasured};
+ghost use Rattle.bh_host.specs.Offers.{IfPlanned};
 ghost use Rattle.bh_storage.specs.Calls.{UnlessSpoilt};
 ghost use Rattle.bh_cache.specs.Kept.{Agrees};
 ghost use Rattle.bh_base.specs.Connections.{IsClean, tables};
@@ -34,7 +35,7 @@ use bh_operation::operation::{
 use bh_operation::text::Bytes;
 use bh_schema::host::Digester;
 use bh_shelf::shelf::Shelf;
-use bh_storage::answer::{Answer, Offer};
+use bh_host::offer::{Answer, Offer};
 use bh_storage::error::{Outcome, StepError, Trouble};
 use bh_types::limits::Limits;
 use bh_types::moment::Moment;

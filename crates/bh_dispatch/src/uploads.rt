@@ -5,7 +5,7 @@ ghost use Rattle.bh_machine.specs.Machine.{finish_upload, upload_operated};
 ghost use Rattle.bh_model.specs.Listings as listings;
 ghost use Rattle.bh_view.specs.View.{latest_of};
 ghost use Rattle.bh_base.specs.Connections.{IsClean, tables};
-ghost use Rattle.bh_storage.specs.Answers.{answer_view};
+ghost use Rattle.bh_host.specs.Offers.{answer_view};
 ghost use Rattle.bh_schema.specs.Working.{Works};
 ghost use Rattle.bh_dispatch.specs.Operating.{CarriesOut};
 
@@ -17,7 +17,7 @@ use bh_operation::address::ObjectName;
 use bh_operation::operation::UploadOperation;
 use bh_operation::page::PartPage;
 use bh_shelf::shelf::Shelf;
-use bh_storage::answer::Answer;
+use bh_host::offer::Answer;
 use bh_storage::error::StepError;
 use bh_types::id::UploadId;
 use bh_types::names::TenantName;

@@ -8,10 +8,10 @@ use Rattle.bh_machine.specs.Machine.{RequestRead}
 use Rattle.bh_model.specs.Operations.{Answer}
 use Rattle.bh_host.specs.Replies.{response_to, text}
 use Rattle.bh_storage.specs.Calls.{Seen, Within}
-use Rattle.bh_storage.specs.Plans.{IfFound}
+use Rattle.bh_host.specs.Offers.{IfFound}
 use Rattle.bh_storage.specs.declared.answer.FoundVersion.{FoundVersion}
-use Rattle.bh_storage.specs.declared.answer.Offer.{Offer}
-use Rattle.bh_storage.specs.declared.answer.Offer.TheVariants.{Whole, Planned}
+use Rattle.bh_host.specs.declared.offer.Offer.{Offer}
+use Rattle.bh_host.specs.declared.offer.Offer.TheVariants.{Whole, Planned}
 use Rattle.bh_tables.specs.Typed.{Tables}
 
 -- one call after others

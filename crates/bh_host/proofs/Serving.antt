@@ -11,10 +11,11 @@ use Rattle.bh_http.specs.declared.request.Head.{Head}
 use Rattle.bh_http.proofs.BodyLemmas.{gives_none, going_may}
 use Rattle.bh_machine.specs.Machine.{RequestRead, requested}
 use Rattle.bh_model.specs.State.{Octets}
-use Rattle.bh_storage.specs.Answers.{offer_view}
+use Rattle.bh_host.specs.Offers.{offer_view}
 use Rattle.bh_storage.specs.Calls.{Seen, Clean, Within, IsWorking, Purges, Carries, Operates}
-use Rattle.bh_storage.specs.Plans.{IfFound, IsMeasured}
-use Rattle.bh_storage.specs.declared.answer.Offer.{Offer}
+use Rattle.bh_storage.specs.Plans.{IsMeasured}
+use Rattle.bh_host.specs.Offers.{IfFound}
+use Rattle.bh_host.specs.declared.offer.Offer.{Offer}
 use Rattle.bh_storage.specs.declared.error.Outcome.{Outcome}
 use Rattle.bh_storage.specs.declared.error.Outcome.TheVariants.{Done, Spoilt}
 use Rattle.bh_storage.specs.declared.error.StepError.{StepError}

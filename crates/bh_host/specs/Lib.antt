@@ -1,6 +1,7 @@
 pub mod Answers
 pub mod Asking
 pub mod Groups
+pub mod Offers
 pub mod Receives
 pub mod Replies
 pub mod Resting

@@ -7,7 +7,8 @@ ghost use Rattle.bh_host.specs.Replies as spec;
 ghost use Rattle.bh_model.specs.State.{Octets};
 ghost use Rattle.bh_model.specs.Operations.{Object, Buckets, Versioning, Objects, Versions, Lifecycle, Retention, Uploads, Parts};
 ghost use Rattle.bh_model.specs.Operations.{PartStored, Used};
-ghost use Rattle.bh_storage.specs.Answers.{answer_view, removed_answer, stored_answer, copied_answer, head_answer, begun_answer};
+ghost use Rattle.bh_storage.specs.Answers.{removed_answer, stored_answer, copied_answer, head_answer, begun_answer};
+ghost use Rattle.bh_host.specs.Offers.{answer_view};
 ghost use Rattle.bh_storage.specs.Answers.{completed_answer};
 
 use bh_docs::{
@@ -19,9 +20,8 @@ use bh_docs::{
 use bh_http::StatusCode;
 use bh_http::response::Response;
 use bh_http::values::{ContentRange, ContentType};
-use bh_storage::answer::{
-    Answer, BegunUpload, CompletedUpload, CopiedVersion, ObjectHead, RemovedEntry, StoredVersion,
-};
+use bh_storage::answer::{BegunUpload, CompletedUpload, CopiedVersion, ObjectHead, RemovedEntry, StoredVersion};
+use crate::offer::Answer;
 use bh_types::bucket_state::BucketState;
 use bh_types::moment::Moment;
 use bh_types::range::RangePlan;

@@ -13,7 +13,7 @@ use crate::event::Told;
 use crate::reply::Reply;
 use bh_storage::error::Trouble;
 use bh_storage::plan::Plan;
-use bh_storage::storage::Storage;
+use crate::storage::Storage;
 use bh_types::moment::Moment;
 use bh_types::names::TenantName;
 use std::alloc::Global;

@@ -27,7 +27,7 @@ use bh_http::read::split_head;
 use bh_http::request::Head;
 use bh_operation::routes::Routes;
 use bh_storage::error::Trouble;
-use bh_storage::storage::Storage;
+use crate::storage::Storage;
 use bh_types::moment::{LAST_READING, Moment};
 use bh_types::names::TenantName;
 use bh_types::refusal::Refusal;

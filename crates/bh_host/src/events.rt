@@ -10,7 +10,7 @@ ghost use Rattle.bh_host.specs.Runs.{HasRunOn, RanOn};
 use crate::event::{Told, apply};
 use bh_event::event::Event;
 use bh_operation::routes::Routes;
-use bh_storage::storage::Storage;
+use crate::storage::Storage;
 use std::alloc::{AllocError, Global};
 
 /// Applies events in turn, and returns their replies. Each tenant is answered as by a machine of

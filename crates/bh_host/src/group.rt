@@ -16,7 +16,7 @@ use crate::within::apply_within;
 use bh_event::event::Event;
 use bh_operation::routes::Routes;
 use bh_storage::error::Trouble;
-use bh_storage::storage::Storage;
+use crate::storage::Storage;
 use std::alloc::Global;
 
 /// The replies to the first events of a list, which were applied.

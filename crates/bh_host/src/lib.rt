@@ -9,9 +9,11 @@ mod events;
 mod group;
 pub mod laws;
 mod lists;
+pub mod offer;
 mod receiving;
 mod reply;
 mod serve;
+pub mod storage;
 mod together;
 mod within;
 

@@ -15,7 +15,7 @@ use crate::event::apply_in_pieces;
 use crate::group::{Group, apply_group};
 use bh_event::event::Event;
 use bh_operation::routes::Routes;
-use bh_storage::storage::Storage;
+use crate::storage::Storage;
 use std::alloc::{AllocError, Global};
 
 /// Applies events in one transaction. If that fails, it is rolled back, and each is applied by

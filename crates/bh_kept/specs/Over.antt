@@ -6,7 +6,7 @@ use Rattle.sqlite_store.specs.declared.store.FileStore.{FileStore}
 use Rattle.sqlite.specs.Files.{over_files}
 use Rattle.bh_tables.specs.Typed.{Tables}
 use Rattle.bh_storage.specs.Calls.{Seen, IsAtRest}
-use Rattle.bh_storage.specs.declared.storage.Storage.{Ghosts}
+use Rattle.bh_host.specs.declared.storage.Storage.{Ghosts}
 use Rattle.bh_schema.specs.Storage as host
 use Rattle.bh_schema.specs.declared.host.Digester as digester
 use Rattle.bh_schema.specs.declared.host.Host.{Host}

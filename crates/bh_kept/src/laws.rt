@@ -7,7 +7,7 @@ use crate::host::{BlockSize, KeptHost};
 use bh_dispatch::recalling::RecallingStorage;
 use bh_schema::host::Digester;
 use bh_shelf::shelf::Shelf;
-use bh_storage::storage::Storage;
+use bh_host::storage::Storage;
 use sqlite::FileStore;
 use sqlite_disk::Disk;
 

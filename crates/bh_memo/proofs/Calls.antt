@@ -14,11 +14,7 @@ use Rattle.bh_view.proofs.PurgeLemmas.{rows_gone}
 use Rattle.bh_tables.specs.Typed.{Tables}
 use Rattle.bh_view.specs.Bodies.{IsSoundHost}
 use Rattle.bh_view.specs.View.{view, latest_of, with_latest, rows_purged}
-use Rattle.bh_storage.specs.Answers.{offer_view}
 use Rattle.bh_storage.specs.Calls.{Seen, IsAtRest, IsWorking, Within, StaysAtWork, Commits, TakesBack, Stamps, Purges, Unless, UnlessSpoilt, GivesStep, Operates}
-use Rattle.bh_storage.specs.Plans.{IfPlanned, IsMeasured}
-use Rattle.bh_storage.specs.declared.answer.Offer.{Offer}
-use Rattle.bh_storage.specs.declared.answer.Offer.TheVariants.{Whole, Planned}
 use Rattle.bh_storage.specs.declared.error.Outcome.{Outcome}
 use Rattle.bh_storage.specs.declared.error.Outcome.TheVariants.{Done, Spoilt}
 use Rattle.bh_storage.specs.declared.error.StepError.{StepError}
@@ -122,17 +118,17 @@ module _ (before after : Facts) (old new : Seen) (clean : Type 0) (was : clean �
     shown_unless P none (Err (Failed trouble)) so h c = none trouble _ _
 
   -- a step whose body comes in pieces
-  module _ {E : Type 0} (t : Octets) (step : Octets → Option Machine → Result (machine.Answer × Option Machine) E) (start end : Coming) where
-    abbrev Steps : Tables → Tables → Tables → Result (Outcome Offer E) (StepError E) → Type 0
-    Steps read a b result = Operates (offer_view read) t step clean start end a b result
+  module _ {X E : Type 0} (shown_by : Tables → X → machine.Answer) (t : Octets) (step : Octets → Option Machine → Result (machine.Answer × Option Machine) E) (start end : Coming) where
+    abbrev Steps : Tables → Tables → Tables → Result (Outcome X E) (StepError E) → Type 0
+    Steps read a b result = Operates (shown_by read) t step clean start end a b result
 
-    pub operates_shown : (result : Result (Outcome Offer E) (StepError E)) → UnlessSpoilt result (clean → holds after new.now ≡ true) → Steps new.now old.now new.now result
+    pub operates_shown : (result : Result (Outcome X E) (StepError E)) → UnlessSpoilt result (clean → holds after new.now ≡ true) → Steps new.now old.now new.now result
         → Steps (recalled after new).now (recalled before old).now (recalled after new).now result
     operates_shown (Ok (Done x)) so h = record {
       given = h.given;
       gives = h.gives;
       decided = h.decided;
-      carries = λ c. shown (λ a b. GivesStep t (step h.given) (offer_view b x) a b) c (so c) (h.carries c);
+      carries = λ c. shown (λ a b. GivesStep t (step h.given) (shown_by b x) a b) c (so c) (h.carries c);
     }
     operates_shown (Ok (Spoilt r)) so h = record { given = h.given; gives = h.gives; decided = h.decided; carries = λ c. subst (λ (x : Seen). step h.given (view x.now t) ≡ Err r) (sym (was c)) (h.carries c) }
     operates_shown (Err (Refused r)) so h = record {
@@ -144,18 +140,11 @@ module _ (before after : Facts) (old new : Seen) (clean : Type 0) (was : clean �
     operates_shown (Err (Failed trouble)) so h = record { given = h.given; gives = h.gives; decided = h.decided; carries = λ c. tt }
 
     -- once all that is remembered of the tenant is forgotten
-    pub forgotten : Forgets t before after → (clean → holds before old.now ≡ true) → (result : Result (Outcome Offer E) (StepError E)) → Steps new.now old.now new.now result → UnlessSpoilt result (clean → holds after new.now ≡ true)
+    pub forgotten : Forgets t before after → (clean → holds before old.now ≡ true) → (result : Result (Outcome X E) (StepError E)) → Steps new.now old.now new.now result → UnlessSpoilt result (clean → holds after new.now ≡ true)
     forgotten forgets so (Ok (Done x)) h = λ c. let it = h.carries c in holds_others t before after old.now new.now forgets it.others it.latest (so c)
     forgotten forgets so (Ok (Spoilt r)) h = tt
     forgotten forgets so (Err (Refused r)) h = λ c. let same = (h.carries c).1 in holds_others t before after old.now new.now forgets (λ u apart. ap (λ (x : Tables). view x u) same) (ap latest_of same) (so c)
     forgotten forgets so (Err (Failed trouble)) h = tt
-
-  pub measured_shown : {E : Type 0} (result : Result (Outcome Offer E) (StepError E)) → UnlessSpoilt result (clean → holds after new.now ≡ true) → IfPlanned result (λ found. clean → IsMeasured new.now found)
-      → IfPlanned result (λ found. clean → IsMeasured (recalled after new).now found)
-  measured_shown (Ok (Done (Whole answer))) so h = tt
-  measured_shown (Ok (Done (Planned found))) so h = λ c. subst (λ (x : Seen). IsMeasured x.now found) (sym (alone after new (so c))) (h c)
-  measured_shown (Ok (Spoilt r)) so h = tt
-  measured_shown (Err e) so h = tt
 
 -- ---- a transaction is begun, committed, taken back
 

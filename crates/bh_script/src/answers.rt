@@ -14,7 +14,7 @@ use bh_host::{Reply, apply};
 use bh_link::ends::Sink;
 use bh_link::link::Link;
 use bh_operation::routes::Routes;
-use bh_storage::storage::Storage;
+use bh_host::storage::Storage;
 use memchr::memchr;
 use std::alloc::Global;
 

@@ -17,7 +17,7 @@ use bh_event::event::Event;
 use bh_event::line::read_line;
 use bh_host::{Told, apply};
 use bh_operation::routes::Routes;
-use bh_storage::storage::Storage;
+use bh_host::storage::Storage;
 use bh_types::block_digest::BlockDigest;
 use example_calls::answer::Fault;
 use sqlite::Connection;

@@ -16,7 +16,7 @@ use bh_dispatch::storage::HostStorage;
 use bh_event::event::Event;
 use bh_host::run;
 use bh_operation::routes::Routes;
-use bh_storage::storage::Storage;
+use bh_host::storage::Storage;
 use bh_types::block_digest::BlockDigest;
 use example_calls::answer::Fault;
 use sqlite::Connection;

@@ -16,7 +16,7 @@ use bh_host::apply;
 use bh_link::ends::Untold;
 use bh_link::link::Link;
 use bh_operation::routes::Routes;
-use bh_storage::storage::Storage;
+use bh_host::storage::Storage;
 use bh_types::block_digest::BlockDigest;
 use bh_types::limits::{Limits, Tuning};
 use sqlite::Connection;

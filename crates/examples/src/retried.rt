@@ -15,7 +15,7 @@ use bh_event::event::Event;
 use bh_host::{Told, apply};
 use bh_operation::routes::Routes;
 use bh_script::input::read_all;
-use bh_storage::storage::Storage;
+use bh_host::storage::Storage;
 use bh_types::block_digest::BlockDigest;
 use bh_types::limits::{Limits, Tuning};
 use sqlite::Connection;

@@ -16,7 +16,7 @@ use bh_event::event::Event;
 use bh_host::{Told, apply};
 use bh_open::{NoHost, open_host};
 use bh_operation::routes::Routes;
-use bh_storage::storage::Storage;
+use bh_host::storage::Storage;
 use bh_types::block_digest::BlockDigest;
 use example_calls::answer::Fault;
 use sqlite::{Alter, Connection, FileStore, Files};

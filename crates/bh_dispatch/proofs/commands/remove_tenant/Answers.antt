@@ -1,7 +1,7 @@
 use Rattle.std.proofs.Common.{rules, refl}
 use Rattle.bh_removal.specs.Removal.{leaves}
-use Rattle.bh_storage.specs.Answers.{command_answer_view}
-use Rattle.bh_storage.specs.declared.answer.CommandAnswer.TheVariants as answer
+use Rattle.bh_host.specs.Offers.{command_answer_view}
+use Rattle.bh_host.specs.declared.offer.CommandAnswer.TheVariants as answer
 use Rattle.bh_dispatch.proofs.Operating.{commanded, map_is}
 use Rattle.bh_dispatch.proofs.commands.remove_tenant.Goals as goal
 

@@ -4,7 +4,7 @@ use Rattle.bh_docs.specs.Requests.{versioning_of, lifecycle_of, retention_of}
 use Rattle.bh_machine.specs.Machine.{document_operated, set_versioning, set_lifecycle, set_retention}
 use Rattle.bh_model.specs.Operations.{put_versioning, put_lifecycle, put_retention}
 use Rattle.bh_types.specs.Rejections.{plainly}
-use Rattle.bh_storage.specs.declared.answer.Answer.TheVariants as answer
+use Rattle.bh_host.specs.declared.offer.Answer.TheVariants as answer
 use Rattle.bh_dispatch.proofs.Operating.{by_step, carried, carried_plainly, map_is, unread}
 use Rattle.bh_dispatch.proofs.Steps.{rules as ruled, dates, states, lifecycle_range}
 use Rattle.bh_dispatch.proofs.documents.carry_out_document.Goals as goal

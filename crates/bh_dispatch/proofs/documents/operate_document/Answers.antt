@@ -3,10 +3,10 @@ use Rattle.std.proofs.lemmas.Result.{err_from_is_err_and}
 use Rattle.bh_base.specs.Connections.{state}
 use Rattle.bh_types.specs.declared.rejection.Rejection.{Rejection}
 use Rattle.bh_machine.specs.Machine.{document_operated}
-use Rattle.bh_storage.specs.Answers.{answer_view}
+use Rattle.bh_host.specs.Offers.{answer_view}
 use Rattle.bh_storage.specs.Calls.{UnlessSpoilt}
 use Rattle.bh_storage.specs.Errors.{step_rejected}
-use Rattle.bh_storage.specs.declared.answer.Answer.{Answer}
+use Rattle.bh_host.specs.declared.offer.Answer.{Answer}
 use Rattle.bh_storage.specs.declared.error.Outcome.{Outcome}
 use Rattle.bh_storage.specs.declared.error.StepError.{StepError}
 use Rattle.bh_schema.specs.Working.{tables_at}

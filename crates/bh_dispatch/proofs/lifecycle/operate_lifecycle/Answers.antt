@@ -1,6 +1,6 @@
 use Rattle.bh_machine.specs.Machine.{lifecycle_operated}
 use Rattle.bh_model.specs.Operations.{get_lifecycle, delete_lifecycle}
-use Rattle.bh_storage.specs.declared.answer.Answer.TheVariants as answer
+use Rattle.bh_host.specs.declared.offer.Answer.TheVariants as answer
 use Rattle.bh_dispatch.proofs.Operating.{carried_plainly}
 use Rattle.bh_dispatch.proofs.lifecycle.operate_lifecycle.Goals as goal
 

@@ -9,7 +9,7 @@ use Rattle.bh_model.specs.State.{Octets, State}
 use Rattle.bh_listing.specs.Versions.{place_view}
 use Rattle.bh_upload_listing.specs.Places.{place_view as upload_view}
 use Rattle.bh_pages.specs.Seen.{token_of}
-use Rattle.bh_storage.specs.declared.answer.Answer.TheVariants as answer
+use Rattle.bh_host.specs.declared.offer.Answer.TheVariants as answer
 use Rattle.bh_dispatch.proofs.Operating.{by_step, carried_plainly}
 use Rattle.bh_dispatch.proofs.listings.operate_listing.Goals as goal
 

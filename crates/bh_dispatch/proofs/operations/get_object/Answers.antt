@@ -1,7 +1,7 @@
 use Rattle.std.proofs.lemmas.Result.{err_from_is_err_and}
 use Rattle.bh_base.specs.Connections.{state}
 use Rattle.bh_http.proofs.BodyLemmas.{breaks_may}
-use Rattle.bh_storage.specs.declared.answer.Offer.{Offer}
+use Rattle.bh_host.specs.declared.offer.Offer.{Offer}
 use Rattle.bh_schema.specs.Working.{tables_at}
 use Rattle.bh_dispatch.proofs.Operating.{still}
 use Rattle.bh_dispatch.proofs.Receiving.{spoilt_err}

@@ -1,6 +1,6 @@
 use Rattle.bh_base.specs.Connections.{state}
 use Rattle.bh_machine.specs.Machine.{operated}
-use Rattle.bh_storage.specs.Answers.{answer_view, offer_view}
+use Rattle.bh_host.specs.Offers.{answer_view, offer_view}
 use Rattle.bh_schema.specs.Working.{tables_at}
 use Rattle.bh_dispatch.proofs.Offering.{offered_spoilt, offered_plans, offered_on, keeps_blocks, stores_no_object}
 use Rattle.bh_dispatch.proofs.Operating.{operates_by_any}

@@ -3,8 +3,8 @@ use Rattle.std.proofs.lemmas.Result.{err_from_is_err_and}
 use Rattle.bh_base.specs.Connections.{state}
 use Rattle.bh_http.proofs.BodyLemmas.{breaks_may}
 use Rattle.bh_machine.specs.Machine.{bare_operated}
-use Rattle.bh_storage.specs.Answers.{answer_view}
-use Rattle.bh_storage.specs.declared.answer.Answer.{Answer}
+use Rattle.bh_host.specs.Offers.{answer_view}
+use Rattle.bh_host.specs.declared.offer.Answer.{Answer}
 use Rattle.bh_schema.specs.Working.{tables_at}
 use Rattle.bh_dispatch.proofs.Operating.{still, works_err}
 use Rattle.bh_dispatch.proofs.Receiving.{operates_err}

@@ -1,7 +1,7 @@
 use Rattle.std.proofs.Common.{rules}
 use Rattle.bh_machine.specs.Machine.{bucket_operated}
 use Rattle.bh_model.specs.Operations.{create_bucket, head_bucket, delete_bucket, get_versioning}
-use Rattle.bh_storage.specs.declared.answer.Answer.TheVariants as answer
+use Rattle.bh_host.specs.declared.offer.Answer.TheVariants as answer
 use Rattle.bh_dispatch.proofs.Operating.{carried_plainly}
 use Rattle.bh_dispatch.proofs.operations.operate_bucket.Goals as goal
 

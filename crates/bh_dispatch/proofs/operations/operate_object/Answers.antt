@@ -1,6 +1,6 @@
 use Rattle.bh_machine.specs.Machine.{object_operated}
 use Rattle.bh_model.specs.Operations.{head_object, delete_object, get_retention}
-use Rattle.bh_storage.specs.declared.answer.Answer.TheVariants as answer
+use Rattle.bh_host.specs.declared.offer.Answer.TheVariants as answer
 use Rattle.bh_dispatch.proofs.Operating.{carried, carried_plainly, map_is}
 use Rattle.bh_dispatch.proofs.operations.operate_object.Goals as goal
 

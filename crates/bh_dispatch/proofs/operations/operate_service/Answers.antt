@@ -1,6 +1,6 @@
 use Rattle.bh_machine.specs.Machine.{service_operated}
 use Rattle.bh_model.specs.Operations.{list_buckets, tell_usage}
-use Rattle.bh_storage.specs.declared.answer.Answer.TheVariants as answer
+use Rattle.bh_host.specs.declared.offer.Answer.TheVariants as answer
 use Rattle.bh_dispatch.proofs.Operating.{carried_plainly}
 use Rattle.bh_dispatch.proofs.operations.operate_service.Goals as goal
 

@@ -3,8 +3,8 @@ use Rattle.bh_base.specs.Connections.{state}
 use Rattle.bh_machine.specs.Machine.{store_operated}
 use Rattle.bh_model.specs.Operations.{put_object}
 use Rattle.bh_model.specs.Uploads.{upload_part}
-use Rattle.bh_storage.specs.Answers.{answer_view}
-use Rattle.bh_storage.specs.declared.answer.Answer.TheVariants as answer
+use Rattle.bh_host.specs.Offers.{answer_view}
+use Rattle.bh_host.specs.declared.offer.Answer.TheVariants as answer
 use Rattle.bh_cache.proofs.Agreeing.{copies}
 use Rattle.bh_schema.specs.Working.{tables_at}
 use Rattle.bh_dispatch.proofs.Operating.{received}

@@ -2,7 +2,7 @@ use Rattle.std.proofs.Common.{sym}
 use Rattle.std.specs.Prelude.{map}
 use Rattle.bh_model.specs.Shown.{naming_of}
 use Rattle.bh_model.specs.Uploads.{complete_upload}
-use Rattle.bh_storage.specs.declared.answer.Answer.TheVariants as answer
+use Rattle.bh_host.specs.declared.offer.Answer.TheVariants as answer
 use Rattle.bh_dispatch.proofs.Operating.{by_step, carried_plainly}
 use Rattle.bh_dispatch.proofs.Steps.{finishes}
 use Rattle.bh_dispatch.proofs.uploads.complete_upload.Goals as goal

@@ -1,5 +1,5 @@
 use Rattle.bh_model.specs.Listings.{list_parts}
-use Rattle.bh_storage.specs.declared.answer.Answer.TheVariants as answer
+use Rattle.bh_host.specs.declared.offer.Answer.TheVariants as answer
 use Rattle.bh_dispatch.proofs.Operating.{carried_plainly}
 use Rattle.bh_dispatch.proofs.uploads.list_parts.Goals as goal
 

@@ -1,6 +1,6 @@
 use Rattle.bh_machine.specs.Machine.{upload_operated}
 use Rattle.bh_model.specs.Uploads.{create_upload, abort_upload}
-use Rattle.bh_storage.specs.declared.answer.Answer.TheVariants as answer
+use Rattle.bh_host.specs.declared.offer.Answer.TheVariants as answer
 use Rattle.bh_dispatch.proofs.Operating.{carried_plainly}
 use Rattle.bh_dispatch.proofs.uploads.operate_upload.Goals as goal
 

@@ -1,7 +1,7 @@
 use Rattle.std.proofs.Common.{ℕ, List, ◌∙◌}
 use Rattle.bh_event.specs.Events.{order_of}
 use Rattle.bh_machine.specs.Machine.{Commanded}
-use Rattle.bh_storage.specs.Answers.{command_answer_view}
+use Rattle.bh_host.specs.Offers.{command_answer_view}
 use Rattle.bh_storage.specs.Calls.{Clean, IsWorking}
 use Rattle.bh_host.specs.Turns.{IsActDone}
 use Rattle.bh_host.proofs.Turning.{if_ordered, limits_stay, turned_order}

@@ -5,7 +5,7 @@ use Rattle.bh_types.specs.declared.rejection.Rejection.{Rejection}
 use Rattle.bh_http.specs.Views.{with_body}
 use Rattle.bh_http.proofs.BodyLemmas.{gives_none, going_may}
 use Rattle.bh_machine.specs.Machine.{operated, requested}
-use Rattle.bh_storage.specs.Answers.{offer_view}
+use Rattle.bh_host.specs.Offers.{offer_view}
 use Rattle.bh_storage.specs.Calls.{Clean}
 use Rattle.bh_tables.specs.Typed.{Tables}
 use Rattle.bh_view.specs.View.{latest_of, view}

@@ -1,6 +1,6 @@
 use Rattle.std.proofs.lemmas.Result.{err_from_is_err_and}
 use Rattle.bh_http.proofs.BodyLemmas.{breaks_may}
-use Rattle.bh_storage.specs.declared.answer.Offer.{Offer}
+use Rattle.bh_host.specs.declared.offer.Offer.{Offer}
 use Rattle.bh_dispatch.specs.Seeing.{seen}
 use Rattle.bh_dispatch.proofs.Offering.{found_err}
 use Rattle.bh_dispatch.proofs.Receiving.{spoilt_err}

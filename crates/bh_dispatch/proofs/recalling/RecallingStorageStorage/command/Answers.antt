@@ -1,6 +1,6 @@
 use Rattle.bh_event.specs.Events.{order_of, tenant_of}
 use Rattle.bh_machine.specs.Machine.{ordered}
-use Rattle.bh_storage.specs.Answers.{command_answer_view}
+use Rattle.bh_host.specs.Offers.{command_answer_view}
 use Rattle.bh_storage.specs.Calls.{Carries}
 use Rattle.bh_memo.proofs.Calls.{shown_unless}
 use Rattle.bh_schema.specs.Storage as storage

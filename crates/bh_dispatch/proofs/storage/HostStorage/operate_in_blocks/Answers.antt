@@ -3,7 +3,7 @@ use Rattle.bh_base.specs.Connections.{state}
 use Rattle.bh_machine.specs.Machine.{operated}
 use Rattle.bh_machine.proofs.Bounded.{operated_bounded}
 use Rattle.bh_model.specs.State.{Octets}
-use Rattle.bh_storage.specs.Answers.{offer_view}
+use Rattle.bh_host.specs.Offers.{offer_view}
 use Rattle.bh_storage.specs.Calls.{Seen}
 use Rattle.bh_view.specs.View.{latest_of}
 use Rattle.bh_cache.specs.Kept.{Agrees}

@@ -3,7 +3,7 @@ use Rattle.bh_base.specs.Connections.{state}
 use Rattle.bh_event.specs.Events.{RemoveTenant, ShowUsage, ShowKeys}
 use Rattle.bh_model.specs.Operations.{remove_tenant, show_usage, show_keys}
 use Rattle.bh_machine.proofs.Bounded.{ordered_bounded}
-use Rattle.bh_storage.specs.Answers.{command_answer_view}
+use Rattle.bh_host.specs.Offers.{command_answer_view}
 use Rattle.bh_base.specs.Layer.{IsIntact, IsOpen}
 use Rattle.bh_schema.proofs.Storing.{AreBoth, both, parts, keeps, under}
 use Rattle.bh_dispatch.proofs.Storing.{seen_working, still_working, carried, stored, opened, by_any, agrees_seen, kept_carried, works_beside, carries_beside}

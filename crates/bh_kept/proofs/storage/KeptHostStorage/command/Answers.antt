@@ -2,7 +2,7 @@ use Rattle.std.proofs.Common.{Some, refl}
 use Rattle.bh_event.specs.Events.{order_of, tenant_of}
 use Rattle.bh_machine.specs.Machine.{ordered}
 use Rattle.bh_view.specs.Bodies.{IsSoundHost}
-use Rattle.bh_storage.specs.Answers.{command_answer_view}
+use Rattle.bh_host.specs.Offers.{command_answer_view}
 use Rattle.bh_storage.specs.Calls.{Carries, Unless}
 use Rattle.bh_kept.proofs.Keeping.{at_work_kept, says_kept}
 use Rattle.bh_kept.proofs.storage.KeptHostStorage.command.Goals as goal

@@ -3,7 +3,7 @@ use Rattle.sqlite.specs.Files.{over_files}
 use Rattle.bh_http.proofs.BodyLemmas.{gives_none, going_may}
 use Rattle.bh_machine.specs.Machine.{operated}
 use Rattle.bh_view.specs.Bodies.{IsSoundHost}
-use Rattle.bh_storage.specs.Answers.{offer_view}
+use Rattle.bh_host.specs.Offers.{offer_view}
 use Rattle.bh_storage.specs.Calls.{Operates, UnlessSpoilt}
 use Rattle.bh_schema.specs.Storage as storage
 use Rattle.bh_dispatch.specs.Seeing as recalling
