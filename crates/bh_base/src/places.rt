@@ -9,7 +9,7 @@ ghost use Rattle.bh_base.specs.Measures.{AreMeasured};
 ghost use Rattle.sqlite_keyed.specs.Lists.{update_where, delete_where};
 ghost use Rattle.bh_rows.specs.Means.{is_trouble};
 ghost use Rattle.bh_tables.specs.Schema.{Octets};
-ghost use Rattle.bh_tables.specs.Rows.{PlaceRow, PackRow};
+ghost use Rattle.bh_tables.specs.Rows.{PlaceRow};
 ghost use Rattle.bh_tables.specs.Packs.{place_at, is_place, is_pack, shown_place, shown_pack};
 ghost use Rattle.bh_tables.specs.Typed.{rebodied};
 ghost use Rattle.bh_tables.specs.Shown.{is_block};

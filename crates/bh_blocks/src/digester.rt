@@ -1,4 +1,4 @@
-ghost use Rattle.std.specs.Prelude.{◌≡◌, ◌*◌, ◌≤◌, length};
+ghost use Rattle.std.specs.Prelude.{◌*◌, ◌≤◌, length};
 ghost use Rattle.sha2.specs.Sha256.{sha256};
 ghost use Rattle.bh_schema.specs.Digests.{AreNamed};
 ghost use Rattle.bh_blocks.specs.SipHash.{siphash};

@@ -1,7 +1,7 @@
 //! A body that is stored while it is received, in pieces of any sizes. It has less than one block
 //! in memory.
 
-ghost use Rattle.std.specs.Prelude.{◌≡◌, ◌+◌, ◌<◌, ◌≤◌, ◌^◌, ◌++◌, ◌∷◌, [], length, take, drop, IfOk, OnOk};
+ghost use Rattle.std.specs.Prelude.{◌≡◌, ◌+◌, ◌<◌, ◌≤◌, ◌^◌, ◌++◌, ◌∷◌, [], length, OnOk};
 ghost use Rattle.sha2.specs.Sha256.{sha256};
 ghost use Rattle.bh_tables.specs.Schema.{Octets};
 ghost use Rattle.bh_tables.specs.Typed.{Tables};
@@ -12,7 +12,6 @@ ghost use Rattle.bh_base.specs.Layer.{Holds};
 ghost use Rattle.bh_cache.specs.Kept.{AreCopies};
 ghost use Rattle.bh_blocks.specs.Added.{IsNewBody};
 ghost use Rattle.bh_blocks.specs.Drafts.{Goes, drafted};
-ghost use Rattle.bh_blocks.specs.Named.{body_at};
 
 use crate::blocks::{store_known, store_piece};
 use crate::groups::{cut_off, next_place, store_blocks};

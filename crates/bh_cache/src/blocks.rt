@@ -1,7 +1,7 @@
 //! A cache of blocks, beside their rows: at most a fixed number of blocks and of bytes, the ones used
 //! last.
 
-ghost use Rattle.std.specs.Prelude.{◌≡◌, ◌≢◌, ◌⊎◌, ◌≤◌, ◌+◌, ℕ, List, Some, true, length, Contains, IfSome, IsTrue};
+ghost use Rattle.std.specs.Prelude.{◌≡◌, ◌≢◌, ◌⊎◌, ◌≤◌, ◌+◌, Some, length, Contains, IfSome, IsTrue};
 ghost use Rattle.bh_tables.specs.Schema.{Octets};
 ghost use Rattle.bh_tables.specs.Shown.{Name};
 ghost use Rattle.bh_cache.specs.Kept.{no_blocks, bytes_in, room_of, entries_in};

@@ -1,5 +1,5 @@
 -- Calls one after another, within a write.
-use Rattle.std.proofs.Common.{◌≡◌, true≢false, sym, Option, Some, None, Ok, Err, Result, IfOk, IfSome, OnOk}
+use Rattle.std.proofs.Common.{true≢false, sym, Option, Some, None, Ok, Err, Result, IfOk, IfSome, OnOk}
 use Rattle.std.specs.Result.{IsErr}
 use Rattle.std.proofs.lemmas.Result.{on_ok_weaker}
 use Rattle.sqlite_trees.specs.declared.store.Store.{Ghosts}

@@ -1,5 +1,5 @@
 -- What texts found: a pack that is sparse, and no more names than were asked for.
-use Rattle.std.proofs.Common.{◌≡◌, ◌≤◌, ℕ, zero, suc, arith, pos, List, [], ◌∷◌, map, filter, take, length, Some, None, slice_get, inl, refl, sym, ap, subst, ◌∙◌}
+use Rattle.std.proofs.Common.{◌≡◌, ◌≤◌, ℕ, zero, suc, arith, pos, List, [], ◌∷◌, map, filter, take, length, Some, slice_get, inl, refl, sym, ap, ◌∙◌}
 use Rattle.sqlite.specs.Order.{Row, column}
 use Rattle.sqlite.specs.declared.types.Value.TheVariants.{Int}
 use Rattle.sqlite_rules.specs.Lists.{Has}

@@ -1,7 +1,6 @@
 -- Places once others moved: the same blocks have one, and it is the same where it was in another pack.
-use Rattle.std.proofs.Common.{◌≡◌, ◌≢◌, ℕ, zero, suc, Bool, true, false, true≢false, not, cond, List, [], ◌∷◌, ◌++◌, filter, Option, Some, None, refl, sym, ap, subst, ◌∙◌}
+use Rattle.std.proofs.Common.{◌≡◌, ◌≢◌, ℕ, zero, suc, Bool, true, false, true≢false, not, cond, List, [], ◌∷◌, ◌++◌, filter, Some, None, refl, sym, ap, ◌∙◌}
 use Rattle.sqlite_keyed.specs.Lists.{delete_where}
-use Rattle.bh_packs.specs.declared.place.Place.{Place}
 use Rattle.bh_tables.specs.Bodies.{first}
 use Rattle.bh_tables.specs.Packs.{place_name, place_at, is_place}
 use Rattle.bh_tables.specs.Rows.{PlaceRow, PackRow}

@@ -1,5 +1,5 @@
 -- Two lists of places whose expressions are the same have the same expression at each index.
-use Rattle.std.proofs.Common.{◌≡◌, ◌<◌, ◌∙◌, ℕ, List, map, length, sym, ap, get_or}
+use Rattle.std.proofs.Common.{◌≡◌, ◌<◌, ◌∙◌, ℕ, List, length, sym, ap, get_or}
 use Rattle.std.proofs.lemmas.List.{get_or-map}
 use Rattle.sqlite_sql.specs.Term.{Term}
 use Rattle.sqlite_schema.specs.declared.code.Op.{Op}

@@ -1,4 +1,4 @@
-ghost use Rattle.std.specs.Prelude.{◌≡◌, ◌∷◌, ℕ, Bool, true, List, [], Option, None, IfOk, MatchResult};
+ghost use Rattle.std.specs.Prelude.{◌≡◌, ◌∷◌, Bool, true, List, [], Option, None, IfOk, MatchResult};
 ghost use Rattle.bh_http.specs.Transfers.{Logs};
 ghost use Rattle.bh_connection.specs.Each.{IsGoing, ends};
 ghost use Rattle.bh_host.specs.declared.reply.Caller.TheVariants.{Operator};

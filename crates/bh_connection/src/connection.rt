@@ -16,6 +16,7 @@ ghost use Rattle.bh_connection.specs.Connections.{ends_of, begun_by, EndsAs, Cam
 
 use crate::sending::send_planned;
 use crate::served::{End, Served};
+use bh_host::storage::Storage;
 use bh_host::{Caller, Delivery, Replied, Reply, Told, receive, refuse_unread};
 use bh_http::request::{Head, MAX_FIELDS};
 use bh_link::ends::{Sink, Source};
@@ -23,7 +24,6 @@ use bh_link::link::Link;
 use bh_link::request::{Opening, TakeError, take_head};
 use bh_operation::routes::Routes;
 use bh_storage::error::Trouble;
-use bh_host::storage::Storage;
 use bh_types::moment::LAST_READING;
 use httparse::spans::{EMPTY_HEADER_SPAN, HeaderSpan};
 use std::alloc::Global;

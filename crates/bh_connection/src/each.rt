@@ -7,10 +7,10 @@ ghost use Rattle.bh_connection.specs.Together.{HasServedMore};
 
 use crate::connection::serve_connection;
 use crate::served::Served;
+use bh_host::storage::Storage;
 use bh_link::ends::{Sink, Source};
 use bh_link::link::Link;
 use bh_operation::routes::Routes;
-use bh_host::storage::Storage;
 use std::alloc::{AllocError, Global};
 
 /// A connection at a reading of the clock, in seconds since 1970.

@@ -2,7 +2,7 @@
 //! same moment.
 
 ghost use Rattle.std.specs.Prelude.{◌≡◌, ◌≤◌, ◌<◌, ℕ, true, false, [], ◌∷◌, List, Option, length, map};
-ghost use Rattle.std.specs.Prelude.{All, IfOk, IfSome, is_some, option_map, vec_capacity};
+ghost use Rattle.std.specs.Prelude.{IfOk, IfSome, is_some, option_map, vec_capacity};
 ghost use Rattle.std.specs.List.{list_any};
 ghost use Rattle.bh_http.specs.Transfers.{Logs};
 ghost use Rattle.bh_storage.specs.Calls.{Clean, IsAtRest};

@@ -7,11 +7,11 @@ ghost use Rattle.bh_connection.specs.Connections.{Sends};
 
 use crate::served::{End, Served};
 use bh_host::PlannedReply;
+use bh_host::storage::Storage;
 use bh_link::ends::Sink;
 use bh_link::link::Link;
 use bh_storage::error::Trouble;
 use bh_storage::plan::Plan;
-use bh_host::storage::Storage;
 use bh_types::moment::Moment;
 use std::alloc::Global;
 

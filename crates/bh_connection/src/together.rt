@@ -19,12 +19,12 @@ use crate::sending::send_planned;
 use crate::served::Served;
 use crate::taking::take_all;
 use bh_event::event::Event;
+use bh_host::storage::Storage;
 use bh_host::{Caller, Group, PlannedReply, Reply, Told, apply_together};
 use bh_link::ends::{Sink, Source};
 use bh_link::request::TakeError;
 use bh_operation::routes::Routes;
 use bh_storage::error::Trouble;
-use bh_host::storage::Storage;
 use bh_types::moment::LAST_READING;
 use std::alloc::Global;
 

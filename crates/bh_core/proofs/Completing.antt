@@ -14,7 +14,7 @@ use Rattle.bh_types.specs.declared.refusal.Refusal.TheVariants.{InvalidPartOrder
 use Rattle.bh_types.specs.Outcomes.{◌>>=◌, require}
 use Rattle.bh_types.specs.Checksums.{checksum_text}
 use Rattle.bh_model.specs.State.{Octets, Part}
-use Rattle.bh_model.specs.Parts.{Naming, ascends, is_checksum, checked, choice, chosen, joined}
+use Rattle.bh_model.specs.Parts.{Naming, ascends, is_checksum, choice, chosen, joined}
 use Rattle.bh_model.specs.Parts as machine
 use Rattle.bh_core.specs.declared.parts.PartRow.{PartRow}
 use Rattle.bh_core.specs.Completions.{is_numbered, place_of, has_sum, has_sum_at, chosen_place, chosen_places, is_large, are_large, TellParts, IsRowOf, part_at, joined_at, CompleteIsJoined}

@@ -1,5 +1,5 @@
 -- The members of a page, its markers and lists put in last, stand in the order of names.
-use Rattle.std.proofs.Common.{◌≡◌, ◌+◌, List, length, map, Bool, Option, Some, None, option_map, is_some, string_bytes, refl, sym, ap, ◌∙◌}
+use Rattle.std.proofs.Common.{◌≡◌, ◌+◌, length, Option, Some, None, option_map, is_some, string_bytes, refl, ap, ◌∙◌}
 use Rattle.std.proofs.lemmas.List.{length-map}
 use Rattle.std.proofs.lemmas.Simd.{map-map}
 use Rattle.std.specs.Prelude.{codes}

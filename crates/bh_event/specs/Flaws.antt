@@ -1,5 +1,5 @@
 -- Why a script's line is not an event: its first flaw, in the order of these definitions.
-use Rattle.std.specs.Prelude.{ℕ, Bool, List, codes, not, ◌&&◌, Option, Some, None, is_some, if◌then◌else◌}
+use Rattle.std.specs.Prelude.{ℕ, List, codes, not, ◌&&◌, Option, Some, None, is_some, if◌then◌else◌}
 use Rattle.std.specs.Str.{is_utf8}
 use Rattle.serde_json.specs.Data.{Data}
 use Rattle.serde_json.specs.Find.{as_object}

@@ -11,6 +11,7 @@ ghost use Rattle.bh_storage.specs.Answers.{removed_answer, stored_answer, copied
 ghost use Rattle.bh_host.specs.Offers.{answer_view};
 ghost use Rattle.bh_storage.specs.Answers.{completed_answer};
 
+use crate::offer::Answer;
 use bh_docs::{
     BucketEntry, ObjectsPage, PartsPage, UploadsPage, Usage, VersionsPage, begun_document,
     buckets_document, completed_document, copied_document, lifecycle_document, objects_document,
@@ -20,8 +21,9 @@ use bh_docs::{
 use bh_http::StatusCode;
 use bh_http::response::Response;
 use bh_http::values::{ContentRange, ContentType};
-use bh_storage::answer::{BegunUpload, CompletedUpload, CopiedVersion, ObjectHead, RemovedEntry, StoredVersion};
-use crate::offer::Answer;
+use bh_storage::answer::{
+    BegunUpload, CompletedUpload, CopiedVersion, ObjectHead, RemovedEntry, StoredVersion,
+};
 use bh_types::bucket_state::BucketState;
 use bh_types::moment::Moment;
 use bh_types::range::RangePlan;

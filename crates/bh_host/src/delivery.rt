@@ -11,9 +11,9 @@ ghost use Rattle.bh_host.specs.declared.delivery.Delivery.TheVariants.{AtOnce, I
 
 use crate::event::Told;
 use crate::reply::Reply;
+use crate::storage::Storage;
 use bh_storage::error::Trouble;
 use bh_storage::plan::Plan;
-use crate::storage::Storage;
 use bh_types::moment::Moment;
 use bh_types::names::TenantName;
 use std::alloc::Global;

@@ -8,9 +8,9 @@ ghost use Rattle.bh_host.specs.Resting.{StaysAtRest};
 ghost use Rattle.bh_host.specs.Runs.{HasRunOn, RanOn};
 
 use crate::event::{Told, apply};
+use crate::storage::Storage;
 use bh_event::event::Event;
 use bh_operation::routes::Routes;
-use crate::storage::Storage;
 use std::alloc::{AllocError, Global};
 
 /// Applies events in turn, and returns their replies. Each tenant is answered as by a machine of

@@ -3,20 +3,18 @@
 ghost use Rattle.std.specs.Prelude.{◌≡◌, ◌⊎◌, ◌<◌, ◌≤◌, length, map, take, All, IfOk, IfNone, IfSome, OnOk, OnErr};
 ghost use Rattle.bh_event.specs.Events.{arrival};
 ghost use Rattle.bh_storage.specs.Calls.{Clean, Within, LeavesSound, IsAtRest, IsWorking};
-ghost use Rattle.bh_storage.specs.Plans.{to_come};
 ghost use Rattle.bh_tables.specs.Typed.{Tables};
-ghost use Rattle.bh_host.specs.Answers.{in_one_write, IsSmallReply};
 ghost use Rattle.bh_host.specs.Groups.{RanTogether, tolds_in, count_of, HasSmallReply, IsGreatPlan, IsPlanOf};
 ghost use Rattle.bh_host.specs.Resting.{StaysAtRest};
 ghost use Rattle.bh_host.specs.Turns.{WouldApplySome};
 
 use crate::delivery::{PlannedReply, Replied};
 use crate::event::Told;
+use crate::storage::Storage;
 use crate::within::apply_within;
 use bh_event::event::Event;
 use bh_operation::routes::Routes;
 use bh_storage::error::Trouble;
-use crate::storage::Storage;
 use std::alloc::Global;
 
 /// The replies to the first events of a list, which were applied.

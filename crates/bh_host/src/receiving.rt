@@ -28,18 +28,18 @@ ghost use Rattle.bh_host.specs.declared.reply.Caller.TheVariants.{Request};
 
 use crate::delivery::{Composed, Delivery, Replied, Served, Tried, delivered, replied_at};
 use crate::event::Told;
+use crate::offer::Offer;
 use crate::reply::{
     Caller, Reply, answer_text, found_text, is_head, refused_request_text, unread_text,
 };
 use crate::serve::{requested, stranger_refusal};
+use crate::storage::Storage;
 use bh_http::body::{Body, Break, drain};
 use bh_http::credentials::access_key_of;
 use bh_http::request::Head;
 use bh_operation::routes::Routes;
 use bh_storage::answer::FoundVersion;
-use crate::offer::Offer;
 use bh_storage::error::{Outcome, StepError, Trouble};
-use crate::storage::Storage;
 use bh_types::access_key::AccessKeyId;
 use bh_types::moment::Moment;
 use bh_types::names::TenantName;

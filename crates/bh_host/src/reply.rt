@@ -15,6 +15,7 @@ ghost use Rattle.bh_host.specs.Turns.{TellsOrder};
 
 use crate::answers::{found, response_to};
 use crate::lists::names_end;
+use crate::offer::{Answer, CommandAnswer};
 use bh_docs::reply::{Usage, error_document};
 use bh_event::event::Command;
 use bh_http::encode::response_bytes;
@@ -26,7 +27,6 @@ use bh_operation::allow::allow_of;
 use bh_operation::path_of;
 use bh_operation::routes::Routes;
 use bh_storage::answer::ObjectHead;
-use crate::offer::{Answer, CommandAnswer};
 use bh_storage::error::{StepError, Trouble};
 use bh_storage::report::{StoreReport, SweepReport};
 use bh_types::range::RangePlan;

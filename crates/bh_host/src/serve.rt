@@ -13,14 +13,14 @@ ghost use Rattle.bh_types.specs.Rejections.{plain};
 ghost use Rattle.bh_view.specs.View.{latest_of, view};
 ghost use Rattle.bh_host.specs.Asking.{asked_for};
 
+use crate::offer::Offer;
+use crate::storage::Storage;
 use bh_http::body::{Body, drain};
 use bh_http::credentials::secret_of;
 use bh_http::request::Head;
 use bh_operation::operation::{Operation, operation_of};
 use bh_operation::routes::Routes;
-use crate::offer::Offer;
 use bh_storage::error::{Outcome, StepError, Trouble};
-use crate::storage::Storage;
 use bh_types::access_key::AccessKeyId;
 use bh_types::moment::Moment;
 use bh_types::refusal::Refusal;

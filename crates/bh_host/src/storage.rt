@@ -13,12 +13,12 @@ ghost use Rattle.bh_storage.specs.Plans.{IsMeasured, to_come};
 ghost use Rattle.bh_host.specs.Offers.{IfPlanned};
 
 use crate::offer::{CommandAnswer, Offer};
-use bh_storage::error::{Outcome, StepError, Trouble};
-use bh_storage::plan::Plan;
-use bh_storage::report::{StoreReport, SweepReport, TenantReport};
 use bh_event::event::Command;
 use bh_http::body::Body;
 use bh_operation::operation::Operation;
+use bh_storage::error::{Outcome, StepError, Trouble};
+use bh_storage::plan::Plan;
+use bh_storage::report::{StoreReport, SweepReport, TenantReport};
 use bh_types::access_key::AccessKeyId;
 use bh_types::limits::Limits;
 use bh_types::moment::Moment;

@@ -13,9 +13,9 @@ ghost use Rattle.bh_host.specs.Turns.{WouldApplySome};
 use crate::delivery::Replied;
 use crate::event::apply_in_pieces;
 use crate::group::{Group, apply_group};
+use crate::storage::Storage;
 use bh_event::event::Event;
 use bh_operation::routes::Routes;
-use crate::storage::Storage;
 use std::alloc::{AllocError, Global};
 
 /// Applies events in one transaction. If that fails, it is rolled back, and each is applied by

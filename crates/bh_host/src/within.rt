@@ -1,6 +1,6 @@
 //! An event inside an open transaction.
 
-ghost use Rattle.std.specs.Prelude.{◌≡◌, ◌≤◌, IfOk, OnOk};
+ghost use Rattle.std.specs.Prelude.{◌≤◌, IfOk, OnOk};
 ghost use Rattle.bh_event.specs.Events.{Requested, arrival};
 ghost use Rattle.bh_http.specs.Reading.{completed};
 ghost use Rattle.bh_http.specs.Views.{announced_view};
@@ -16,13 +16,13 @@ use crate::delivery::{Composed, Delivery, Replied, Served, replied_at};
 use crate::event::serve as serve_order;
 use crate::receiving::serve as serve_received;
 use crate::reply::unread_text;
+use crate::storage::Storage;
 use bh_event::event::Event;
 use bh_http::body::WholeBody;
 use bh_http::read::split_head;
 use bh_http::request::Head;
 use bh_operation::routes::Routes;
 use bh_storage::error::Trouble;
-use crate::storage::Storage;
 use bh_types::moment::{LAST_READING, Moment};
 use bh_types::refusal::Refusal;
 use std::alloc::Global;

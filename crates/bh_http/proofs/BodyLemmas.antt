@@ -2,7 +2,7 @@
 use Rattle.std.proofs.Common.{◌≡◌, ℕ, ◌+◌, List, [], ◌∷◌, ◌++◌, length, length-append, append_assoc, append-nil, refl, sym, ap, subst, ◌∙◌, arith, Option, Some, None, Result, Ok, Err, IfErr}
 use Rattle.std.specs.Io.KnownBytes.{Consumes}
 use Rattle.std.specs.Prelude.{IfSome}
-use Rattle.bh_http.specs.Bodies.{Coming, Gives, BreaksOff, MayBreak, IsWhole, is_fault, whole}
+use Rattle.bh_http.specs.Bodies.{Coming, Gives, BreaksOff, MayBreak, is_fault, whole}
 use Rattle.bh_http.specs.Transfers as transfers
 use Rattle.bh_http.proofs.TransferLemmas.{gives_nothing}
 use Rattle.bh_http.proofs.TransferLemmas.{gives_then as more}

@@ -2,7 +2,7 @@
 use Rattle.std.proofs.Common.{◌≡◌, ℕ, List, refl, ap, ◌∙◌, inl, inr, Result, Ok, Err}
 use Rattle.bh_types.specs.Limits.{HostLimits}
 use Rattle.bh_types.specs.declared.refusal.Refusal.{Refusal}
-use Rattle.bh_http.specs.Reading.{Reads, ReadsHead, taken, outcome, announcing, completed, framing, parts_of}
+use Rattle.bh_http.specs.Reading.{Reads, ReadsHead, taken, announcing, completed, framing, parts_of}
 use Rattle.bh_http.specs.Views.{Taken, Parts, Announced}
 
 -- the request of what was read of a head

@@ -1,4 +1,4 @@
-ghost use Rattle.std.specs.Prelude.{◌≡◌, ℕ, List};
+ghost use Rattle.std.specs.Prelude.{◌≡◌};
 ghost use Rattle.bh_http.specs.Fields.{given_view};
 ghost use Rattle.bh_http.specs.HeadSpans.{head_view};
 ghost use Rattle.bh_http.specs.Reading as spec;

@@ -1,4 +1,4 @@
-ghost use Rattle.std.specs.Prelude.{◌≡◌, ℕ, List, drop, Ok, Err, IfOk, IfErr};
+ghost use Rattle.std.specs.Prelude.{◌≡◌, drop, Ok, Err, IfOk, IfErr};
 ghost use Rattle.httparse.specs.Spans.{IsRequestWithin};
 ghost use Rattle.bh_http.specs.HeadSpans.{parts_at};
 ghost use Rattle.bh_http.specs.Reading.{Reads, ReadsHead, OneReading, announcing, completed, framing as framing_of};

@@ -1,4 +1,4 @@
-ghost use Rattle.std.specs.Prelude.{◌≡◌, length};
+ghost use Rattle.std.specs.Prelude.{◌≡◌};
 ghost use Rattle.bh_types.specs.Refusals;
 ghost use Rattle.bh_http.specs.Answers as spec;
 

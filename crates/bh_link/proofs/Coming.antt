@@ -4,7 +4,7 @@ use Rattle.std.proofs.lemmas.List.{take-append-le}
 use Rattle.std.specs.Io.KnownBytes.{Consumes, Keeps}
 use Rattle.bh_http.specs.Bodies.{Coming, Gives, is_fault, broken_by}
 use Rattle.bh_http.specs.Transfers as transfers
-use Rattle.bh_http.specs.Transfers.{Transfer, Moved, Failed, Logs}
+use Rattle.bh_http.specs.Transfers.{Moved, Failed, Logs}
 use Rattle.bh_http.specs.declared.body.Break.{Break}
 use Rattle.bh_http.proofs.TransferLemmas.{gives_piece}
 use Rattle.bh_link.proofs.TakingLemmas.{consumes_none, consumes_kept}

@@ -1,5 +1,5 @@
 -- What the bytes up to the end of a head are read as.
-use Rattle.std.proofs.Common.{◌≡◌, ℕ, List, [], ◌++◌, length, append-nil, refl, sym, ap, subst, ◌∙◌, arith, inl, inr, Option, Some, None, Result, Ok, Err, is_ok, true≢false}
+use Rattle.std.proofs.Common.{◌≡◌, ℕ, List, [], ◌++◌, append-nil, sym, ap, subst, ◌∙◌, arith, inl, inr, Option, Result, Ok, Err, is_ok, true≢false}
 use Rattle.httparse.specs.Grammar.{RequestHead}
 use Rattle.httparse.proofs.GrammarLemmas.{request_unique}
 use Rattle.bh_types.specs.Limits.{HostLimits}

@@ -1,6 +1,6 @@
 //! The ends that a link reads from and writes to.
 
-ghost use Rattle.std.specs.Prelude.{◌≡◌, ◌<◌, ◌∷◌, ℕ, List, [], length, Option, None};
+ghost use Rattle.std.specs.Prelude.{◌<◌, ◌∷◌, ℕ, List, [], length, Option, None};
 ghost use Rattle.std.specs.Io.{ReadsAtMost, WritesAtMost};
 ghost use Rattle.std.specs.Io.KnownBytes.{ReadConsumes, WriteAppends};
 ghost use Rattle.bh_http.specs.Transfers.{Transfer, transfer_of, Logs};

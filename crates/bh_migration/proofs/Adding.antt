@@ -2,14 +2,14 @@
 use Rattle.std.proofs.Common.{◌≡◌, ℕ, List, [], ◌∷◌, ◌++◌, Ok, Err, Result, OnOk, subst}
 use Rattle.sqlite.specs.Effect.{Database}
 use Rattle.sqlite.specs.Order.{Row}
-use Rattle.sqlite.specs.State.{State, HasCleanDisk, IsLive, Survives, Executes, CommitsBy}
+use Rattle.sqlite.specs.State.{State, HasCleanDisk, Survives, Executes, CommitsBy}
 use Rattle.sqlite.specs.Table.{Table}
 use Rattle.sqlite.specs.declared.error.Error.{Error}
 use Rattle.bh_rows.specs.Form.{Form, AreRows, typed}
 use Rattle.bh_rows.specs.Texts.{IsReadyAt, IsTableOf, InsertText, Leaves}
 use Rattle.bh_rows.proofs.TextLemmas as text
 use Rattle.bh_tables.specs.Schema.{host_schema, tallies_table, unneeded_table, at}
-use Rattle.bh_tables.specs.Typed.{Totals, TallyRow, tally_form, tallied, GarbageRow, garbage_form, weighed, IsHostBy, Tables, tables}
+use Rattle.bh_tables.specs.Typed.{Totals, TallyRow, tally_form, tallied, GarbageRow, garbage_form, weighed, IsHostBy, tables}
 use Rattle.bh_tables.proofs.Places.{orderly, tallies_is, garbage_is}
 use Rattle.bh_tables.proofs.StoredLemmas.{tallies_turned, garbage_turned}
 use Rattle.bh_base.specs.Layer.{standing, IsIntact, IsOpen, IsStateClean, IsMidst}

@@ -8,7 +8,7 @@ mod tallying;
 mod unplaced;
 mod weighing;
 
-ghost use Rattle.std.specs.Prelude.{◌≡◌, ◌⊎◌, true, false, [], IfOk, IfErr, OnOk, OnErr};
+ghost use Rattle.std.specs.Prelude.{◌≡◌, ◌⊎◌, true, [], IfOk, IfErr, OnOk, OnErr};
 ghost use Rattle.sqlite.specs.Held.{state};
 ghost use Rattle.sqlite.specs.Tree.{Trees};
 ghost use Rattle.bh_rows.specs.Means.{is_trouble};

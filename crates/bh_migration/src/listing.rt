@@ -1,7 +1,6 @@
 //! What the table of packs lists.
 
 ghost use Rattle.std.specs.Prelude.{◌≡◌, true, List, map, IfOk, IfErr, OnOk};
-ghost use Rattle.sqlite.specs.Held.{state};
 ghost use Rattle.bh_rows.specs.Form.{AreRows};
 ghost use Rattle.bh_rows.specs.Means.{is_trouble};
 ghost use Rattle.bh_tables.specs.Packs.{packs_in};

@@ -1,7 +1,6 @@
 //! Whether all blocks have their bytes in their own rows.
 
 ghost use Rattle.std.specs.Prelude.{◌≡◌, [], IfOk, IfErr, OnOk};
-ghost use Rattle.sqlite.specs.Held.{state};
 ghost use Rattle.bh_tables.specs.Schema.{host_schema};
 ghost use Rattle.bh_base.specs.Databases.{IsClean, stands, StaysWithin, WasOpen, ChangesNothing, IsTrouble};
 ghost use Rattle.bh_migration.specs.Migration.{HasSchema};

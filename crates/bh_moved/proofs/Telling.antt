@@ -1,5 +1,5 @@
 -- What is told of a tenant that was to be moved, before and after a step of another kind on either connection.
-use Rattle.std.proofs.Common.{◌≡◌, true, false, Option, is_some, Ok, sym, ap, ◌∙◌, subst}
+use Rattle.std.proofs.Common.{◌≡◌, true, false, Option, is_some, Ok, sym, ◌∙◌, subst}
 use Rattle.sqlite_trees.specs.declared.store.Store.{Ghosts}
 use Rattle.bh_shelf.specs.declared.shelf.Shelf.{Ghosts as Shelves}
 use Rattle.bh_base.specs.declared.connection.Connection.{Connection}

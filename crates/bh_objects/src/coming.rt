@@ -1,7 +1,7 @@
 //! The bytes of a body while it is received: read into a buffer, hashed, and stored or kept for the
 //! next block.
 
-ghost use Rattle.std.specs.Prelude.{◌≡◌, ◌<◌, ◌≤◌, ◌^◌, true, length, take, None, IfOk, IfErr, OnOk};
+ghost use Rattle.std.specs.Prelude.{◌≡◌, ◌<◌, ◌≤◌, true, length, take, None, IfOk, IfErr, OnOk};
 ghost use Rattle.bh_http.specs.Bodies.{Gives, IsWhole, MayBreak};
 ghost use Rattle.bh_tables.specs.Schema.{Octets};
 ghost use Rattle.bh_base.specs.Connections.{IsClean, tables, InTransaction};

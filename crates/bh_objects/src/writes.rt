@@ -1,4 +1,4 @@
-ghost use Rattle.std.specs.Prelude.{◌≡◌, ◌≤◌, ◌<◌, ◌^◌, OnOk};
+ghost use Rattle.std.specs.Prelude.{◌≡◌, ◌<◌, ◌^◌, OnOk};
 ghost use Rattle.sqlite_keyed.specs.Lists.{update_where};
 ghost use Rattle.bh_model.specs.State.{Content.Marker};
 ghost use Rattle.bh_tables.specs.Shown.{is_tenant};

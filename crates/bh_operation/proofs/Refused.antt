@@ -12,7 +12,7 @@ use Rattle.bh_http.specs.Fields.{Occurrence, Missing, Once, Repeated, field_name
 use Rattle.bh_types.specs.Ids.{upload_of}
 use Rattle.bh_types.specs.Digits.{is_number}
 use Rattle.bh_operation.specs.Addresses.{is_colon, own_part, bucket_name, object_key, bucket_named, object_named}
-use Rattle.bh_operation.specs.Headers.{dates_upload, supported, lock_from, lock_in, at_most_once, checksum_in, copy_source, stands}
+use Rattle.bh_operation.specs.Headers.{dates_upload, supported, lock_from, lock_in, at_most_once, checksum_in, copy_source}
 use Rattle.bh_types.specs.Tokens as tokens
 use Rattle.hex.specs.Hex.{decode_of}
 use Rattle.hex.specs.declared.error.FromHexError.{FromHexError}
@@ -20,7 +20,7 @@ use Rattle.bh_operation.specs.Methods.{method_of}
 use Rattle.bh_operation.specs.Numbers.{or_invalid_argument, short_number, page_size, part_marker, part_number}
 use Rattle.bh_operation.specs.Operations.{Octets, Fields, at_name, host_operation, list_objects, list_versions, list_uploads, create_bucket, bucket_operation, is_numbered, is_copy, put_object, copy_object, put, get_object, upload_part, put_part, list_parts, unnumbered, object_operation, operation_at, operation}
 use Rattle.bh_operation.specs.Pages.{page_in, key_page, upload_page, part_page, is_second, second_version, token_from, token_of, version_marker_from, version_marker, upload_marker_from, upload_marker}
-use Rattle.bh_operation.specs.Queries.{value_of, is_given, is_unsupported, is_repeated, parameters_of, given_once, parameters_in, count_selectors, selected}
+use Rattle.bh_operation.specs.Queries.{value_of, is_unsupported, is_repeated, parameters_of, given_once, parameters_in, count_selectors, selected}
 use Rattle.bh_operation.specs.Sources.{source_path, named_by, version_after, source_version, source_part, source_of, source_in}
 use Rattle.bh_operation.specs.Targets.{is_question, is_slash, path_of, query_of, kind_of, or_invalid_uri, routed, decoded, text_of, bucket_part, key_part, name_at, target_at}
 use Rattle.bh_operation.specs.declared.method.Method.{Method}

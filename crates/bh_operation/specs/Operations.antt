@@ -1,5 +1,5 @@
 -- The operation of a request, or its first refusal.
-use Rattle.std.specs.Prelude.{ℕ, Bool, true, false, if◌then◌else◌, List, codes, Option, Some, None, option_and_then, Result, Ok, Err}
+use Rattle.std.specs.Prelude.{ℕ, Bool, if◌then◌else◌, List, codes, Option, Some, None, option_and_then, Result, Ok, Err}
 use Rattle.bh_types.specs.Outcomes.{◌>>=◌}
 use Rattle.bh_types.specs.Ids.{upload_of}
 use Rattle.bh_types.specs.declared.id.UploadId.{UploadId}
@@ -17,7 +17,6 @@ use Rattle.bh_operation.specs.Sources.{source_in}
 use Rattle.bh_operation.specs.Targets.{path_of, query_of, routed, target_at}
 use Rattle.bh_operation.specs.declared.method.Method.{Method}
 use Rattle.bh_operation.specs.declared.method.Method.TheVariants as method
-use Rattle.bh_operation.specs.declared.address.ObjectName.{ObjectName}
 use Rattle.bh_operation.specs.declared.operation.Operation.{Operation}
 use Rattle.bh_operation.specs.declared.operation.Operation.TheVariants.{Bare, ByDocument, Store, GetObject}
 use Rattle.bh_operation.specs.declared.operation.BareOperation.TheVariants.{Service, Bucket, Listing, Lifecycle, Upload, Object}

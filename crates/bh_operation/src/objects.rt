@@ -1,5 +1,5 @@
 //! The operations on an object. The parameters and header fields that one needs are checked first, and then the names.
-ghost use Rattle.std.specs.Prelude.{◌≡◌, codes, None, Some};
+ghost use Rattle.std.specs.Prelude.{◌≡◌, None, Some};
 ghost use Rattle.bh_types.specs.Outcomes.{Gives};
 ghost use Rattle.bh_http.specs.Views.{pairs_of};
 ghost use Rattle.bh_operation.specs.Addresses as addresses;

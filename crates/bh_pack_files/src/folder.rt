@@ -1,6 +1,6 @@
 //! The folder of a host's packs, beside its database.
 
-ghost use Rattle.std.specs.Prelude.{◌≡◌, ◌≢◌, ◌↔◌, ◌+◌, ◌≤◌, ◌==◌, ℕ, List, false, IfOk, IfSome, OnOk, IsOk, IsTrue};
+ghost use Rattle.std.specs.Prelude.{◌≡◌, ◌≢◌, ◌+◌, ◌≤◌, ◌==◌, ℕ, List, false, IfOk, IfSome, OnOk, IsTrue};
 ghost use Rattle.std.specs.List.{list_any};
 ghost use Rattle.bh_pack_files.specs.Files.{IsFresh, IsShared};
 ghost use Rattle.bh_pack_files.specs.Names.{made_of, removed_of, Spares};

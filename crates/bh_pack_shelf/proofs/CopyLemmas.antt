@@ -1,5 +1,5 @@
 -- Bytes of packs that are copied to files.
-use Rattle.std.proofs.Common.{◌≡◌, ℕ, ◌+◌, ◌-◌, ◌<◌, ◌≤◌, List, [], length, slice_index, Some, IsTrue, inl, inr, refl, sym, subst, ◌∙◌, ap, arith, zero-add, drop, length-take, length-drop}
+use Rattle.std.proofs.Common.{◌≡◌, ℕ, ◌+◌, ◌-◌, ◌<◌, ◌≤◌, List, [], length, slice_index, Some, IsTrue, inl, inr, sym, ◌∙◌, ap, arith, zero-add, drop, length-take, length-drop}
 use Rattle.std.proofs.lemmas.Bool.{cases_lt}
 use Rattle.sqlite_disk.specs.Disk.{Holds, Torn}
 use Rattle.sqlite_disk.specs.declared.Disk.{Ghosts}

@@ -1,5 +1,5 @@
 -- What packs have as they are opened one after another.
-use Rattle.std.proofs.Common.{◌≡◌, ◌≢◌, ℕ, ◌+◌, ◌<◌, ◌≤◌, List, [], ◌∷◌, length, drop, Option, Some, None, IsTrue, inl, inr, refl, sym, subst, ◌∙◌, ap, arith, eq-eqb, ne_eqb, length-take, length-drop}
+use Rattle.std.proofs.Common.{◌≡◌, ◌≢◌, ℕ, ◌≤◌, List, [], ◌∷◌, length, drop, Option, Some, None, IsTrue, inl, inr, refl, sym, subst, ◌∙◌, ap, arith, eq-eqb, ne_eqb, length-take, length-drop}
 use Rattle.std.proofs.lemmas.Bool.{cases_eq, cases_lt}
 use Rattle.sqlite_disk.specs.Disk.{Holds}
 use Rattle.sqlite_disk.specs.declared.Disk.{Ghosts}

@@ -1,5 +1,5 @@
 -- A shelf that stays as it was does so again.
-use Rattle.std.proofs.Common.{◌≡◌, ◌∙◌, ℕ, ◌≤◌, IsTrue, refl, arith}
+use Rattle.std.proofs.Common.{◌∙◌, refl, arith}
 use Rattle.bh_shelf.specs.declared.shelf.Shelf.{Ghosts}
 use Rattle.bh_pack_shelf.specs.Copied.{Stays}
 

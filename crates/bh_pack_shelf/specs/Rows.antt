@@ -1,5 +1,5 @@
 -- Rows of table `packs`: which packs are named, and how long they are.
-use Rattle.std.specs.Prelude.{◌≡◌, ◌≢◌, ℕ, ◌<◌, ◌==◌, if◌then◌else◌, List, [], ◌∷◌, length, slice_index_or}
+use Rattle.std.specs.Prelude.{◌≢◌, ℕ, ◌<◌, ◌==◌, if◌then◌else◌, List, [], ◌∷◌, length, slice_index_or}
 use Rattle.bh_shelf.specs.declared.closed.Listed.{Listed}
 
 -- the pack that a row names

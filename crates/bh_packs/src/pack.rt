@@ -1,7 +1,6 @@
 //! One pack: a file, where its next bytes go, and up to where it was synced.
 
-ghost use Rattle.std.specs.Prelude.{◌≡◌, ◌+◌, ◌<◌, ◌≤◌, ◌^◌, ℕ, List, Some, length, IsTrue, IfOk, OnOk, OnErr};
-ghost use Rattle.sqlite_disk.specs.Disk.{Holds};
+ghost use Rattle.std.specs.Prelude.{◌≡◌, ◌+◌, ◌<◌, ◌≤◌, ◌^◌, ℕ, List, Some, length, IsTrue, IfOk, OnOk};
 ghost use Rattle.bh_packs.specs.Stands.{Stands};
 ghost use Rattle.bh_packs.specs.Sums.{sum_of};
 ghost use Rattle.bh_packs.specs.Packs.{IsWritten, IsSettled, KeepsPack};

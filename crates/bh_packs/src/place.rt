@@ -1,6 +1,6 @@
 //! Where bytes are in packs, and what goes with a pack.
 
-ghost use Rattle.std.specs.Prelude.{◌≡◌, IfSome};
+ghost use Rattle.std.specs.Prelude.{◌≡◌};
 ghost use Rattle.bh_packs.specs.Sums.{sum_of};
 
 use sqlite_disk::digest_of;

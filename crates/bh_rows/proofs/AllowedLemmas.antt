@@ -12,7 +12,7 @@ use Rattle.sqlite.specs.Table.{Table}
 use Rattle.sqlite.specs.Schema.{Schema}
 use Rattle.sqlite.specs.Cast.{cast_all}
 use Rattle.sqlite.specs.Rowids.TheVariants.{Chosen}
-use Rattle.sqlite.specs.Edit.{Edit, Applies, IsRefused, edit_of, edited, left_by, are_fresh, is_taken, is_referred, next_rowid, with_rowid}
+use Rattle.sqlite.specs.Edit.{Edit, Applies, IsRefused, edit_of, edited, left_by, are_fresh, is_taken, is_referred, next_rowid}
 use Rattle.sqlite.specs.Effect.{edit_error}
 use Rattle.sqlite_trees.specs.Tree.{with_tree}
 use Rattle.sqlite_sql.specs.declared.ops.CompareOp.TheVariants.{Ne}

@@ -1,5 +1,5 @@
 -- What a call on a text that is written out does to the state.
-use Rattle.std.proofs.Common.{arith, ◌≡◌, ◌≢◌, ◌⊎◌, inl, inr, ℕ, ◌≤◌, List, [], length, nat_le, cond, Bool, true, false, IsTrue, Option, None, Some, IsSome, Ok, Err, Result, OnOk, OnErr, refl, sym, ap, subst, subst₂, ◌∙◌, true≢false, append-nil}
+use Rattle.std.proofs.Common.{arith, ◌≡◌, ◌≢◌, ◌⊎◌, inl, inr, ℕ, List, [], length, nat_le, cond, true, false, IsTrue, Option, None, Some, IsSome, Ok, Err, Result, OnOk, OnErr, refl, sym, ap, subst, subst₂, ◌∙◌, true≢false, append-nil}
 use Rattle.std.proofs.lemmas.Bool.{cases_Bool, leb-true}
 use Rattle.sqlite.specs.Schema.{Schema}
 use Rattle.sqlite.specs.Order.{Row}
@@ -22,7 +22,7 @@ use Rattle.sqlite_resolve.specs.declared.compiled.Compiled.{Compiled}
 use Rattle.sqlite.proofs.Callers.{IsPlain, command_of, runs_as, statement_of}
 use Rattle.sqlite.proofs.InsideLemmas.{fails_whole}
 use Rattle.sqlite.proofs.StateLemmas.{survives_weaker}
-use Rattle.bh_rows.specs.Means.{Means, tail_of, parameters_of, is_trouble, is_write, IsUndone, IsOutside, StaysInside, Changes}
+use Rattle.bh_rows.specs.Means.{Means, tail_of, parameters_of, is_trouble, is_write, IsUndone, StaysInside, Changes}
 
 -- each error of the store is trouble
 pub troubled : (cause : StoreError) → is_trouble (store_error cause) ≡ true

@@ -1,5 +1,5 @@
 -- A worked example: books on shelves, where a shelf that holds a book cannot go, with one text of each kind.
-use Rattle.std.proofs.Common.{arith, ◌≡◌, inl, ◌<◌, ◌^◌, ℕ, ℤ, pos, codes, unsigned_abs, sum_by, List, [], ◌∷◌, ◌++◌, length, map, filter, take, not, ◌&&◌, Bool, true, false, Option, Some, None, Ok, Err, Result, OnOk, IfOk, IfErr, IsTrue, Ordering, int_cmp, refl, sym, ap, ap₂, ◌∙◌}
+use Rattle.std.proofs.Common.{arith, ◌≡◌, inl, ◌<◌, ◌^◌, ℕ, ℤ, pos, codes, unsigned_abs, sum_by, List, [], ◌∷◌, ◌++◌, length, map, filter, take, not, ◌&&◌, Bool, true, false, None, Result, OnOk, IfOk, IfErr, IsTrue, Ordering, int_cmp, refl, sym, ap, ◌∙◌}
 use Rattle.std.specs.List.{list_any, list_all}
 use Rattle.std.proofs.lemmas.Int.{ints}
 use Rattle.sqlite.specs.declared.types.Value.{Value}

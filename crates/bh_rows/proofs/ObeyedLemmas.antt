@@ -1,6 +1,6 @@
 -- What the rules of a schema say of rows that are there: a row that was added has a key of its own, one row has a key at most, and a
 -- child has its parent.
-use Rattle.std.proofs.Common.{arith, ◌≡◌, ℕ, ℤ, List, [], ◌∷◌, ◌++◌, not, ◌&&◌, Bool, true, false, Some, cond, filter, find, map, refl, sym, ap, ap₂, subst, ◌∙◌, Ordering, Less, int_cmp, int_eq, inl, inr, true≢false, slice_get}
+use Rattle.std.proofs.Common.{arith, ◌≡◌, ℤ, List, [], ◌∷◌, ◌++◌, not, ◌&&◌, Bool, true, false, Some, cond, filter, find, map, refl, sym, ap, ap₂, subst, ◌∙◌, Less, int_cmp, int_eq, inl, inr, true≢false}
 use Rattle.std.specs.List.{AllByRecursion, list_any}
 use Rattle.std.proofs.lemmas.Bool.{cases_Bool, and_from, both_ways, false_from_ne_true, not-true}
 use Rattle.std.proofs.lemmas.Int.{ints}
@@ -22,7 +22,7 @@ use Rattle.sqlite_rules.proofs.ListLemmas.{all_has, test_has, some_has, some_fro
 use Rattle.sqlite_rules.proofs.ProbeLemmas.{has_mapped}
 use Rattle.sqlite_rules.proofs.RuleLemmas.{keeps_at}
 use Rattle.sqlite_typed.proofs.TestLemmas.{at_ints}
-use Rattle.bh_rows.specs.Form.{Form, AreRows, Entry, put, entries, typed}
+use Rattle.bh_rows.specs.Form.{Form, AreRows, put, entries, typed}
 use Rattle.bh_rows.proofs.FormLemmas.{stored, any_typed}
 
 -- ---- a row that was added has a key of its own

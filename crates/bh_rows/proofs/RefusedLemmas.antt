@@ -1,5 +1,5 @@
 -- Why an INSERT of one row may be refused.
-use Rattle.std.proofs.Common.{arith, ◌≡◌, ◌≢◌, ◌⊎◌, inl, inr, ℕ, zero, suc, ◌+◌, ◌/◌, List, [], ◌∷◌, ◌++◌, length, length-append, Bool, true, false, true≢false, Option, None, Some, IsSome, slice_get, Ok, Err, Result, refl, sym, ap, subst, ◌∙◌}
+use Rattle.std.proofs.Common.{arith, ◌≡◌, ◌≢◌, ◌⊎◌, inl, inr, ℕ, zero, suc, ◌/◌, List, [], ◌∷◌, length, length-append, true, false, true≢false, Option, None, Some, slice_get, Ok, Err, Result, sym, ap, subst, ◌∙◌}
 use Rattle.sqlite.specs.Order.{Row}
 use Rattle.sqlite.specs.Term.{Term}
 use Rattle.sqlite.specs.Tree.{Trees}
@@ -11,7 +11,7 @@ use Rattle.sqlite.specs.Command.TheVariants.{Insert}
 use Rattle.sqlite.specs.Rowids.TheVariants.{Chosen}
 use Rattle.sqlite.specs.Edit.{Edit, Applies, IsRefused, edit_of, taken_by}
 use Rattle.sqlite.specs.Effect.{value_rows, edit_error}
-use Rattle.sqlite.specs.Rows.{Part, Then, Task, Written, stamped, Edited}
+use Rattle.sqlite.specs.Rows.{Task, Written, stamped}
 use Rattle.sqlite.specs.Does.{Does, OnRows, due}
 use Rattle.sqlite.specs.State.{State, mode_of}
 use Rattle.sqlite.specs.declared.error.Error.{Error}

@@ -4,8 +4,6 @@ use Rattle.std.specs.List.{list_all, AllByRecursion}
 use Rattle.std.specs.Ordering.{is_gt}
 use Rattle.std.proofs.Common.{sum_by, Some, ◌+ℤ◌}
 use Rattle.std.proofs.lemmas.List.Sums.{sum_by-cons}
-use Rattle.sqlite.specs.Query.{Query}
-use Rattle.sqlite.specs.Term.{col, op2}
 use Rattle.sqlite_keyed.specs.Lists.{sum_of}
 use Rattle.sqlite_typed.proofs.AnswerLemmas.{sum_is, sum_of_all}
 use Rattle.std.proofs.Common.{cond, Equal, Greater}
@@ -14,9 +12,9 @@ use Rattle.sqlite_keyed.specs.Lists.{insert_sorted}
 use Rattle.sqlite_keyed.proofs.ListLemmas.{ascending-filter}
 use Rattle.std.specs.Ordering.{ordering_then}
 use Rattle.sqlite.specs.declared.types.Value.TheVariants.{Int}
-use Rattle.sqlite.specs.Order.{Row, value_cmp}
+use Rattle.sqlite.specs.Order.{Row}
 use Rattle.sqlite.specs.Tree.{Trees}
-use Rattle.sqlite.specs.Term.{Term, lit, eval, eval_all, holds}
+use Rattle.sqlite.specs.Term.{Term, eval, eval_all, holds}
 use Rattle.sqlite.specs.Query.{inner, end, IsAnswer, page, Output, output, output_cmp}
 use Rattle.std.specs.List.Sorted.{IsPermutation}
 use Rattle.std.proofs.lemmas.List.Sorted.{IsPermutation-map}
@@ -41,7 +39,7 @@ use Rattle.sqlite.proofs.Callers.{reads_as}
 use Rattle.sqlite_typing.specs.Types.{accepts_program}
 use Rattle.std.proofs.Common.{slice_get, option_map, find}
 use Rattle.std.proofs.lemmas.Option.{slice_get-map}
-use Rattle.sqlite_keyed.proofs.ListLemmas.{slice_get-filter, map-map, map_same}
+use Rattle.sqlite_keyed.proofs.ListLemmas.{slice_get-filter, map-map}
 use Rattle.sqlite_rules.proofs.ListLemmas.{any_has}
 use Rattle.sqlite_rules.specs.Lists.{Has}
 use Rattle.std.proofs.Common.{Result, Ok, Err, IfOk, IfErr, IsTrue}

@@ -1,5 +1,5 @@
 -- BEGIN, COMMIT and ROLLBACK as texts.
-use Rattle.std.proofs.Common.{◌≡◌, ◌⊎◌, ◌||◌, inl, inr, ℕ, List, [], length, Bool, true, false, IsTrue, Option, None, is_some, Ok, Err, Result, OnOk, OnErr, IfErr, refl, sym, ap, ◌∙◌, true≢false, subst}
+use Rattle.std.proofs.Common.{◌≡◌, ◌⊎◌, ◌||◌, inl, inr, ℕ, List, [], Bool, true, false, IsTrue, Option, None, is_some, Ok, Err, Result, OnOk, OnErr, IfErr, refl, sym, ap, ◌∙◌, true≢false, subst}
 use Rattle.std.proofs.lemmas.Bool.{cases_Bool}
 use Rattle.sqlite.specs.Schema.{Schema}
 use Rattle.sqlite.specs.Command.{Command}

@@ -7,7 +7,7 @@ use Rattle.std.proofs.lemmas.List.Sorted.{IsPermutation-sym}
 use Rattle.sqlite.specs.declared.types.Value.TheVariants.{Int}
 use Rattle.sqlite.specs.Order.{Row, column}
 use Rattle.sqlite.specs.Term.{Term, holds, eval_all}
-use Rattle.sqlite.specs.Tree.{Trees, IsAscending}
+use Rattle.sqlite.specs.Tree.{Trees}
 use Rattle.sqlite.specs.Table.{Table}
 use Rattle.sqlite.specs.Schema.{Schema}
 use Rattle.sqlite.specs.Cast.{cast_all}
@@ -15,7 +15,7 @@ use Rattle.sqlite.specs.Command.TheVariants.{Update}
 use Rattle.sqlite.specs.Query.{IsAnswer}
 use Rattle.sqlite.specs.Program.{overlay}
 use Rattle.sqlite.specs.Rowids.TheVariants.{Given}
-use Rattle.sqlite.specs.Edit.{Edit, Applies, IsRefused, edit_of, edited, left_by, are_fresh, is_referred, taken_by}
+use Rattle.sqlite.specs.Edit.{Edit, IsRefused, edit_of, edited, left_by, are_fresh}
 use Rattle.sqlite.specs.Effect.{edit_error, IsDatabase}
 use Rattle.sqlite.specs.Does.{due}
 use Rattle.sqlite.specs.State.{State, HasCleanDisk, IsLive, Survives, Executes, mode_of}

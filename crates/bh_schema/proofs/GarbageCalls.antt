@@ -24,7 +24,7 @@ use Rattle.bh_tables.proofs.GarbageTexts.{garbage_shown}
 use Rattle.bh_tables.proofs.Places.{garbage_is}
 use Rattle.bh_tables.proofs.StoredLemmas.{garbage_turned}
 use Rattle.bh_schema.specs.Garbage.{garbage_in, weight_set}
-use Rattle.bh_base.specs.Layer.{Standing, standing, IsIntact, IsInside, IsInsideBy, HoldsBy, IsStateClean, IsMidst}
+use Rattle.bh_base.specs.Layer.{Standing, standing, IsIntact, IsInside, HoldsBy, IsStateClean, IsMidst}
 use Rattle.bh_base.proofs.Calls.{Turn, Question, question, ready}
 use Rattle.bh_base.proofs.Calls as call
 

@@ -9,7 +9,7 @@ use Rattle.bh_base.proofs.Lifting.{doubtless}
 use Rattle.bh_base.proofs.Endings.{disk_clean, changes_shown}
 use Rattle.bh_base.proofs.Statements.{here, ready_here}
 use Rattle.bh_base.proofs.Apart.{uploads_apart}
-use Rattle.std.proofs.Common.{◌≡◌, ℕ, ℤ, pos, ◌+ℤ◌, ◌-ℤ◌, List, [], ◌∷◌, ◌++◌, map, Ok, Err, Result, OnOk, IfErr, IsTrue, true, refl, sym, ap, ◌∙◌, subst}
+use Rattle.std.proofs.Common.{◌≡◌, ℕ, ℤ, pos, ◌+ℤ◌, ◌-ℤ◌, List, [], ◌∷◌, ◌++◌, Ok, Err, Result, OnOk, IfErr, IsTrue, true, refl, sym, ap, ◌∙◌, subst}
 use Rattle.std.proofs.lemmas.List.{map-append}
 use Rattle.sqlite.specs.Edit.{next_rowid}
 use Rattle.sqlite.specs.Effect.{IsDatabase}
@@ -24,7 +24,7 @@ use Rattle.bh_rows.proofs.CallLemmas.{clean_before}
 use Rattle.bh_rows.proofs.InsertLemmas.{each_push}
 use Rattle.bh_rows.proofs.TextLemmas as text
 use Rattle.bh_tables.specs.Schema.{Octets, host_schema, uploads_table, at}
-use Rattle.bh_tables.specs.Typed.{Totals, totals_of, UploadRow, UploadColumns, stored_upload_form, kept_changed, IsHost, IsHostBy, Tables, tables}
+use Rattle.bh_tables.specs.Typed.{totals_of, UploadRow, UploadColumns, stored_upload_form, kept_changed, IsHost, IsHostBy, tables}
 use Rattle.bh_tables.specs.Shown.{is_upload}
 use Rattle.bh_tables.proofs.OwnedLemmas.{upload_unused}
 use Rattle.bh_tables.proofs.Places.{orderly, stored_uploads_is}

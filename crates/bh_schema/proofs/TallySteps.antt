@@ -1,21 +1,20 @@
 -- What a tenant's tally becomes when an entry of a key comes or goes, in the words of calls.
-use Rattle.std.proofs.Common.{◌≡◌, ◌==◌, inl, inr, ℕ, ◌+◌, ◌<◌, ◌≤◌, pos, int_lt, Bool, true, false, ◌&&◌, cond, List, [], ◌∷◌, map, filter, find, length, slice_get, Option, Some, None, option_map, arith, refl, sym, ap, ap₂, subst, ◌∙◌, Decides}
-use Rattle.std.specs.Bool.{one_answer}
+use Rattle.std.proofs.Common.{◌≡◌, ◌==◌, inl, inr, ℕ, ◌+◌, ◌<◌, ◌≤◌, pos, int_lt, Bool, true, false, ◌&&◌, cond, List, [], ◌∷◌, filter, find, length, slice_get, Option, Some, None, option_map, arith, refl, sym, ap, subst, ◌∙◌, Decides}
 use Rattle.std.specs.Cmp.{signed_Decides}
 use Rattle.std.specs.Option.{option_map_or}
 use Rattle.std.specs.List.{AllByRecursion}
 use Rattle.std.specs.Ordering.{int_eq}
-use Rattle.std.proofs.lemmas.Bool.{cases_Bool, and_parts, eqb-true, eq-eqb}
+use Rattle.std.proofs.lemmas.Bool.{cases_Bool, and_parts, eqb-true}
 use Rattle.std.proofs.lemmas.Int.{ints}
 use Rattle.sqlite_keyed.specs.Lists.{sort_by, update_where, delete_where}
 use Rattle.sqlite_keyed.proofs.ListLemmas.{all_weaker}
 use Rattle.sqlite_typed.specs.Tests.{bytes_eq}
 use Rattle.sqlite_typed.proofs.TestLemmas.{same_bytes}
 use Rattle.bh_tables.specs.Schema.{Octets}
-use Rattle.bh_tables.specs.Typed.{Totals, totals_of, VersionRow, TenantRow, Tables, tables_in, is_tally, set_to, tallied}
+use Rattle.bh_tables.specs.Typed.{totals_of, VersionRow, TenantRow, Tables, is_tally, set_to, tallied}
 use Rattle.bh_tables.specs.Shown.{is_tenant, is_at, is_version, has_marker, current_versions, marked, newer}
 use Rattle.bh_tables.proofs.TallyLemmas.{Newest, set_recounted}
-use Rattle.bh_view.specs.Grouped.{first, same_number, HasUnique}
+use Rattle.bh_view.specs.Grouped.{first}
 use Rattle.bh_view.proofs.NewestLemmas.{after_first, next_first, as_many}
 use Rattle.bh_view.proofs.ObjectLemmas.{newer_total}
 use Rattle.bh_view.proofs.SortLemmas.{all-sort_by, sort_by-filter}

@@ -26,7 +26,7 @@ use Rattle.bh_rows.proofs.CallLemmas.{clean_before}
 use Rattle.bh_rows.proofs.InsertLemmas.{each_push}
 use Rattle.bh_rows.proofs.TextLemmas as text
 use Rattle.bh_tables.specs.Schema.{Octets, host_schema, tenants_table, at}
-use Rattle.bh_tables.specs.Typed.{Totals, totals_of, TenantRow, TenantColumns, stored_tenant_form, used_changed, IsHost, IsHostBy, Tables, tables, tables_in}
+use Rattle.bh_tables.specs.Typed.{totals_of, TenantRow, TenantColumns, stored_tenant_form, used_changed, IsHost, IsHostBy, tables, tables_in}
 use Rattle.bh_tables.specs.Shown.{is_tenant}
 use Rattle.bh_tables.proofs.OwnedLemmas.{tenant_unused}
 use Rattle.bh_tables.proofs.Places.{orderly, stored_tenants_is}

@@ -1,25 +1,23 @@
 -- Calls over versions, in the words of the tables, in which each version has the bytes of its body.
 use Rattle.bh_base.specs.Shown.{Backing, shown}
 use Rattle.bh_base.proofs.Apart.{versions_apart, version_may}
-use Rattle.std.proofs.Common.{◌≡◌, ℕ, List, [], ◌∷◌, ◌++◌, map, filter, Bool, true, None, Result, IfOk, IfErr, Ordering, ap, take, length, ◌+◌, sum_by, cond, false, refl, sym, ◌∙◌}
-use Rattle.std.proofs.lemmas.List.Sums.{sum_by-cons}
+use Rattle.std.proofs.Common.{◌≡◌, ℕ, List, [], ◌∷◌, ◌++◌, map, filter, Bool, true, None, Result, IfOk, IfErr, Ordering, ap, take, ◌+◌, ◌∙◌}
 use Rattle.sqlite.specs.Order.{Row}
 use Rattle.sqlite.specs.State.{State, HasCleanDisk, IsLive, Survives, Executes, CommitsBy, CommitsShowing, Shown, FailsToQuery}
 use Rattle.sqlite.specs.declared.error.Error.{Error}
 use Rattle.sqlite_keyed.specs.Lists.{delete_where, sort_by}
 use Rattle.bh_rows.specs.Means.{is_trouble}
 use Rattle.bh_rows.specs.Scan.{no_limit}
-use Rattle.bh_rows.specs.Texts.{MayAdd, InsertText, DeleteText, SelectText, SortedText, SumText}
+use Rattle.bh_rows.specs.Texts.{MayAdd, InsertText, DeleteText, SelectText, SortedText}
 use Rattle.bh_tables.specs.Schema.{host_schema, versions_table, at}
-use Rattle.bh_tables.specs.Typed.{VersionColumns, version_form, VersionRow, totals_of, tables}
+use Rattle.bh_tables.specs.Typed.{VersionColumns, version_form, totals_of, tables}
 use Rattle.bh_tables.specs.Bodies.{resolved, columns_of}
 use Rattle.bh_tables.proofs.Places.{versions, versions_is, turned}
 use Rattle.bh_tables.proofs.ResolvedLemmas.{seen, seen_sorted, version_added, versions_deleted}
-use Rattle.bh_tables.proofs.Statements.{ones}
 use Rattle.bh_base.proofs.Statements as statement
 use Rattle.bh_tables.proofs.Terms.{one_row, two_rows}
 use Rattle.bh_base.specs.Layer.{standing, IsIntact, IsInside, IsMidst, IsStateClean}
-use Rattle.bh_base.proofs.Calls.{Question, Turn, asked, question, ready, Total, totalled_so}
+use Rattle.bh_base.proofs.Calls.{Question, Turn, asked, question, ready}
 use Rattle.bh_base.proofs.Calls as call
 
 -- ---- the kinds of texts

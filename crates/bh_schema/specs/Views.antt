@@ -3,7 +3,7 @@ use Rattle.std.specs.Prelude.{ℕ, Option}
 use Rattle.std.specs.Str.{IsUtf8}
 use Rattle.std.specs.String.{string_bytes}
 use Rattle.bh_tables.specs.Schema.{Octets}
-use Rattle.bh_tables.specs.Typed.{TenantRow, BucketRow, VersionRow, Tables, totals_of}
+use Rattle.bh_tables.specs.Typed.{TenantRow, Tables, totals_of}
 use Rattle.bh_tables.specs.Shown.{shown_tenant, shown_account, shown_bucket, shown_entry, shown_rule, shown_head}
 use Rattle.bh_schema.specs.Reading.{Reading, read_as, textless}
 use Rattle.bh_schema.specs.Rows.{SeenHead, tenant_numbers, tenant_account, bucket_numbers, entry_in, rule_in, seen_head}

@@ -1,5 +1,5 @@
 -- Packs of files that can't lie are clean.
-use Rattle.std.proofs.Common.{ℕ, List, [], ◌∷◌, Option, Some, None, IsTrue, refl}
+use Rattle.std.proofs.Common.{List, [], ◌∷◌, Option, Some, None, IsTrue, refl}
 use Rattle.std.proofs.lemmas.Bool.{and_from}
 use Rattle.std.specs.List.{list_all}
 use Rattle.sqlite_disk.specs.declared.Disk.{Ghosts}

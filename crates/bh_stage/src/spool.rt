@@ -1,7 +1,6 @@
 //! Files for bytes that have no room in memory.
 
 ghost use Rattle.std.specs.Prelude.{◌≡◌, ◌≤◌, ◌<◌, ◌+◌, ◌-◌, ◌++◌, [], false, length, take, is_some, IfOk, OnOk, OnErr};
-ghost use Rattle.bh_stage.specs.Records.{bytes_of};
 ghost use Rattle.bh_stage.specs.Spools.{rest_of, rest_in, IsFaithful, ReturnsAll};
 
 use crate::copying::append;

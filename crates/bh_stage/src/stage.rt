@@ -1,7 +1,7 @@
 //! Many connections in one thread. Between two requests all sockets move; a request is handed over
 //! once it is whole, and its answer is sent while others come.
 
-ghost use Rattle.std.specs.Prelude.{◌≡◌, [], IfOk, IfSome, is_some};
+ghost use Rattle.std.specs.Prelude.{[], IfOk, IfSome, is_some};
 ghost use Rattle.bh_stage.specs.Joins.{Joins};
 ghost use Rattle.bh_stage.specs.Staged.{IsHanded, IsJoining};
 

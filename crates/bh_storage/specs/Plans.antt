@@ -1,5 +1,5 @@
 -- The remaining bytes of an object, by the tables from which they are read.
-use Rattle.std.specs.Prelude.{◌≡◌, ℕ, List, flat_map, take, drop, length}
+use Rattle.std.specs.Prelude.{◌≡◌, flat_map, take, drop, length}
 use Rattle.bh_tables.specs.Bodies.{ref_name, block_at, placed}
 use Rattle.bh_tables.specs.Schema.{Octets}
 use Rattle.bh_tables.specs.Typed.{RefRow, Tables}

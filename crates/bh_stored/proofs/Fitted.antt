@@ -1,5 +1,5 @@
 -- Rows whose columns are of the right kinds are typed rows.
-use Rattle.std.proofs.Common.{◌≡◌, ℕ, ℤ, pos, negsuc, Bool, true, false, true≢false, ◌&&◌, List, [], ◌∷◌, drop, refl, sym, ap, ◌∙◌, Some, None}
+use Rattle.std.proofs.Common.{◌≡◌, pos, negsuc, true, false, true≢false, List, [], ◌∷◌, refl, sym, ap}
 use Rattle.std.specs.List.{AllByRecursion, list_all}
 use Rattle.std.proofs.lemmas.Bool.{and_parts}
 use Rattle.sqlite.specs.declared.types.Value.{Value}

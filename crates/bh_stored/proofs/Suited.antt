@@ -1,5 +1,5 @@
 -- The columns of a row from a place on.
-use Rattle.std.proofs.Common.{arith, ◌≡◌, ℕ, zero, suc, ◌+◌, ◌<◌, ◌≤◌, Bool, true, false, ◌&&◌, nat_eq, List, [], ◌∷◌, length, drop, length-drop, refl, sym, ap, ◌∙◌, subst}
+use Rattle.std.proofs.Common.{arith, ◌≡◌, ℕ, zero, suc, ◌+◌, ◌<◌, ◌≤◌, false, ◌&&◌, nat_eq, List, [], ◌∷◌, length, drop, length-drop, refl, sym, ap, ◌∙◌}
 use Rattle.sqlite.specs.Order.{Row, column}
 use Rattle.bh_stored.specs.Cells.{suits, are_suited}
 use Rattle.bh_stored.specs.declared.cells.Kind.{Kind}

@@ -1,10 +1,9 @@
 //! How many packs there are, how many bytes they have, and how many of these blocks have: as their rows count them.
 
-ghost use Rattle.std.specs.Prelude.{◌≡◌, ◌∷◌, [], ◌<◌, ◌^◌, length, IfOk, IfErr, OnOk};
+ghost use Rattle.std.specs.Prelude.{◌≡◌, ◌∷◌, [], ◌<◌, length, IfOk, OnOk};
 ghost use Rattle.std.specs.List.{sum_by};
 ghost use Rattle.bh_tables.specs.Rows.{PackRow, number as stored};
 ghost use Rattle.bh_base.specs.Connections.{IsClean, tables, packs, InTransaction, StaysWithin, StaysOpen, WasOpen, ChangesNothing};
-ghost use Rattle.bh_base.specs.Connections.{IsTroubleIf};
 ghost use Rattle.bh_base.specs.Places.{KeepsRows};
 ghost use Rattle.bh_schema.specs.Working.{Works, StillWorks};
 ghost use Rattle.bh_sweep.specs.Counted.{packs_counted};

@@ -1,6 +1,6 @@
 -- One version or marker of a key has an id at most, and one part of an upload a number: the bytes of those that have it are those of
 -- the one that is found. And one of a tenant has an entry number at most.
-use Rattle.std.proofs.Common.{◌≡◌, inl, inr, ℕ, ℤ, ◌+◌, ◌≤◌, length, subst, pos, Bool, true, false, ◌&&◌, List, [], ◌∷◌, map, filter, find, Option, Some, None, cond, arith, refl, sym, ap, ap₂, ◌∙◌, sum_by, codes}
+use Rattle.std.proofs.Common.{◌≡◌, inl, inr, ℕ, ℤ, ◌≤◌, length, subst, pos, Bool, true, false, ◌&&◌, List, [], ◌∷◌, map, filter, find, Option, Some, None, cond, arith, refl, sym, ap, ◌∙◌, sum_by, codes}
 use Rattle.std.specs.Option.{option_map_or}
 use Rattle.std.specs.Ordering.{int_eq}
 use Rattle.std.proofs.lemmas.Bool.{and_parts, and_from, cases_Bool}

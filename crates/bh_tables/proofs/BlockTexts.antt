@@ -1,5 +1,5 @@
 -- The texts over blocks.
-use Rattle.std.proofs.Common.{inl, inr, ◌≡◌, ℤ, pos, nat_lt, length, codes, [], ◌∷◌, ◌&&◌, true, false, cond, is_eq, Some, refl, sym, ap, ◌∙◌}
+use Rattle.std.proofs.Common.{◌≡◌, ℤ, pos, nat_lt, length, codes, [], ◌∷◌, ◌&&◌, true, false, refl, sym, ◌∙◌}
 use Rattle.std.specs.List.{list_any}
 use Rattle.std.specs.Cmp.{signed_Decides}
 use Rattle.std.specs.Ordering.{int_eq}
@@ -13,12 +13,12 @@ use Rattle.sqlite.specs.Term.{lit, col, op1, op2}
 use Rattle.sqlite_sql.specs.declared.ops.BinaryOp.TheVariants.{Compare}
 use Rattle.sqlite_sql.specs.declared.ops.CompareOp.TheVariants.{Eq, Gt}
 use Rattle.sqlite_sql.specs.declared.ops.UnaryOp.TheVariants.{Length}
-use Rattle.sqlite_sql.specs.Ops.{unary, binary, test, from_truth}
+use Rattle.sqlite_sql.specs.Ops.{unary, test}
 use Rattle.sqlite_value.specs.Keys.{plain, ascending, first_key}
-use Rattle.sqlite_value.proofs.OrderLemmas.{value_cmp-Int, value_cmp-Blob}
+use Rattle.sqlite_value.proofs.OrderLemmas.{value_cmp-Int}
 use Rattle.sqlite_schema.specs.Rules.{agree}
 use Rattle.sqlite_tied.specs.Compute.{everything}
-use Rattle.sqlite_typed.specs.Tests.{bytes_eq, bytes_cmp}
+use Rattle.sqlite_typed.specs.Tests.{bytes_eq}
 use Rattle.sqlite_typed.proofs.TestLemmas.{same_bytes, at_blobs, at_ints, last_term, then_term, then_key, last_key}
 use Rattle.bh_rows.specs.Form.{put}
 use Rattle.bh_rows.specs.Keys.{Pointer, points_at}

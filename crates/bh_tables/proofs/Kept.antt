@@ -1,5 +1,5 @@
 -- The columns of a typed row are stored as they are.
-use Rattle.std.proofs.Common.{◌≡◌, ℤ, ap, refl, Option, Some, None, ◌∷◌, []}
+use Rattle.std.proofs.Common.{◌≡◌, ℤ, refl, Option, Some, None, []}
 use Rattle.sqlite.specs.Cast.{cast_all}
 use Rattle.bh_rows.proofs.InsertLemmas.{cast_int, cast_null}
 use Rattle.bh_tables.specs.Schema.{host_table, tenants_table, keys_table, buckets_table, versions_table, blocks_table, refs_table, uploads_table, parts_table, uses_table, locks_table, retains_table, tallies_table, unneeded_table, packs_table, placed_table}

@@ -1,11 +1,11 @@
 -- The texts over tenants.
 use Rattle.std.proofs.Common.{◌≡◌, ℕ, ℤ, pos, zero-le, codes, [], ◌∷◌, true, false, refl, sym, subst, ◌∙◌}
 use Rattle.std.specs.List.{list_any}
-use Rattle.sqlite.specs.declared.types.Value.TheVariants.{Null, Int, Text}
+use Rattle.sqlite.specs.declared.types.Value.TheVariants.{Int, Text}
 use Rattle.sqlite.specs.Edit.{next_rowid}
 use Rattle.sqlite.specs.Effect.{Database}
 use Rattle.sqlite.specs.Listing.{understood}
-use Rattle.sqlite.specs.Term.{lit, col}
+use Rattle.sqlite.specs.Term.{col}
 use Rattle.sqlite_sql.specs.declared.ops.CompareOp.TheVariants.{Eq}
 use Rattle.sqlite_value.specs.Keys.{plain, first_key}
 use Rattle.sqlite_schema.specs.Rules.{agree, passes_checks}

@@ -5,7 +5,7 @@ use Rattle.std.specs.Cmp.Derive.{both_true}
 use Rattle.std.specs.Ordering.{int_eq}
 use Rattle.std.proofs.lemmas.Bool.{and_parts}
 use Rattle.sqlite.specs.Collation.TheVariants.{Binary}
-use Rattle.sqlite.specs.declared.types.Value.TheVariants.{Null, Int, Text, Blob}
+use Rattle.sqlite.specs.declared.types.Value.TheVariants.{Int, Text}
 use Rattle.sqlite.specs.Edit.{next_rowid}
 use Rattle.sqlite.specs.Effect.{Database}
 use Rattle.sqlite.specs.Listing.{understood}
@@ -22,12 +22,12 @@ use Rattle.sqlite_typed.proofs.TestLemmas.{same_bytes, at_texts, at_ints, last_t
 use Rattle.bh_rows.specs.Form.{put, typed}
 use Rattle.bh_rows.specs.Keys.{Pointer, points_at}
 use Rattle.bh_rows.specs.Scan.{by_rowid, no_limit}
-use Rattle.bh_rows.specs.Texts.{AreFree, MayAdd, MayChange, InsertText, UpdateText, DeleteText, SelectText, SortedText, SumText}
+use Rattle.bh_rows.specs.Texts.{AreFree, MayAdd, MayChange, UpdateText, DeleteText, SelectText, SortedText, SumText}
 use Rattle.bh_rows.proofs.DeleteErrors.{none_points, none_named}
 use Rattle.bh_rows.proofs.FormLemmas.{any_typed}
 use Rattle.bh_rows.proofs.ScanLemmas.{then_assoc}
 use Rattle.bh_tables.specs.Schema.{Octets, host_schema, tenants_table, uploads_table, at}
-use Rattle.bh_tables.specs.Typed.{Totals, UploadRow, UploadColumns, stored_upload_form, PartColumns, bucket_form, tenant_form, upload_form, upload_columns, part_form, number, IsHostBy, tables_in}
+use Rattle.bh_tables.specs.Typed.{Totals, UploadRow, UploadColumns, stored_upload_form, PartColumns, bucket_form, tenant_form, upload_form, part_form, number, IsHostBy, tables_in}
 use Rattle.bh_tables.specs.Bodies.{bare_part}
 use Rattle.bh_tables.specs.Shown.{is_tenant, is_bucket, is_upload, is_upload_in, is_part_of, by_key, shown_upload, shown_number, is_begun_before, by_begun, is_owned_upload}
 use Rattle.bh_tables.proofs.Checked.{upload_checked, tenant_checked_still}

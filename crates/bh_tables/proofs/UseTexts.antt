@@ -1,5 +1,5 @@
 -- The texts over the counts of uses of blocks: a new one, one more, one less, one that goes, and the blocks that have none.
-use Rattle.std.proofs.Common.{true≢false, negsuc, ◌≡◌, ◌≤◌, ◌<◌, ◌^◌, ℕ, ℤ, pos, ◌+ℤ◌, ◌-ℤ◌, codes, Bool, true, false, List, [], ◌∷◌, ◌&&◌, Some, None, cond, arith, refl, sym, ap, ◌∙◌, int_cmp, int_le, int_lt, not, map, zero, suc}
+use Rattle.std.proofs.Common.{true≢false, negsuc, ◌≡◌, ◌≤◌, ◌<◌, ◌^◌, ℕ, ℤ, pos, ◌+ℤ◌, ◌-ℤ◌, codes, Bool, true, false, List, [], ◌∷◌, Some, None, cond, arith, refl, sym, ap, ◌∙◌, int_cmp, int_le, int_lt, not, map, zero, suc}
 use Rattle.std.specs.List.{list_any}
 use Rattle.std.proofs.lemmas.Bool.{and_parts}
 use Rattle.std.proofs.lemmas.Int.{ints}

@@ -8,7 +8,7 @@ use Rattle.sqlite_typed.specs.Tests.{bytes_eq}
 use Rattle.bh_rows.specs.Form.{typed}
 use Rattle.bh_rows.specs.Texts.{Leaves}
 use Rattle.bh_tables.specs.Schema.{Octets, host_schema}
-use Rattle.bh_tables.specs.Typed.{Totals, TenantRow, TenantColumns, stored_tenant_form, UploadRow, UploadColumns, stored_upload_form, used_changed, kept_changed, IsHostBy, Tables, tables}
+use Rattle.bh_tables.specs.Typed.{Totals, TenantRow, TenantColumns, stored_tenant_form, UploadRow, UploadColumns, stored_upload_form, used_changed, kept_changed, IsHostBy, tables}
 use Rattle.bh_tables.specs.Bodies.{Name, same_name}
 use Rattle.bh_tables.specs.Shown.{is_tenant, is_upload}
 use Rattle.bh_tables.proofs.StoredLemmas.{Uses, tenants_count, tenants_turned, Keeps, uploads_count, uploads_turned, facts_after, shown_updated}

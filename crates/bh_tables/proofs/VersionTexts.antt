@@ -1,14 +1,12 @@
 -- The texts over versions.
-use Rattle.std.proofs.Common.{inl, inr, ◌≡◌, Bool, ℕ, ℤ, pos, codes, List, [], ◌∷◌, filter, ◌&&◌, true, false, true≢false, refl, sym, ap, ◌∙◌, int_cmp}
+use Rattle.std.proofs.Common.{inl, ◌≡◌, Bool, ℕ, ℤ, pos, codes, List, [], ◌∷◌, filter, ◌&&◌, true, false, true≢false, refl, sym, ap, ◌∙◌, int_cmp}
 use Rattle.std.specs.List.{list_any}
 use Rattle.sqlite.specs.declared.types.Value.TheVariants.{Null, Int, Text, Blob}
 use Rattle.sqlite.specs.Collation.TheVariants.{Binary}
 use Rattle.sqlite.specs.Edit.{next_rowid}
 use Rattle.sqlite.specs.Effect.{Database}
 use Rattle.sqlite.specs.Listing.{understood}
-use Rattle.sqlite.specs.Order.{Row}
 use Rattle.sqlite.specs.Term.{lit, col}
-use Rattle.sqlite.specs.Tree.{Trees}
 use Rattle.sqlite_sql.specs.declared.ops.CompareOp.TheVariants.{Eq}
 use Rattle.sqlite_value.specs.Keys.{plain, ascending, first_key}
 use Rattle.sqlite_value.proofs.OrderLemmas.{value_cmp-Int, value_cmp-Blob}
@@ -21,14 +19,14 @@ use Rattle.sqlite_typed.specs.Tests.{bytes_cmp}
 use Rattle.bh_rows.specs.Form.{put, typed}
 use Rattle.bh_rows.specs.Keys.{Pointer, points_at}
 use Rattle.bh_rows.specs.Scan.{no_limit, by_rowid}
-use Rattle.bh_rows.specs.Texts.{MayAdd, InsertText, DeleteText, SelectText, SortedText, SumText}
+use Rattle.bh_rows.specs.Texts.{MayAdd, InsertText, DeleteText, SelectText, SortedText}
 use Rattle.bh_rows.proofs.DeleteErrors.{none_points}
 use Rattle.bh_rows.proofs.FormLemmas.{any_typed}
 use Rattle.bh_rows.proofs.ScanLemmas.{then_assoc}
 use Rattle.bh_tables.specs.Schema.{Octets, host_schema, versions_table, at}
 use Rattle.bh_tables.specs.Typed.{Totals, VersionColumns, VersionRow, RetainRow, version_form, bucket_form, retain_form, number, IsHostBy, tables_in}
 use Rattle.bh_tables.specs.Bodies.{bare, resolved}
-use Rattle.bh_tables.specs.Shown.{is_version, is_retain, is_dated, is_at, is_in_bucket, is_entry, is_bucket, is_marked_right, newer, by_id, shown_head, shown_place, shown_seq, is_version_of, has_marker}
+use Rattle.bh_tables.specs.Shown.{is_version, is_retain, is_dated, is_at, is_in_bucket, is_entry, is_bucket, is_marked_right, newer, by_id, shown_head, shown_place, shown_seq}
 use Rattle.bh_tables.proofs.Places.{Goes, versions}
 use Rattle.bh_tables.proofs.ResolvedLemmas.{any_resolved}
 use Rattle.bh_tables.proofs.Checked.{version_checked}

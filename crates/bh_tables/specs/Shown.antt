@@ -1,5 +1,5 @@
 -- The rows that a query finds, and the columns that it returns.
-use Rattle.std.specs.Prelude.{ℕ, Bool, ◌&&◌, ◌||◌, pos, List, [], ◌∷◌, filter, take, is_some, int_lt, if◌then◌else◌}
+use Rattle.std.specs.Prelude.{ℕ, Bool, ◌&&◌, ◌||◌, pos, List, [], ◌∷◌, filter, take, is_some, int_lt}
 use Rattle.std.specs.List.{list_any}
 use Rattle.std.specs.Ordering.{int_eq, int_cmp, ordering_then}
 use Rattle.std.specs.declared.cmp.Ordering.{Ordering}

@@ -1,4 +1,4 @@
-ghost use Rattle.std.specs.Prelude.{◌≡◌, List, ℕ};
+ghost use Rattle.std.specs.Prelude.{◌≡◌};
 ghost use Rattle.bh_types.specs.Refusals.{number_of, status_of, code_of, OneNumberEach};
 
 /// The reason of a refusal.

@@ -1,4 +1,3 @@
-ghost use Rattle.std.specs.Prelude.{None, false};
 ghost use Rattle.bh_model.specs.Uploads as machine;
 ghost use Rattle.bh_storage.specs.Answers.{removed_answer};
 ghost use Rattle.bh_storage.specs.Calls.{Unless, Carries};

@@ -5,7 +5,7 @@ ghost use Rattle.std.specs.Prelude.{◌≡◌, List, map, IfOk};
 ghost use Rattle.std.specs.List.{sum_by};
 ghost use Rattle.std.specs.String.{string_bytes};
 ghost use Rattle.sha2.specs.Sha256.{sha256};
-ghost use Rattle.bh_types.specs.Checksums.{checksum_text, joined_text};
+ghost use Rattle.bh_types.specs.Checksums.{checksum_text};
 ghost use Rattle.bh_model.specs.State.{Octets};
 ghost use Rattle.bh_model.specs.Shown.{naming_of};
 ghost use Rattle.bh_core.specs.Completions.{complete_plan};

@@ -1,4 +1,4 @@
-ghost use Rattle.std.specs.Prelude.{◌≡◌, ◌<◌, ◌^◌};
+ghost use Rattle.std.specs.Prelude.{◌<◌, ◌^◌};
 ghost use Rattle.bh_base.specs.Connections.{InTransaction};
 ghost use Rattle.bh_view.specs.Bodies.{body_dropped};
 ghost use Rattle.bh_objects.specs.Calls.{Changes};

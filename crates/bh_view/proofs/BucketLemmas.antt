@@ -5,7 +5,7 @@ use Rattle.sqlite_keyed.specs.Lists.{delete_where, update_where}
 use Rattle.sqlite_keyed.proofs.ListLemmas.{all-filter}
 use Rattle.sqlite_typed.specs.Tests.{bytes_eq}
 use Rattle.bh_model.specs.FinMaps.{non_empty, set_at}
-use Rattle.bh_model.specs.State.{Octets, octets_cmp, Dates, Entry, Bucket}
+use Rattle.bh_model.specs.State.{Octets, octets_cmp, Entry, Bucket}
 use Rattle.std.specs.List.{AllByRecursion}
 use Rattle.bh_tables.specs.Shown.{same_name}
 use Rattle.bh_tables.specs.Typed.{BucketRow, VersionRow}

@@ -1,5 +1,5 @@
 -- A row of `retains` added, changed or taken out: a version's date is another, or gone.
-use Rattle.std.proofs.Common.{◌≡◌, ◌≢◌, ℕ, zero, suc, ◌≤◌, Bool, true, false, true≢false, cond, ◌&&◌, List, [], ◌∷◌, ◌++◌, find, filter, is_some, Option, Some, None, option_map, option_and_then, refl, sym, ap, ◌∙◌, subst, arith}
+use Rattle.std.proofs.Common.{◌≡◌, ◌≢◌, ℕ, zero, suc, ◌≤◌, true, false, true≢false, cond, List, [], ◌∷◌, ◌++◌, find, is_some, Option, Some, None, option_map, option_and_then, refl, sym, ap, ◌∙◌, subst, arith}
 use Rattle.std.specs.FinMap.{get, insert}
 use Rattle.std.specs.List.{AllByRecursion}
 use Rattle.std.proofs.lemmas.Bool.{and_parts}
@@ -7,19 +7,19 @@ use Rattle.sqlite_keyed.specs.Lists.{update_where, delete_where}
 use Rattle.sqlite_keyed.proofs.ListLemmas.{all_weaker, all-filter}
 use Rattle.sqlite_typed.specs.Tests.{bytes_eq}
 use Rattle.bh_model.specs.FinMaps.{set_at}
-use Rattle.bh_model.specs.State.{Octets, version_cmp, Dates, Bucket, State}
+use Rattle.bh_model.specs.State.{Octets, Dates, Bucket, State}
 use Rattle.bh_model.specs.Operations.{with_bucket}
 use Rattle.bh_model.specs.Retention.{date_in as date_told, dated, undated}
 use Rattle.bh_tables.specs.Shown.{Name, same_name, is_entry, is_retain}
 use Rattle.bh_tables.specs.Typed.{BucketRow, VersionRow, RetainRow, Tables}
 use Rattle.bh_view.specs.Becomes.{Becomes}
 use Rattle.bh_view.specs.Grouped.{first, matching, same_number, HasUnique, Refers}
-use Rattle.bh_view.specs.Sound.{AreRetains, MayBeDated, AreSound, IsSound}
+use Rattle.bh_view.specs.Sound.{MayBeDated, AreSound, IsSound}
 use Rattle.bh_view.specs.View.{TenantRows, rows_of, named, in_bucket, id_of, version_name, date_in, dates_of, bucket_shown, buckets_of, view, latest_of}
 use Rattle.bh_view.proofs.BucketLemmas.{bucket_row}
 use Rattle.bh_view.proofs.DatedLemmas.{seqs, dated_seq, undated_rows}
 use Rattle.bh_view.proofs.FactLemmas.{all_first, all_pushed, all_updated, each_first, refers_deleted, refers_pushed, unique_deleted, unique_pushed, unique_updated}
-use Rattle.bh_view.proofs.FilterLemmas.{delete_all, delete_other, first_passes, first_updated, none_some, push_here, push_other, same_Some, update_here, update_other, filter_both}
+use Rattle.bh_view.proofs.FilterLemmas.{delete_all, delete_other, first_updated, none_some, push_here, push_other, same_Some, update_here, update_other, filter_both}
 use Rattle.bh_view.proofs.FindLemmas.{first_find}
 use Rattle.bh_view.proofs.GroupedLemmas.{get-grouped, grouped_changed, grouped_same, is_itself, is_other, set_at_same}
 use Rattle.bh_view.proofs.Keys.{octets, numbers, version_names}

@@ -1,16 +1,15 @@
 -- The dates that rows show of a bucket's versions, when versions come and go that have none.
-use Rattle.std.proofs.Common.{◌≡◌, ◌≢◌, ℕ, ◌≤◌, Bool, true, false, true≢false, cond, not, ◌||◌, List, [], ◌∷◌, ◌++◌, length, filter, Option, Some, None, option_map, option_and_then, is_some, refl, sym, ap, ◌∙◌, subst, arith}
+use Rattle.std.proofs.Common.{◌≡◌, ℕ, ◌≤◌, Bool, true, false, true≢false, cond, not, ◌||◌, List, [], ◌∷◌, ◌++◌, length, filter, Option, Some, None, option_map, option_and_then, refl, sym, ap, ◌∙◌, subst, arith}
 use Rattle.std.specs.List.{AllByRecursion, list_any}
 use Rattle.sqlite_keyed.specs.Lists.{delete_where}
-use Rattle.bh_model.specs.State.{version_cmp}
 use Rattle.bh_tables.specs.Shown.{Name, same_name}
 use Rattle.bh_tables.specs.Typed.{VersionRow, RetainRow}
-use Rattle.bh_view.specs.Grouped.{first, matching, same_number, grouped, HasUnique, Refers}
+use Rattle.bh_view.specs.Grouped.{first, matching, same_number, HasUnique, Refers}
 use Rattle.bh_view.specs.View.{version_name, date_in, dates_of}
 use Rattle.bh_view.proofs.Keys.{numbers, version_names}
-use Rattle.bh_view.proofs.FactLemmas.{none_first, all_first}
+use Rattle.bh_view.proofs.FactLemmas.{none_first}
 use Rattle.bh_view.proofs.FilterLemmas.{none_some, same_Some, single, first_passes, filter_swap, push_here, push_other}
-use Rattle.bh_view.proofs.GroupedLemmas.{grouped_same, is_itself, is_other}
+use Rattle.bh_view.proofs.GroupedLemmas.{grouped_same}
 
 -- where nothing passes a test, it passes for no row
 pub empty_any : {T : Type 0} (p : T → Bool) (xs : List T) → filter p xs ≡ [] → list_any p xs ≡ false

@@ -1,5 +1,5 @@
 -- A row of `locks` added or taken out: a bucket is locked, or no longer so.
-use Rattle.std.proofs.Common.{◌≡◌, ◌≢◌, ℕ, zero, suc, Bool, true, false, true≢false, cond, not, ◌&&◌, ◌||◌, List, [], ◌∷◌, ◌++◌, filter, Option, Some, None, option_map, refl, sym, ap, ◌∙◌, subst}
+use Rattle.std.proofs.Common.{◌≡◌, ◌≢◌, ℕ, zero, suc, Bool, true, false, true≢false, cond, not, ◌&&◌, ◌||◌, List, [], ◌∷◌, ◌++◌, filter, Some, option_map, refl, sym, ap, ◌∙◌, subst}
 use Rattle.std.specs.FinMap.{get, insert}
 use Rattle.std.specs.List.{AllByRecursion, list_any}
 use Rattle.std.proofs.lemmas.Bool.{and_parts}
@@ -13,7 +13,7 @@ use Rattle.bh_model.specs.Operations.{with_bucket}
 use Rattle.bh_tables.specs.Typed.{BucketRow, VersionRow, LockRow, Tables}
 use Rattle.bh_tables.specs.Shown.{is_lock}
 use Rattle.bh_view.specs.Becomes.{Becomes}
-use Rattle.bh_view.specs.Grouped.{first, matching, HasUnique}
+use Rattle.bh_view.specs.Grouped.{first, HasUnique}
 use Rattle.bh_view.specs.Sound.{AreLocks, MayBeDated, AreRetains, AreSound, IsSound}
 use Rattle.bh_view.specs.View.{TenantRows, mode_of, rows_of, named, in_bucket, is_locked, bucket_shown, buckets_of, view, latest_of}
 use Rattle.bh_view.proofs.BucketLemmas.{bucket_row}

@@ -1,5 +1,5 @@
 -- The newest entry of a key is the first of its entries in their order.
-use Rattle.std.proofs.Common.{◌≡◌, inl, inr, true≢false, ℕ, ◌≤◌, pos, int_cmp, int_lt, Bool, true, false, cond, not, List, [], ◌∷◌, length, filter, Option, None, Some, refl, sym, ap, ap₂, subst, ◌∙◌, arith, Ordering, Less, Greater, Equal, is_gt}
+use Rattle.std.proofs.Common.{◌≡◌, inl, inr, true≢false, ℕ, ◌≤◌, pos, int_cmp, int_lt, Bool, true, false, cond, not, List, [], ◌∷◌, length, filter, Option, None, Some, refl, sym, ap, subst, ◌∙◌, arith, Less, Greater, Equal, is_gt}
 use Rattle.std.proofs.lemmas.Bool.{cases_Bool}
 use Rattle.std.specs.List.{AllByRecursion}
 use Rattle.std.specs.Ordering.{int_eq}
@@ -15,7 +15,6 @@ use Rattle.bh_tables.proofs.TallyLemmas.{IsNewest, Newest}
 use Rattle.bh_view.specs.Grouped.{first, same_number, HasUnique}
 use Rattle.bh_view.proofs.Keys.{numbers}
 use Rattle.bh_view.proofs.FactLemmas.{unique_filtered}
-use Rattle.bh_view.proofs.GroupedLemmas.{is_itself}
 use Rattle.bh_view.proofs.ObjectLemmas.{newer_total}
 use Rattle.bh_view.proofs.SortLemmas.{AtMost, up-sort_by, sort_by-filter, sorted_single}
 

@@ -1,6 +1,6 @@
 //! Digest functions that map many byte strings to one digest.
 
-ghost use Rattle.std.specs.Prelude.{◌≡◌, ◌%◌, length, replicate};
+ghost use Rattle.std.specs.Prelude.{◌%◌, length, replicate};
 
 use bh_schema::host::Digester;
 

@@ -4,10 +4,10 @@ ghost use Rattle.bh_storage.specs.Calls.{Clean, IsAtRest};
 
 use crate::ends::{Cut, Narrow, reader};
 use bh_connection::{Served, serve_connection};
+use bh_host::storage::Storage;
 use bh_link::ends::Untold;
 use bh_link::link::Link;
 use bh_operation::routes::Routes;
-use bh_host::storage::Storage;
 use std::alloc::Global;
 
 /// The bytes of a request, at a reading of the clock.

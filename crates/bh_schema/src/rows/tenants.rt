@@ -1,4 +1,4 @@
-ghost use Rattle.std.specs.Prelude.{◌≡◌, ◌++◌, ◌∷◌, [], ◌<◌, ◌^◌, find, option_map, IfOk, IfErr, OnOk};
+ghost use Rattle.std.specs.Prelude.{◌≡◌, [], ◌<◌, ◌^◌, find, option_map, IfOk, IfErr, OnOk};
 ghost use Rattle.bh_tables.specs.Typed.{used_changed};
 ghost use Rattle.bh_tables.specs.Shown.{is_tenant};
 ghost use Rattle.bh_schema.specs.Calls.{Reads, Writes, WritesOn};

@@ -1,5 +1,5 @@
-use Rattle.std.proofs.Common.{◌≡◌, List, filter, drop, find}
-use Rattle.bh_tables.specs.Typed.{BlockRow, tables_in}
+use Rattle.std.proofs.Common.{◌≡◌, filter, drop, find}
+use Rattle.bh_tables.specs.Typed.{tables_in}
 use Rattle.bh_tables.specs.Shown.{has_digest}
 use Rattle.bh_base.specs.Connections.{state}
 use Rattle.bh_base.specs.Layer.{standing, IsIntact, IsOpen, IsStateClean, StateWithin}

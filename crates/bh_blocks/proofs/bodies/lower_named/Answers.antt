@@ -2,7 +2,7 @@ use Rattle.std.proofs.Common.{◌≡◌, sym, ap, ◌∙◌, subst}
 use Rattle.bh_base.specs.Connections.{state}
 use Rattle.bh_rows.specs.Means.{is_trouble}
 use Rattle.bh_tables.specs.Garbage.{HasUses}
-use Rattle.bh_tables.specs.Typed.{Tables, counted, lowered, tables_in}
+use Rattle.bh_tables.specs.Typed.{counted, lowered, tables_in}
 use Rattle.bh_tables.specs.Shown.{Name, ref_name}
 use Rattle.bh_base.specs.Layer.{Standing, standing, IsMidst, IsInsideBy, HoldsBy}
 use Rattle.bh_schema.proofs.Finds.{handed_on}

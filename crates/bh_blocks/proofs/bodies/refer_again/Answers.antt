@@ -1,4 +1,4 @@
-use Rattle.std.proofs.Common.{◌≡◌, sym, ap, ap₂, ◌∙◌, subst}
+use Rattle.std.proofs.Common.{◌≡◌, sym, ◌∙◌, subst}
 use Rattle.bh_base.specs.Connections.{state}
 use Rattle.bh_tables.specs.Typed.{tables_in}
 use Rattle.bh_tables.specs.Bodies.{Name, ref_name}

@@ -1,4 +1,4 @@
-use Rattle.std.proofs.Common.{◌≡◌, [], slice_index_or, refl, ◌+◌, ◌*◌, ◌≤◌, ◌++◌, take, drop, length, length-drop, ap, sym, ◌∙◌, arith}
+use Rattle.std.proofs.Common.{[], slice_index_or, refl, ◌+◌, ◌*◌, ◌≤◌, ◌++◌, take, drop, length, length-drop, ap, sym, ◌∙◌, arith}
 use Rattle.std.proofs.lemmas.List.{drop-drop}
 use Rattle.std.proofs.lemmas.Nat.{mul-le}
 use Rattle.bh_base.specs.Connections.{state}

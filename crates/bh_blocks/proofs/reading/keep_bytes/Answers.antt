@@ -1,4 +1,4 @@
-use Rattle.std.proofs.Common.{◌≡◌, inl, inr, ap, ap₂, ◌∙◌}
+use Rattle.std.proofs.Common.{◌≡◌, inl, inr, ap, ◌∙◌}
 use Rattle.bh_cache.specs.Names.{name_of}
 use Rattle.bh_blocks.specs.Named.{named_by}
 use Rattle.bh_blocks.proofs.reading.keep_bytes.Goals as goal

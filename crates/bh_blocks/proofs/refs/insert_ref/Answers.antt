@@ -4,7 +4,6 @@ use Rattle.bh_tables.proofs.RefTexts.{ref_inserted}
 use Rattle.bh_blocks.specs.Named.{placed_at}
 use Rattle.bh_blocks.proofs.UseCalls.{ref_comes, ref_comes_trouble}
 use Rattle.bh_base.specs.Connections.{backing}
-use Rattle.bh_base.specs.Shown.{shown}
 use Rattle.bh_blocks.proofs.refs.insert_ref.Goals as goal
 
 pub returns : goal.returns

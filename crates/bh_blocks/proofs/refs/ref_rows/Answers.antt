@@ -3,7 +3,6 @@ use Rattle.bh_tables.proofs.Places.{refs}
 use Rattle.bh_tables.proofs.RefTexts.{refs_listed}
 use Rattle.bh_base.proofs.Calls.{sorted}
 use Rattle.bh_base.specs.Connections.{backing}
-use Rattle.bh_base.specs.Shown.{shown}
 use Rattle.bh_base.proofs.Apart.{refs_apart}
 use Rattle.bh_blocks.proofs.refs.ref_rows.Goals as goal
 

@@ -1,8 +1,8 @@
-use Rattle.std.proofs.Common.{◌≡◌, ◌++◌, ◌∷◌, [], sym, ap, subst}
+use Rattle.std.proofs.Common.{◌++◌, ◌∷◌, [], sym, subst}
 use Rattle.std.proofs.lemmas.Result.{on_ok_weaker}
 use Rattle.bh_base.specs.Connections.{state}
 use Rattle.bh_tables.specs.Garbage.{HasUses}
-use Rattle.bh_tables.specs.Typed.{Tables, totals_of, tables_in, rebodied}
+use Rattle.bh_tables.specs.Typed.{totals_of, tables_in, rebodied}
 use Rattle.bh_base.specs.Layer.{Standing, standing, Holds}
 use Rattle.bh_base.proofs.Calls.{in_midst}
 use Rattle.bh_blocks.specs.Named.{placed_at}

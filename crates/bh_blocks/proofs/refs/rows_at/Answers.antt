@@ -3,7 +3,6 @@ use Rattle.bh_tables.proofs.Places.{refs}
 use Rattle.bh_tables.proofs.RefTexts.{ref_shown}
 use Rattle.bh_base.proofs.Calls.{selected_read}
 use Rattle.bh_base.specs.Connections.{backing}
-use Rattle.bh_base.specs.Shown.{shown}
 use Rattle.bh_base.proofs.Apart.{refs_apart}
 use Rattle.bh_blocks.proofs.refs.rows_at.Goals as goal
 

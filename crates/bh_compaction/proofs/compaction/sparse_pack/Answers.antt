@@ -1,8 +1,6 @@
-use Rattle.std.proofs.Common.{map, filter, take, sym, ◌∙◌}
+use Rattle.std.proofs.Common.{◌∙◌}
 use Rattle.sqlite.specs.Held.{state}
 use Rattle.bh_tables.specs.Packs.{packs_in}
-use Rattle.bh_base.specs.Removal.{shown_number}
-use Rattle.bh_compaction.specs.Moves.{is_sparse}
 use Rattle.bh_compaction.proofs.Found.{found_sparse}
 use Rattle.bh_compaction.proofs.compaction.sparse_pack.Goals as goal
 

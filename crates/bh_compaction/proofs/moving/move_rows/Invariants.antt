@@ -1,4 +1,4 @@
-use Rattle.std.proofs.Common.{◌≡◌, ◌≤◌, length}
+use Rattle.std.proofs.Common.{◌≤◌, length}
 use Rattle.bh_base.specs.Connections.{IsClean, InMidst, Rewrites, StaysWithin, StaysOpen, places}
 use Rattle.bh_compaction.specs.Moves.{Moves}
 use Rattle.bh_compaction.proofs.moving.move_rows.Given as goal

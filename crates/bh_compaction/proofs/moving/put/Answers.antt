@@ -1,9 +1,8 @@
-use Rattle.std.proofs.Common.{◌≡◌, ◌++◌, ◌∷◌, [], ◌+◌, ap, subst, ◌∙◌}
+use Rattle.std.proofs.Common.{◌++◌, ◌∷◌, [], ◌+◌, ap, subst, ◌∙◌}
 use Rattle.std.proofs.lemmas.Result.{on_ok_weaker}
 use Rattle.sqlite_keyed.specs.Lists.{update_where}
 use Rattle.sqlite_rules.specs.Lists.{Has}
 use Rattle.bh_packs.specs.declared.place.Place.{Place}
-use Rattle.bh_tables.specs.Packs.{is_reached}
 use Rattle.bh_tables.specs.Shown.{Name, is_block}
 use Rattle.bh_tables.specs.Typed.{Tables, rebodied}
 use Rattle.bh_base.specs.Connections.{contents, HasAt, places}

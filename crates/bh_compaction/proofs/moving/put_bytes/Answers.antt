@@ -1,4 +1,4 @@
-use Rattle.std.proofs.Common.{◌≡◌, ◌++◌, ◌∷◌, [], Some, sym, ap, subst, ◌∙◌}
+use Rattle.std.proofs.Common.{◌++◌, ◌∷◌, [], ap, subst, ◌∙◌}
 use Rattle.sqlite.specs.Held.{Held, state as database_state}
 use Rattle.sqlite_keyed.specs.Lists.{update_where}
 use Rattle.sqlite_rules.specs.Lists.{Has}

@@ -1,7 +1,6 @@
 use Rattle.sqlite.specs.Held.{state}
 use Rattle.bh_create.proofs.Building.{item_made, item_fails}
 use Rattle.bh_base.specs.Connections.{backing}
-use Rattle.bh_base.specs.Shown.{shown}
 use Rattle.bh_create.proofs.tables.create_item.Goals as goal
 
 pub returns-clause-makes : goal.returns-clause-makes

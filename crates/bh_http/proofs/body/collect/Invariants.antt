@@ -1,4 +1,4 @@
-use Rattle.std.proofs.Common.{◌≡◌, ◌<◌, length, None}
+use Rattle.std.proofs.Common.{◌≡◌, None}
 use Rattle.bh_http.specs.Bodies.{Gives}
 use Rattle.bh_http.proofs.body.collect.Given as goal
 

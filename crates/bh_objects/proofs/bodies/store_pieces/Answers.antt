@@ -1,6 +1,6 @@
-use Rattle.std.proofs.Common.{rules, arith, sym, ◌∙◌}
+use Rattle.std.proofs.Common.{rules, arith, ◌∙◌}
 use Rattle.bh_base.specs.Connections.{state}
-use Rattle.bh_http.proofs.BodyLemmas.{gives_none, if_err, going_may}
+use Rattle.bh_http.proofs.BodyLemmas.{if_err, going_may}
 use Rattle.bh_view.specs.Bodies.{pieces, body_stored}
 use Rattle.bh_schema.specs.Working.{tables_at}
 use Rattle.bh_schema.proofs.Storing.{on_ok, within_then}

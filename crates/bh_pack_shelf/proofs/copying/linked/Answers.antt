@@ -1,4 +1,4 @@
-use Rattle.std.proofs.Common.{◌≡◌, ◌∙◌, ◌++◌, ◌∷◌, List, ℕ, Option, Some, length, refl, subst, sym, ap, take_all, arith, unwrap_or, []}
+use Rattle.std.proofs.Common.{◌≡◌, ◌∙◌, ◌++◌, ◌∷◌, List, ℕ, Option, length, subst, sym, ap, take_all, arith, unwrap_or, []}
 use Rattle.std.proofs.lemmas.Option.{IfSome_then}
 use Rattle.sqlite_disk.specs.Disk.{Holds}
 use Rattle.sqlite_disk.specs.Events.{replay, settled}

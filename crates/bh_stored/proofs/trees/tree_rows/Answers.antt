@@ -1,4 +1,4 @@
-use Rattle.std.proofs.Common.{◌≡◌, ◌++◌, ◌∷◌, [], ap, ◌∙◌, sym, subst}
+use Rattle.std.proofs.Common.{◌++◌, ◌∷◌, [], ap, ◌∙◌, sym, subst}
 use Rattle.sqlite_trees.specs.Tree.{order_of, from_key}
 use Rattle.sqlite_trees.specs.View.{IsClean, Advances, with_cursor}
 use Rattle.bh_stored.specs.Stores.{HasRead}

@@ -1,7 +1,6 @@
 use Rattle.sqlite.specs.Held.{state}
 use Rattle.bh_tenant_rows.proofs.Reading.{reads_owned}
 use Rattle.bh_base.specs.Connections.{backing}
-use Rattle.bh_base.specs.Shown.{shown}
 use Rattle.bh_tenant_rows.proofs.reads.owned_rows.Goals as goal
 
 pub returns : goal.returns

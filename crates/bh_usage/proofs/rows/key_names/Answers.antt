@@ -13,7 +13,6 @@ use Rattle.bh_schema.proofs.Asking.{failed_if, no_value, all}
 use Rattle.bh_base.proofs.Calls.{sorted}
 use Rattle.bh_usage.specs.Listed.{name_in}
 use Rattle.bh_base.specs.Connections.{backing}
-use Rattle.bh_base.specs.Shown.{shown}
 use Rattle.bh_base.proofs.Apart.{keys_apart}
 use Rattle.bh_usage.proofs.rows.key_names.Goals as goal
 

@@ -1,5 +1,4 @@
-use Rattle.std.proofs.Common.{Some, slice_index_or, None}
-use Rattle.bh_packs.specs.Packs.{KeepsPack}
+use Rattle.std.proofs.Common.{Some}
 use Rattle.bh_packs.proofs.PackLemmas.{none_keeps, more_keep}
 use Rattle.bh_packs.proofs.packs.Packs.begin.Goals as goal
 

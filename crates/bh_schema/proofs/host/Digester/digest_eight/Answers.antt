@@ -1,4 +1,4 @@
-use Rattle.std.proofs.Common.{◌≡◌, ◌≢◌, ◌<◌, ◌+◌, ◌-◌, ◌*◌, length, take, drop, refl, ◌∷◌, slice_set, sym, ap, ◌∙◌, arith, get_or-set_other, length-set, get_or-set_same, below_more}
+use Rattle.std.proofs.Common.{◌≡◌, ◌≢◌, ◌<◌, ◌+◌, ◌-◌, ◌*◌, length, take, drop, refl, ap, ◌∙◌, arith, get_or-set_other, length-set, get_or-set_same, below_more}
 use Rattle.bh_schema.proofs.host.Digester.digest_eight.Goals as goal
 
 pub blocks-2-init : goal.blocks-2-init

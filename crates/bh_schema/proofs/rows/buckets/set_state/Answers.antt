@@ -7,7 +7,6 @@ use Rattle.bh_tables.proofs.Places.{buckets}
 use Rattle.bh_tables.proofs.BucketTexts.{state_set, state_may}
 use Rattle.bh_base.proofs.Calls.{updated}
 use Rattle.bh_base.specs.Connections.{backing}
-use Rattle.bh_base.specs.Shown.{shown}
 use Rattle.bh_base.proofs.Apart.{buckets_apart}
 use Rattle.bh_schema.proofs.rows.buckets.set_state.Goals as goal
 

@@ -5,7 +5,6 @@ use Rattle.bh_base.specs.Connections.{tables}
 use Rattle.bh_schema.proofs.Asking.{failed, answered, no_value}
 use Rattle.bh_schema.proofs.Contents.{asks_content, content_any, some_first}
 use Rattle.bh_base.specs.Connections.{backing}
-use Rattle.bh_base.specs.Shown.{shown}
 use Rattle.bh_schema.proofs.rows.contents.bucket_has.Goals as goal
 
 pub returns-in_err-rows : goal.returns-in_err-rows

@@ -7,7 +7,6 @@ use Rattle.sqlite.specs.Held.{state}
 use Rattle.sqlite.specs.Order.{Row}
 use Rattle.std.proofs.Common.{ℕ, List, [], ◌∷◌, Some, Ok, Err, ap, slice_get, ◌∙◌}
 use Rattle.bh_base.specs.Connections.{backing}
-use Rattle.bh_base.specs.Shown.{shown}
 use Rattle.bh_schema.proofs.rows.garbage.find_garbage.Goals as goal
 
 pub returns-in_err-rows : goal.returns-in_err-rows

@@ -3,7 +3,6 @@ use Rattle.sqlite.specs.Held.{state}
 use Rattle.bh_tables.proofs.GarbageTexts.{garbage_set, garbage_may}
 use Rattle.bh_schema.proofs.GarbageCalls.{sets, sets_trouble}
 use Rattle.bh_base.specs.Connections.{backing}
-use Rattle.bh_base.specs.Shown.{shown}
 use Rattle.bh_schema.proofs.rows.garbage.set_garbage.Goals as goal
 
 pub returns : goal.returns

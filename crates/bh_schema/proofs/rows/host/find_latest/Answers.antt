@@ -11,7 +11,6 @@ use Rattle.sqlite.specs.Held.{state}
 use Rattle.sqlite.specs.Order.{Row}
 use Rattle.std.proofs.Common.{List, [], ◌∷◌, true, Ok, Err, ap, find, slice_get, ◌∙◌}
 use Rattle.bh_base.specs.Connections.{backing}
-use Rattle.bh_base.specs.Shown.{shown}
 use Rattle.bh_base.proofs.Apart.{host_apart}
 use Rattle.bh_schema.proofs.rows.host.find_latest.Goals as goal
 

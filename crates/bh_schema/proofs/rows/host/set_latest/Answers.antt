@@ -4,7 +4,6 @@ use Rattle.bh_tables.proofs.Places.{host}
 use Rattle.bh_tables.proofs.HostTexts.{latest_set, latest_may}
 use Rattle.bh_base.proofs.Calls.{updated}
 use Rattle.bh_base.specs.Connections.{backing}
-use Rattle.bh_base.specs.Shown.{shown}
 use Rattle.bh_base.proofs.Apart.{host_apart}
 use Rattle.bh_schema.proofs.rows.host.set_latest.Goals as goal
 

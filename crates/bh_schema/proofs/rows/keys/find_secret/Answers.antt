@@ -13,7 +13,6 @@ use Rattle.std.proofs.Common.{List, [], ◌∷◌, Ok, Err, ap, find, slice_get,
 use Rattle.std.specs.Str.{IsUtf8}
 use Rattle.std.specs.String.{string_bytes}
 use Rattle.bh_base.specs.Connections.{backing}
-use Rattle.bh_base.specs.Shown.{shown}
 use Rattle.bh_base.proofs.Apart.{keys_apart}
 use Rattle.bh_schema.proofs.rows.keys.find_secret.Goals as goal
 

@@ -8,7 +8,6 @@ use Rattle.bh_tables.proofs.VersionTexts.{newest_places_shown}
 use Rattle.sqlite.specs.Held.{state}
 use Rattle.sqlite.specs.Order.{Row}
 use Rattle.bh_base.specs.Connections.{backing}
-use Rattle.bh_base.specs.Shown.{shown}
 use Rattle.bh_schema.proofs.rows.places.newest_places.Goals as goal
 
 pub returns-in_err-rows : goal.returns-in_err-rows

@@ -10,7 +10,6 @@ use Rattle.sqlite.specs.Held.{state}
 use Rattle.sqlite.specs.Order.{Row}
 use Rattle.std.proofs.Common.{List, Ok, Err, ap, find, slice_get, ◌∙◌}
 use Rattle.bh_base.specs.Connections.{backing}
-use Rattle.bh_base.specs.Shown.{shown}
 use Rattle.bh_schema.proofs.rows.places.place_of_id.Goals as goal
 
 pub returns-in_err-rows : goal.returns-in_err-rows

@@ -1,7 +1,6 @@
 use Rattle.sqlite.specs.Held.{state}
 use Rattle.bh_schema.proofs.RemovalCalls.{owned_gone}
 use Rattle.bh_base.specs.Connections.{backing}
-use Rattle.bh_base.specs.Shown.{shown}
 use Rattle.bh_schema.proofs.rows.removal.delete_owned.Goals as goal
 
 pub returns : goal.returns

@@ -10,7 +10,6 @@ use Rattle.std.proofs.Common.{List, [], ◌∷◌, Ok, Err, ℕ, filter, sym, �
 use Rattle.std.proofs.lemmas.List.{map-id}
 use Rattle.std.proofs.lemmas.Result.{IfOk-weaker}
 use Rattle.bh_base.specs.Connections.{backing}
-use Rattle.bh_base.specs.Shown.{shown}
 use Rattle.bh_schema.proofs.rows.removal.entry_numbers.Goals as goal
 
 pub returns-in_err-rows : goal.returns-in_err-rows

@@ -4,7 +4,6 @@ use Rattle.bh_tables.proofs.Places.{retains}
 use Rattle.bh_tables.proofs.RetainTexts.{retain_deleted, retains_unused}
 use Rattle.bh_base.proofs.Calls.{deleted}
 use Rattle.bh_base.specs.Connections.{backing}
-use Rattle.bh_base.specs.Shown.{shown}
 use Rattle.bh_base.proofs.Apart.{retains_apart}
 use Rattle.bh_schema.proofs.rows.retains.delete_retain.Goals as goal
 

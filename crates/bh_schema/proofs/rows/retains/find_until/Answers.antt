@@ -11,7 +11,6 @@ use Rattle.sqlite.specs.Held.{state}
 use Rattle.sqlite.specs.Order.{Row}
 use Rattle.std.proofs.Common.{List, [], ◌∷◌, Ok, Err, ap, find, slice_get, ◌∙◌}
 use Rattle.bh_base.specs.Connections.{backing}
-use Rattle.bh_base.specs.Shown.{shown}
 use Rattle.bh_base.proofs.Apart.{retains_apart}
 use Rattle.bh_schema.proofs.rows.retains.find_until.Goals as goal
 

@@ -4,7 +4,6 @@ use Rattle.bh_tables.proofs.Places.{retains}
 use Rattle.bh_tables.proofs.RetainTexts.{until_set, until_may}
 use Rattle.bh_base.proofs.Calls.{updated}
 use Rattle.bh_base.specs.Connections.{backing}
-use Rattle.bh_base.specs.Shown.{shown}
 use Rattle.bh_base.proofs.Apart.{retains_apart}
 use Rattle.bh_schema.proofs.rows.retains.set_until.Goals as goal
 

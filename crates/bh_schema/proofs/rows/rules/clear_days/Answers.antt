@@ -4,7 +4,6 @@ use Rattle.bh_tables.proofs.Places.{buckets}
 use Rattle.bh_tables.proofs.BucketTexts.{days_cleared, days_may}
 use Rattle.bh_base.proofs.Calls.{updated}
 use Rattle.bh_base.specs.Connections.{backing}
-use Rattle.bh_base.specs.Shown.{shown}
 use Rattle.bh_base.proofs.Apart.{buckets_apart}
 use Rattle.bh_schema.proofs.rows.rules.clear_days.Goals as goal
 

@@ -1,7 +1,7 @@
-use Rattle.std.proofs.Common.{◌≡◌, ap, ap₂, sym, subst, ◌∙◌, ◌+◌}
+use Rattle.std.proofs.Common.{ap, sym, subst, ◌∙◌, ◌+◌}
 use Rattle.bh_base.specs.Connections.{state}
 use Rattle.bh_tables.specs.Typed.{totals_of, tables_in}
-use Rattle.bh_base.specs.Layer.{Standing, standing, IsInsideBy, HoldsBy}
+use Rattle.bh_base.specs.Layer.{Standing, standing, IsInsideBy}
 use Rattle.bh_schema.proofs.TallySteps.{own_tally, recounts}
 use Rattle.bh_schema.proofs.rows.tallies.recount.Goals as goal
 

@@ -3,7 +3,6 @@ use Rattle.sqlite.specs.Held.{state}
 use Rattle.bh_tables.proofs.TallyTexts.{tally_set, tally_may}
 use Rattle.bh_schema.proofs.TallyCalls.{sets, sets_trouble}
 use Rattle.bh_base.specs.Connections.{backing}
-use Rattle.bh_base.specs.Shown.{shown}
 use Rattle.bh_schema.proofs.rows.tallies.set_tally.Goals as goal
 
 pub returns : goal.returns

@@ -2,7 +2,6 @@ use Rattle.sqlite.specs.Held.{state}
 use Rattle.bh_tables.proofs.UsedTexts.{used_taken}
 use Rattle.bh_schema.proofs.UsedCalls.{fewer_used}
 use Rattle.bh_base.specs.Connections.{backing}
-use Rattle.bh_base.specs.Shown.{shown}
 use Rattle.bh_schema.proofs.rows.tenants.use_less.Goals as goal
 
 pub returns : goal.returns

@@ -3,7 +3,6 @@ use Rattle.sqlite.specs.Held.{state}
 use Rattle.bh_tables.proofs.UsedTexts.{numbers_used_set}
 use Rattle.bh_schema.proofs.UsedCalls.{changed_tenants}
 use Rattle.bh_base.specs.Connections.{backing}
-use Rattle.bh_base.specs.Shown.{shown}
 use Rattle.bh_schema.proofs.rows.tenants.use_numbers.Goals as goal
 
 pub returns : goal.returns

@@ -1,4 +1,4 @@
-use Rattle.std.proofs.Common.{◌≡◌, None, Some, option_map, slice_get, filter, ap, subst, ◌∙◌}
+use Rattle.std.proofs.Common.{None, Some, option_map, slice_get, filter, ap, subst, ◌∙◌}
 use Rattle.std.proofs.lemmas.Result.{on_ok_weaker}
 use Rattle.bh_base.specs.Connections.{state}
 use Rattle.bh_tables.specs.Typed.{totals_of, tables_in}

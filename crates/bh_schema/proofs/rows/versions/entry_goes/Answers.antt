@@ -1,8 +1,8 @@
-use Rattle.std.proofs.Common.{◌≡◌, None, Some, find, filter, option_map, slice_get, ap, subst, ◌∙◌}
+use Rattle.std.proofs.Common.{None, find, filter, option_map, ap, subst, ◌∙◌}
 use Rattle.std.proofs.lemmas.Result.{on_ok_weaker}
 use Rattle.bh_base.specs.Connections.{state}
 use Rattle.sqlite_keyed.specs.Lists.{delete_where}
-use Rattle.bh_tables.specs.Typed.{Tables, totals_of, tables_in}
+use Rattle.bh_tables.specs.Typed.{totals_of, tables_in}
 use Rattle.bh_tables.specs.Shown.{is_at, is_version}
 use Rattle.bh_view.specs.Grouped.{first}
 use Rattle.bh_base.specs.Layer.{Standing, standing, HoldsBy}

@@ -12,7 +12,6 @@ use Rattle.sqlite.specs.Order.{Row}
 use Rattle.std.proofs.Common.{List, Ok, Err, ap, slice_get, ◌∙◌}
 use Rattle.std.specs.Str.{IsUtf8}
 use Rattle.bh_base.specs.Connections.{backing}
-use Rattle.bh_base.specs.Shown.{shown}
 use Rattle.bh_schema.proofs.rows.versions.newest_version.Goals as goal
 
 pub returns-in_err-rows : goal.returns-in_err-rows

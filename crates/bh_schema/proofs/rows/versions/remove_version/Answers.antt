@@ -2,7 +2,6 @@ use Rattle.sqlite.specs.Held.{state}
 use Rattle.bh_tables.proofs.VersionTexts.{version_deleted}
 use Rattle.bh_schema.proofs.VersionCalls.{goes}
 use Rattle.bh_base.specs.Connections.{backing}
-use Rattle.bh_base.specs.Shown.{shown}
 use Rattle.bh_schema.proofs.rows.versions.remove_version.Goals as goal
 
 pub returns : goal.returns

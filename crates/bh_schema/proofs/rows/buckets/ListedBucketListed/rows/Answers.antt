@@ -3,7 +3,6 @@ use Rattle.bh_tables.proofs.Places.{buckets}
 use Rattle.bh_tables.proofs.BucketTexts.{buckets_listed}
 use Rattle.bh_base.proofs.Calls.{sorted}
 use Rattle.bh_base.specs.Connections.{backing}
-use Rattle.bh_base.specs.Shown.{shown}
 use Rattle.bh_base.proofs.Apart.{buckets_apart}
 use Rattle.bh_schema.proofs.rows.buckets.ListedBucketListed.rows.Goals as goal
 
