@@ -236,20 +236,20 @@ after_reply h laws digest event told ended old new opened packs did ready again 
 pub after_kept_stop : {D P G K : Type 0} {g : Ghosts D} (h : Shelves P) → LeavesKept h → {d : digester.Ghosts G} {k : size.Ghosts K} (digest : Octets → Octets) (s : storage.Ghosts (KeptHost D P G K g h d k)) → s.IsSoundStore ≡ IsSoundHost digest
     → KeptStandsOver h s → AfterKeptStop digest s
 after_kept_stop h laws digest s sound stands event told old new it opened packs did stays is again clean may =
-    survives h laws s.IsIntact s.IsOpen s.seen s.left digest old new it.storage.host opened packs
-    (subst (λ (Sound : Tables → Type 0). StandsOver h s.IsIntact s.IsOpen Sound s.seen s.left new it.storage.host) sound (stands new it is))
+    survives h laws s.IsIntact s.IsOpen s.seen s.left digest old new it.host opened packs
+    (subst (λ (Sound : Tables → Type 0). StandsOver h s.IsIntact s.IsOpen Sound s.seen s.left new it.host) sound (stands new it is))
     (subst (λ (Sound : Tables → Type 0). s.IsIntact new × s.IsOpen new → IsAtRest Sound (s.seen new)) sound stays.ready) again clean may event told did
 
 pub after_kept_reply : {D P G K : Type 0} {g : Ghosts D} (h : Shelves P) → LeavesKept h → {d : digester.Ghosts G} {k : size.Ghosts K} (digest : Octets → Octets) (s : storage.Ghosts (KeptHost D P G K g h d k)) → s.IsSoundStore ≡ IsSoundHost digest
     → KeptStandsOver h s → AfterKeptReply digest s
 after_kept_reply h laws digest s sound stands event told ended old new it opened packs did stays is again clean may =
-    survives_since h laws s.IsIntact s.IsOpen s.seen s.left digest old new it.storage.host opened packs
-    (subst (λ (Sound : Tables → Type 0). StandsOver h s.IsIntact s.IsOpen Sound s.seen s.left new it.storage.host) sound (stands new it is))
+    survives_since h laws s.IsIntact s.IsOpen s.seen s.left digest old new it.host opened packs
+    (subst (λ (Sound : Tables → Type 0). StandsOver h s.IsIntact s.IsOpen Sound s.seen s.left new it.host) sound (stands new it is))
     (subst (λ (Sound : Tables → Type 0). s.IsIntact new × s.IsOpen new → IsAtRest Sound (s.seen new)) sound stays.ready) again clean may event told ended did
 
 pub after_kept_group : {D P G K : Type 0} {g : Ghosts D} (h : Shelves P) → LeavesKept h → {d : digester.Ghosts G} {k : size.Ghosts K} (digest : Octets → Octets) (s : storage.Ghosts (KeptHost D P G K g h d k)) → s.IsSoundStore ≡ IsSoundHost digest
     → KeptStandsOver h s → AfterKeptGroup digest s
 after_kept_group h laws digest s sound stands events tolds old new it opened packs did stays is again clean may =
-    all_survive h laws s.IsIntact s.IsOpen s.seen s.left digest old new it.storage.host opened packs
-    (subst (λ (Sound : Tables → Type 0). StandsOver h s.IsIntact s.IsOpen Sound s.seen s.left new it.storage.host) sound (stands new it is))
+    all_survive h laws s.IsIntact s.IsOpen s.seen s.left digest old new it.host opened packs
+    (subst (λ (Sound : Tables → Type 0). StandsOver h s.IsIntact s.IsOpen Sound s.seen s.left new it.host) sound (stands new it is))
     (subst (λ (Sound : Tables → Type 0). s.IsIntact new × s.IsOpen new → IsAtRest Sound (s.seen new)) sound stays.ready) again clean may events tolds did

@@ -21,7 +21,7 @@ use Rattle.bh_base.specs.Placed.{filled, IsWhole}
 use Rattle.bh_schema.specs.declared.host.Digester as digester
 use Rattle.bh_schema.specs.declared.host.Host.{Host}
 use Rattle.bh_schema.specs.Storage.{IsIntact, IsOpen, seen, left}
-use Rattle.bh_dispatch.specs.declared.recalling.RecallingStorage.{RecallingStorage}
+use Rattle.bh_dispatch.specs.declared.sql_host.SqlHost.{SqlHost}
 use Rattle.bh_kept.specs.declared.host.BlockSize as size
 use Rattle.bh_kept.specs.declared.host.KeptHost.{KeptHost}
 use Rattle.bh_again.specs.Found as found
@@ -196,13 +196,13 @@ StaysSound {D} {P} g h G digest = (old new : Host (FileStore D g) P G)
 abbrev pub AfterKeptStop : {D P G K : Type 0} {g : Ghosts D} {h : Shelves P} {d : digester.Ghosts G} {k : size.Ghosts K}
     → (Octets → Octets) → storage.Ghosts (KeptHost D P G K g h d k) → Type 0
 AfterKeptStop {D} {P} {G} {K} {g} {h} {d} {k} digest s =
-    (event : Arrival) (told : Told) (old new : KeptHost D P G K g h d k) (it : RecallingStorage (FileStore D g) P G)
+    (event : Arrival) (told : Told) (old new : KeptHost D P G K g h d k) (it : SqlHost (FileStore D g) P G)
     (opened : Opened (FileStore D g)) (packs : Contents)
     → IsApplied s.IsIntact s.IsOpen s.seen s.left event told old new
     → StaysAtRest s.IsIntact s.IsOpen s.IsSoundStore s.seen s.left old new
-    → new.storage ≡ Some it → IsReopened h it.storage.host opened → IsCleanAgain opened → MayFind h it.storage.host packs
+    → new.storage ≡ Some it → IsReopened h it.host opened → IsCleanAgain opened → MayFind h it.host packs
     → found.Survives s.IsIntact s.IsOpen s.seen s.left digest
-    (found.IsLeftBy s.IsIntact s.IsOpen s.seen s.left (IsOlder h it.storage.host packs) event told old new) old new
+    (found.IsLeftBy s.IsIntact s.IsOpen s.seen s.left (IsOlder h it.host packs) event told old new) old new
     (seen_again packs opened)
 
 -- and so it does after a reply was sent and a stop
@@ -210,13 +210,13 @@ abbrev pub AfterKeptReply : {D P G K : Type 0} {g : Ghosts D} {h : Shelves P} {d
     → (Octets → Octets) → storage.Ghosts (KeptHost D P G K g h d k) → Type 0
 AfterKeptReply {D} {P} {G} {K} {g} {h} {d} {k} digest s =
     (event : Arrival) (told : Told) (ended : End) (old new : KeptHost D P G K g h d k)
-    (it : RecallingStorage (FileStore D g) P G)
+    (it : SqlHost (FileStore D g) P G)
     (opened : Opened (FileStore D g)) (packs : Contents)
     → HasAnswered s.IsIntact s.IsOpen s.seen s.left event told ended old new
     → StaysAtRest s.IsIntact s.IsOpen s.IsSoundStore s.seen s.left old new
-    → new.storage ≡ Some it → IsReopened h it.storage.host opened → IsCleanAgain opened → MayFind h it.storage.host packs
+    → new.storage ≡ Some it → IsReopened h it.host opened → IsCleanAgain opened → MayFind h it.host packs
     → found.Survives s.IsIntact s.IsOpen s.seen s.left digest
-    (found.IsLeftSince s.IsIntact s.IsOpen s.seen s.left (IsOlder h it.storage.host packs) event told old new) old new
+    (found.IsLeftSince s.IsIntact s.IsOpen s.seen s.left (IsOlder h it.host packs) event told old new) old new
     (seen_again packs opened)
 
 -- and so it does after events that were applied together and a stop
@@ -224,11 +224,11 @@ abbrev pub AfterKeptGroup : {D P G K : Type 0} {g : Ghosts D} {h : Shelves P} {d
     → (Octets → Octets) → storage.Ghosts (KeptHost D P G K g h d k) → Type 0
 AfterKeptGroup {D} {P} {G} {K} {g} {h} {d} {k} digest s =
     (events : List Arrival) (tolds : List Told) (old new : KeptHost D P G K g h d k)
-    (it : RecallingStorage (FileStore D g) P G)
+    (it : SqlHost (FileStore D g) P G)
     (opened : Opened (FileStore D g)) (packs : Contents)
     → found.HaveApplied s.IsIntact s.IsOpen s.seen s.left events tolds old new
     → StaysAtRest s.IsIntact s.IsOpen s.IsSoundStore s.seen s.left old new
-    → new.storage ≡ Some it → IsReopened h it.storage.host opened → IsCleanAgain opened → MayFind h it.storage.host packs
+    → new.storage ≡ Some it → IsReopened h it.host opened → IsCleanAgain opened → MayFind h it.host packs
     → found.Survives s.IsIntact s.IsOpen s.seen s.left digest
-    (found.AreLeftBy s.IsIntact s.IsOpen s.seen s.left (IsOlder h it.storage.host packs) events tolds old new) old new
+    (found.AreLeftBy s.IsIntact s.IsOpen s.seen s.left (IsOlder h it.host packs) events tolds old new) old new
     (seen_again packs opened)

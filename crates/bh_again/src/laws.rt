@@ -4,10 +4,10 @@
 ghost use Rattle.bh_again.specs.Stops.{AfterGroup, AfterReply, AfterStop, OpensSound, StaysSound};
 ghost use Rattle.bh_again.specs.Stops.{AfterKeptGroup, AfterKeptReply, AfterKeptStop};
 
+use bh_host::storage::Storage;
 use bh_kept::{BlockSize, KeptHost};
 use bh_schema::host::Digester;
 use bh_shelf::shelf::Shelf;
-use bh_host::storage::Storage;
 use sqlite_disk::Crash;
 
 /// An event is applied, the machine stops, and the files are opened again. The host then has the

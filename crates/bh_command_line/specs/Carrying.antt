@@ -7,9 +7,9 @@ use Rattle.sqlite_disk.specs.declared.Disk as disk
 use Rattle.sqlite_disk.specs.declared.Files.{Files}
 use Rattle.sqlite_disk.specs.declared.start.Wary.{Wary}
 use Rattle.sqlite_wal.specs.Recovery.{Image}
-use Rattle.bh_event.specs.Events.{AddKey, Message, Ordered}
+use Rattle.bh_event.specs.Events.{AddKey, Message, Ordered, message_of}
 use Rattle.bh_event.specs.Lines.{ordered_by}
-use Rattle.bh_event.specs.Orders.{Instruction, ToDo, instruction_of, message_of}
+use Rattle.bh_event.specs.Orders.{Instruction, ToDo, instruction_of}
 use Rattle.bh_event.specs.declared.order.HostOrder.{HostOrder}
 use Rattle.bh_shelf.specs.Contents.{Contents}
 use Rattle.bh_shelf.specs.declared.shelf.Shelf.{Ghosts as Shelves}

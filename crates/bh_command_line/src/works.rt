@@ -3,8 +3,7 @@
 
 ghost use Rattle.std.specs.Prelude.{◌≡◌, IfOk, is_some};
 ghost use Rattle.std.specs.String.{string_bytes};
-ghost use Rattle.bh_event.specs.Events.{order_of, Ordered};
-ghost use Rattle.bh_event.specs.Orders.{message_of};
+ghost use Rattle.bh_event.specs.Events.{order_of, Ordered, message_of};
 ghost use Rattle.bh_command_line.specs.Carrying.{AreServed, IsServing, IsReadAs, IsWorkFor, spool_name};
 
 use crate::input::typed_text;

@@ -1,12 +1,13 @@
 -- What the line of a reply to an operator tells.
 use Rattle.std.proofs.Common.{◌≡◌, ℕ, nat_lt, true, false, List, Option, Some, None, IfSome, refl, ap, ◌∙◌, arith, if◌then◌else◌}
 use Rattle.std.specs.Fmt.{digits}
+use Rattle.bh_event.specs.Events.{message_of}
 use Rattle.bh_model.specs.Runs.{last_reading}
 use Rattle.bh_host.specs.Replies.{clock_text, wanting_text}
 use Rattle.bh_host.specs.declared.reply.Caller.TheVariants.{Operator}
 use Rattle.bh_host.specs.Turns.{IsToldApart, fixed}
 use Rattle.bh_maintenance.specs.Printing.{status_of}
-use Rattle.bh_event.specs.Orders.{arrival_at, message_of}
+use Rattle.bh_event.specs.Orders.{arrival_at}
 use Rattle.bh_event.specs.declared.order.HostOrder.{HostOrder}
 use Rattle.bh_event.specs.declared.order.HostOrder.TheVariants.{Command, Sweep, Report, Tenants}
 

@@ -1,7 +1,7 @@
 -- Work on a host, and its printed text.
 use Rattle.std.specs.Prelude.{◌≡◌, ℕ, false, List, Option, is_some, option_and_then}
-use Rattle.bh_event.specs.Events.{Arrival}
-use Rattle.bh_event.specs.Orders.{arrival_at, message_of}
+use Rattle.bh_event.specs.Events.{Arrival, message_of}
+use Rattle.bh_event.specs.Orders.{arrival_at}
 use Rattle.bh_tables.specs.Typed.{Tables}
 use Rattle.bh_storage.specs.Calls.{Seen, Clean, IsAtRest}
 use Rattle.bh_host.specs.Runs.{Told}

@@ -25,8 +25,8 @@ use Rattle.bh_open.specs.Packed.{tables_beside, seen_beside}
 use Rattle.bh_open.specs.declared.open.Opened.{Opened}
 use Rattle.bh_blocks.specs.Digests.{digest_by, digester_of, the_digester}
 use Rattle.bh_memo.specs.Facts.{nothing}
-use Rattle.bh_dispatch.specs.declared.recalling.RecallingStorage.{RecallingStorage}
-use Rattle.bh_dispatch.specs.declared.storage.HostStorage.{HostStorage}
+use Rattle.bh_dispatch.specs.declared.sql_host.SqlHost.{SqlHost}
+use Rattle.bh_schema.specs.declared.host.Host.{Host as SqlStore}
 use Rattle.bh_kept.specs.Kept as kept
 use Rattle.bh_kept.specs.declared.host.BlockSize as size
 use Rattle.bh_kept.specs.declared.host.KeptHost.{KeptHost}
@@ -65,74 +65,72 @@ Makes limits digest old new printed = IsNotMade old new printed ⊎ IsMade limit
 module _ {D P : Type 0} {g : disk.Ghosts D} where
   -- the host of an opened database and its packs, with a digester, which is that of a function; its
   -- cache is empty
-  abbrev pub host_with : {G : Type 0} → Opened (FileStore D g) → P → G → HostStorage (FileStore D g) P G
+  abbrev pub host_with : {G : Type 0} → Opened (FileStore D g) → P → G → SqlStore (FileStore D g) P G
   host_with opened packs digester = record {
-    host = record {
-      connection = record { database = opened.connection; packs = packs };
-      digester = digester;
-      limits = opened.limits;
-      cache = no_blocks opened.tuning;
-    };
+    connection = record { database = opened.connection; packs = packs };
+    digester = digester;
+    limits = opened.limits;
+    cache = no_blocks opened.tuning;
   }
 
-  abbrev pub host_by : (digest : BlockDigest) → Opened (FileStore D g) → P → HostStorage (FileStore D g) P (digester_of digest)
+  abbrev pub host_by : (digest : BlockDigest) → Opened (FileStore D g) → P → SqlStore (FileStore D g) P (digester_of digest)
   host_by digest opened packs = host_with opened packs (the_digester digest)
 
   module _ (p : Shelves P) where
     -- a host is at rest, with blocks named by a function, and this is its last stamp
-    pub record IsReady {G : Type 0} (digest : Octets → Octets) (latest : ℕ) (host : HostStorage (FileStore D g) P G) : Type 0 where
-      pub rest : storage.IsClean over_files p host.host → IsAtRest (IsSoundHost digest) (storage.seen over_files p host.host)
-      pub read : storage.IsClean over_files p host.host → latest ≡ latest_of (storage.seen over_files p host.host).now
+    pub record IsReady {G : Type 0} (digest : Octets → Octets) (latest : ℕ) (host : SqlStore (FileStore D g) P G) : Type 0 where
+      pub rest : storage.IsClean over_files p host → IsAtRest (IsSoundHost digest) (storage.seen over_files p host)
+      pub read : storage.IsClean over_files p host → latest ≡ latest_of (storage.seen over_files p host).now
 
     -- a connection was opened as a host, which has the tables that were there, with the bytes that the
     -- packs beside it have, upgraded from an earlier version if needed, and is at rest
     pub record IsFound {G : Type 0} (has : Contents) (digest : Octets → Octets) (old : Held (FileStore D g))
-        (host : HostStorage (FileStore D g) P G) : Type 0 where
-      pub opened : IsOpenedAs has (file_state old) (file_state host.host.connection.database)
-      pub shows : storage.IsClean over_files p host.host → (storage.seen over_files p host.host).now
+        (host : SqlStore (FileStore D g) P G) : Type 0 where
+      pub opened : IsOpenedAs has (file_state old) (file_state host.connection.database)
+      pub shows : storage.IsClean over_files p host → (storage.seen over_files p host).now
           ≡ tables_beside has (standing (file_state old)).now
-      pub rest : storage.IsClean over_files p host.host → IsAtRest (IsSoundHost digest) (storage.seen over_files p host.host)
+      pub rest : storage.IsClean over_files p host → IsAtRest (IsSoundHost digest) (storage.seen over_files p host)
 
     -- the work was done at a reading, all of it, on a host that cuts bodies into blocks of this size,
     -- and its connection is left; backups may have closed and reopened it, and it wasn't lost over
     -- them
     pub record IsWorkedOn {G K : Type 0} (block : size.Ghosts K) (digest : Octets → Octets) (work : Work) (reading : ℕ)
-        (host : HostStorage (FileStore D g) P G) (new : Held (FileStore D g)) (printed : Printed) : Type 0 where
+        (host : SqlStore (FileStore D g) P G) (new : Held (FileStore D g)) (printed : Printed) : Type 0 where
       pub first : KeptHost D P G K g p (record { digest_of = digest }) block
       pub last : KeptHost D P G K g p (record { digest_of = digest }) block
-      pub left_host : RecallingStorage (FileStore D g) P G
-      pub begun : first.storage ≡ Some (record { storage = host; memo = nothing })
+      pub left_host : SqlHost (FileStore D g) P G
+      pub begun : first.storage ≡ Some (record { host = host; memo = nothing })
       pub stays : StaysReady (λ h. kept.IsIntact p h.storage) (λ h. kept.IsOpen p h.storage) (IsSoundHost digest)
           (λ h. kept.seen p h.limits h.storage) first last
       pub done : HasDone (λ h. kept.IsIntact p h.storage) (λ h. kept.IsOpen p h.storage)
           (λ h. kept.seen p h.limits h.storage) (λ h. kept.left p h.storage) work reading first last printed
       pub ended : last.storage ≡ Some left_host
-      pub left : new ≡ left_host.storage.host.connection.database
+      pub left : new ≡ left_host.host.connection.database
 
     -- the clock, at the given reading or else at some reading, is too far ahead of the last stamp, or
     -- not
-    pub record Reads {G : Type 0} (clock : ClockGiven) (host : HostStorage (FileStore D g) P G) (reading : ℕ)
+    pub record Reads {G : Type 0} (clock : ClockGiven) (host : SqlStore (FileStore D g) P G) (reading : ℕ)
         (is_leap : Bool) : Type 0 where
       pub given : IfSome clock.at (λ r. reading ≡ r)
-      pub leap : storage.IsClean over_files p host.host
-          → leaps clock.leap (latest_of (storage.seen over_files p host.host).now) reading ≡ is_leap
+      pub leap : storage.IsClean over_files p host
+          → leaps clock.leap (latest_of (storage.seen over_files p host).now) reading ≡ is_leap
 
     -- it is too far ahead: that alone is printed, and the tables are unchanged
-    pub record IsHeldBack {G : Type 0} (clock : ClockGiven) (host : HostStorage (FileStore D g) P G) (new : Held (FileStore D g))
+    pub record IsHeldBack {G : Type 0} (clock : ClockGiven) (host : SqlStore (FileStore D g) P G) (new : Held (FileStore D g))
         (printed : Printed) : Type 0 where
       pub reading : ℕ
       pub reads : Reads clock host reading true
-      pub left : new ≡ host.host.connection.database
+      pub left : new ≡ host.connection.database
       pub line : IsFault printed
 
     -- it is not, and the work was done at that reading; blocks have the size of the host's settings
     pub record IsDone {G : Type 0} (digest : Octets → Octets) (clock : ClockGiven) (work : Work)
-        (host : HostStorage (FileStore D g) P G) (new : Held (FileStore D g)) (printed : Printed) : Type 0 where
+        (host : SqlStore (FileStore D g) P G) (new : Held (FileStore D g)) (printed : Printed) : Type 0 where
       pub reading : ℕ
       pub reads : Reads clock host reading false
-      pub worked : IsWorkedOn {K = Brand} (record { size = host.host.cache.tuning.block_size }) digest work reading host new printed
+      pub worked : IsWorkedOn {K = Brand} (record { size = host.cache.tuning.block_size }) digest work reading host new printed
 
-    abbrev pub IsWorkedInTime : {G : Type 0} → (Octets → Octets) → ClockGiven → Work → HostStorage (FileStore D g) P G
+    abbrev pub IsWorkedInTime : {G : Type 0} → (Octets → Octets) → ClockGiven → Work → SqlStore (FileStore D g) P G
         → Held (FileStore D g) → Printed → Type 0
     IsWorkedInTime digest clock work host new printed = IsHeldBack clock host new printed ⊎ IsDone digest clock work host new printed
 

@@ -1,7 +1,8 @@
 //! Work on a host's storage.
 
 ghost use Rattle.std.specs.Prelude.{◌≡◌, false, IfOk};
-ghost use Rattle.bh_event.specs.Orders.{arrival_at, message_of};
+ghost use Rattle.bh_event.specs.Events.{message_of};
+ghost use Rattle.bh_event.specs.Orders.{arrival_at};
 ghost use Rattle.bh_connection.specs.Connections.{IsTakenBack};
 ghost use Rattle.bh_storage.specs.Calls.{Clean, IsAtRest};
 ghost use Rattle.bh_host.specs.Replies.{reply_bytes};
@@ -11,11 +12,11 @@ ghost use Rattle.bh_commands.specs.Commands.{IsTold, HasDone, HasObeyed, HasServ
 use crate::asked::{Serving, Work};
 use bh_connection::{BackUp, MachineClock, is_sweep};
 use bh_event::order::HostOrder;
+use bh_host::storage::Storage;
 use bh_host::{Reply, apply};
 use bh_maintenance::fault::Fault;
 use bh_maintenance::printed::Printed;
 use bh_operation::routes::Routes;
-use bh_host::storage::Storage;
 use bh_wires::serve_many;
 use std::alloc::{AllocError, Global};
 

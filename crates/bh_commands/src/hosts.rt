@@ -123,7 +123,7 @@ fn work_on<D: Disk + Drop, P: CopyShelf + Drop, G: Digester + Drop, B: BlockSize
 ) -> Result<Done<FileStore<D>>, Fault>
     requires rest { IsClean over_files P.Shelf host → IsAtRest (IsSoundHost G.digest_of) (seen over_files P.Shelf host) }
     requires size { host.cache.tuning.block_size ≡ B.size }
-    ensures { IfOk result (λ done. IsWorkedOn P.Shelf B.BlockSize G.digest_of asked reading (record { host = host })
+    ensures { IfOk result (λ done. IsWorkedOn P.Shelf B.BlockSize G.digest_of asked reading host
         done.connection done.printed) }
 {
     let mut kept = KeptHost::<'_, D, P, G, B>::new(rt, host);
@@ -170,8 +170,8 @@ fn work_in_time<D: Disk + Drop, P: CopyShelf + Drop, G: Digester + Drop>(
     clock: ClockGiven,
     asked: Work,
 ) -> Result<Done<FileStore<D>>, Fault>
-    requires { IsReady P.Shelf G.digest_of latest (record { host = host }) }
-    ensures { IfOk result (λ done. IsWorkedInTime P.Shelf G.digest_of clock asked (record { host = host }) done.connection done.printed) }
+    requires { IsReady P.Shelf G.digest_of latest host }
+    ensures { IfOk result (λ done. IsWorkedInTime P.Shelf G.digest_of clock asked host done.connection done.printed) }
 {
     let reading = reading_of(rt, clock.at)?;
     if leaps(clock.leap, latest, reading) {

@@ -1,8 +1,9 @@
 ghost use Rattle.std.specs.Prelude.{◌≡◌, ◌≤◌, ◌<◌, ◌+◌, ◌↔◌, ℕ, List, length, take, false, option_map, IfOk, IfErr, IfSome, IsTrue, OnOk};
 ghost use Rattle.std.specs.Io.KnownBytes.{Appends};
+ghost use Rattle.bh_event.specs.Events.{message_of};
 ghost use Rattle.bh_storage.specs.Calls.{Clean, IsAtRest};
 ghost use Rattle.bh_tables.specs.Typed.{Tables};
-ghost use Rattle.bh_event.specs.Orders.{instruction_of, message_of};
+ghost use Rattle.bh_event.specs.Orders.{instruction_of};
 ghost use Rattle.bh_http.specs.Transfers.{Gives, Takes};
 ghost use Rattle.bh_host.specs.Resting.{StaysAtRest};
 ghost use Rattle.bh_connection.specs.Connections.{ends_of, EndsAs};

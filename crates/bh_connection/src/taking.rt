@@ -11,7 +11,7 @@ ghost use Rattle.bh_connection.specs.Each.{IsGoing, ends};
 ghost use Rattle.bh_connection.specs.Together.{IsAnswerable, IsTaken, IsUntaken, IsFirstUntaken, AllTaken};
 
 use crate::each::Arrival;
-use bh_event::event::Event;
+use bh_event::event::{Event, Message};
 use bh_http::body::{Body, Break, PIECE};
 use bh_http::request::MAX_FIELDS;
 use bh_link::ends::{Sink, Source};
@@ -70,7 +70,10 @@ fn take_event<R: Source, W: Sink>(
 {
     let reading = arrival.reading;
     match take_whole(alloc, limits, &mut arrival.reader) {
-        Ok(bytes) => Ok(Event::Http { reading, bytes }),
+        Ok(bytes) => Ok(Event {
+            reading,
+            message: Message::Request(bytes),
+        }),
         Err(error) => Err(error),
     }
 }

@@ -1,11 +1,14 @@
--- A step whose body comes in pieces: told as an answer, and in the words of a host's storage.
+-- A step whose body comes in pieces: told as a response, and in the words of a host's storage.
 use Rattle.std.proofs.Common.{◌≡◌, Option, Result, Ok, Err, ap, sym, subst, ◌∙◌}
-use Rattle.std.specs.Result.{result_map_both}
 use Rattle.sqlite.specs.State.{State}
 use Rattle.bh_types.specs.Limits.{HostLimits}
 use Rattle.bh_types.specs.Rejections.{plainly}
 use Rattle.bh_types.specs.declared.refusal.Refusal.{Refusal}
+use Rattle.bh_types.specs.declared.rejection.Rejection.{Rejection}
+use Rattle.bh_http.specs.Answers.{response_view}
 use Rattle.bh_http.specs.Bodies.{Coming, Gives, IsWhole}
+use Rattle.bh_http.specs.Responses.{Sent}
+use Rattle.bh_http.specs.declared.response.Response.{Response}
 use Rattle.bh_http.proofs.BodyLemmas.{going_may}
 use Rattle.bh_model.specs.Operations as machine
 use Rattle.bh_model.specs.Operations.{Answer}
@@ -17,10 +20,9 @@ use Rattle.bh_schema.specs.Working.{tables_at, StillWorking, StillWorkingBy}
 use Rattle.bh_schema.proofs.Storing.{AreBoth, both, shows_in, plain}
 use Rattle.bh_cache.specs.Kept.{KeptBlocks, Agrees}
 use Rattle.bh_cache.proofs.Agreeing.{agrees_grown}
-use Rattle.bh_host.specs.Offers.{answer_view}
-use Rattle.bh_storage.specs.Calls.{IsWorking, Carries, Operates, OperatesBy, Unless, UnlessSpoilt}
-use Rattle.bh_storage.specs.Errors.{step_rejected}
-use Rattle.bh_host.specs.declared.offer.Answer.{Answer as Told}
+use Rattle.bh_host.specs.Offers.{responded}
+use Rattle.bh_host.specs.Replies.{response_to}
+use Rattle.bh_storage.specs.Calls.{IsWorking, Carries, GivesStep, Operates, OperatesBy, Unless, UnlessSpoilt}
 use Rattle.bh_storage.specs.declared.error.Outcome.{Outcome}
 use Rattle.bh_storage.specs.declared.error.Outcome.TheVariants.{Done, Spoilt}
 use Rattle.bh_storage.specs.declared.error.StepError.{StepError}
@@ -28,33 +30,52 @@ use Rattle.bh_storage.specs.declared.error.StepError.TheVariants.{Refused, Faile
 use Rattle.bh_tables.specs.Typed.{Tables}
 use Rattle.bh_view.specs.View.{view}
 use Rattle.bh_view.specs.Bodies.{IsSoundHost}
-use Rattle.bh_dispatch.specs.Stored.{outcome_as}
+use Rattle.bh_dispatch.specs.Responses.{RespondsToBody}
 use Rattle.bh_dispatch.proofs.Storing.{IsAtWork, working_seen, shown_now, bounded_seen, carried_bounded, at_work, told}
 
--- ---- told as an answer
+-- ---- told as a response
 
-pub spoilt_told : {X : Type 0} (made : X → Told) (outcome : Result (Outcome X Refusal) (StepError Refusal)) (P : Type 0) → UnlessSpoilt outcome P → UnlessSpoilt (result_map_both (outcome_as made) step_rejected outcome) P
-spoilt_told made (Ok (Done x)) P h = h
-spoilt_told made (Ok (Spoilt r)) P h = tt
-spoilt_told made (Err (Refused r)) P h = h
-spoilt_told made (Err (Failed trouble)) P h = tt
+module _ (t : Octets) (answer : Answer) (old new : Tables) where
+  -- a step returns the response to its answer
+  pub gives_response : (step : Option Machine → Result machine.Outcome Rejection) (sent : Sent) → sent ≡ response_to answer → GivesStep t step answer old new → GivesStep t (λ s. responded (step s)) sent old new
+  gives_response step sent is h = record { gives = ap responded h.gives ∙ ap (λ x. Ok (x, view new t)) (sym is); others = h.others; latest = h.latest; shared = h.shared }
 
-pub operates_told : {X : Type 0} (t : Octets) (step : Octets → Option Machine → Result machine.Outcome Refusal) (Says : Octets → Type 0) (clean : Type 0) (before after : Coming) (old new : Tables) (shown : X → Answer) (made : X → Told)
-    → ((x : X) → answer_view (made x) ≡ shown x) → (outcome : Result (Outcome X Refusal) (StepError Refusal)) → OperatesBy shown t step Says clean before after old new outcome
-    → OperatesBy answer_view t (λ bytes s. plainly (step bytes s)) Says clean before after old new (result_map_both (outcome_as made) step_rejected outcome)
-operates_told t step Says clean before after old new shown made same (Ok (Done x)) h = record {
-  given = h.given;
-  gives = h.gives;
-  decided = h.decided;
-  carries = λ c. (
-      let g = h.carries c in
-      record { gives = ap plainly g.gives ∙ ap (λ y. Ok (y, view new t)) (sym (same x)); others = g.others; latest = g.latest; shared = g.shared }
-      );
-  says = h.says;
-}
-operates_told t step Says clean before after old new shown made same (Ok (Spoilt r)) h = record { given = h.given; gives = h.gives; decided = h.decided; carries = λ c. ap plainly (h.carries c); says = tt }
-operates_told t step Says clean before after old new shown made same (Err (Refused r)) h = record { given = h.given; gives = h.gives; decided = h.decided; carries = λ c. (ap plainly (h.carries c).0, (h.carries c).1); says = tt }
-operates_told t step Says clean before after old new shown made same (Err (Failed trouble)) h = record { given = h.given; gives = h.gives; decided = h.decided; carries = λ c. tt; says = tt }
+  -- where its refusals have no details
+  pub gives_plainly : (step : Option Machine → Result machine.Outcome Refusal) → GivesStep t step answer old new → GivesStep t (λ s. plainly (step s)) answer old new
+  gives_plainly step h = record { gives = ap plainly h.gives; others = h.others; latest = h.latest; shared = h.shared }
+
+abbrev pub Responses : Type 0
+Responses = Result (Outcome Response Rejection) (StepError Rejection)
+
+abbrev refused_as : Result machine.Outcome Refusal → Result (Sent × Option Machine) Rejection
+refused_as r = responded (plainly r)
+
+module _ {X : Type 0} (answer : X → Answer) where
+  pub spoilt_told : (outcome : Result (Outcome X Refusal) (StepError Refusal)) (result : Responses) (P : Type 0) → RespondsToBody answer outcome result → UnlessSpoilt outcome P → UnlessSpoilt result P
+  spoilt_told (Ok (Done x)) (Ok (Done response)) P is h = h
+  spoilt_told (Ok (Done x)) (Ok (Spoilt r)) P is h = absurd is
+  spoilt_told (Ok (Done x)) (Err error) P is h = subst (λ e. UnlessSpoilt {X = Response} {E = Rejection} (Err e) P) (sym is) tt
+  spoilt_told (Ok (Spoilt r)) result P is h = subst (λ o. UnlessSpoilt o P) (sym is) tt
+  spoilt_told (Err (Refused r)) result P is h = subst (λ o. UnlessSpoilt o P) (sym is) h
+  spoilt_told (Err (Failed trouble)) result P is h = subst (λ o. UnlessSpoilt o P) (sym is) tt
+
+  module _ (t : Octets) (step : Octets → Option Machine → Result machine.Outcome Refusal) (Says : Octets → Type 0) (clean : Type 0) (before after : Coming) (old new : Tables) where
+    abbrev Responded : Responses → Type 0
+    Responded = OperatesBy response_view t (λ bytes s. responded (plainly (step bytes s))) Says clean before after old new
+
+    pub operates_told : (outcome : Result (Outcome X Refusal) (StepError Refusal)) (result : Responses) → RespondsToBody answer outcome result → OperatesBy answer t step Says clean before after old new outcome → Responded result
+    operates_told (Ok (Done x)) (Ok (Done response)) is h = record {
+      given = h.given;
+      gives = h.gives;
+      decided = h.decided;
+      carries = λ c. gives_response t (answer x) old new (λ s. plainly (step h.given s)) (response_view response) is (gives_plainly t (answer x) old new (step h.given) (h.carries c));
+      says = h.says;
+    }
+    operates_told (Ok (Done x)) (Ok (Spoilt r)) is h = absurd is
+    operates_told (Ok (Done x)) (Err error) is h = subst (λ e. Responded (Err e)) (sym is) (record { given = h.given; gives = h.gives; decided = going_may after h.decided.going; carries = λ c. tt; says = tt })
+    operates_told (Ok (Spoilt r)) result is h = subst Responded (sym is) (record { given = h.given; gives = h.gives; decided = h.decided; carries = λ c. ap refused_as (h.carries c); says = tt })
+    operates_told (Err (Refused r)) result is h = subst Responded (sym is) (record { given = h.given; gives = h.gives; decided = h.decided; carries = λ c. (ap refused_as (h.carries c).0, (h.carries c).1); says = tt })
+    operates_told (Err (Failed trouble)) result is h = subst Responded (sym is) (record { given = h.given; gives = h.gives; decided = h.decided; carries = λ c. tt; says = tt })
 
 -- ---- a step that takes its body whole
 

@@ -1,8 +1,6 @@
 -- From the words of a connection to those of a host's storage.
 use Rattle.std.proofs.Common.{◌≡◌, ℕ, ◌≤◌, true, length, Option, Result, Ok, Err, refl, sym, ap, ◌∙◌, subst, OnOk, IfOk}
 use Rattle.sqlite.specs.State.{State}
-use Rattle.sqlite_trees.specs.declared.store.Store.{Ghosts}
-use Rattle.bh_shelf.specs.declared.shelf.Shelf.{Ghosts as Shelves}
 use Rattle.bh_types.specs.Limits.{HostLimits}
 use Rattle.bh_model.proofs.BoundLemmas.{used_stays_bounded}
 use Rattle.bh_model.specs.Runs.{purged_tenant}
@@ -23,13 +21,12 @@ use Rattle.bh_storage.specs.declared.report.SweepReport.{SweepReport}
 use Rattle.bh_storage.specs.Calls as calls
 use Rattle.bh_cache.specs.Kept.{KeptBlocks, Agrees}
 use Rattle.bh_base.specs.Layer.{IsStateClean}
-use Rattle.bh_schema.specs.Storage.{seen_in, beside, IsIntact, IsOpen, seen, left, Keeps}
+use Rattle.bh_schema.specs.Storage.{seen_in, beside}
 use Rattle.bh_schema.specs.Working.{tables_at, IsWorking, StillWorking, StillWorkingBy}
 use Rattle.bh_cache.proofs.Agreeing.{agrees_grown}
 use Rattle.bh_schema.proofs.Storing.{AreBoth, both, inside_of, shows_in, holds_seen, same_limits, beside_agreed, works_agreed, plain, under}
 use Rattle.bh_operation.specs.declared.operation.Operation.{Operation}
 use Rattle.bh_dispatch.specs.Stored.{StoresBody}
-use Rattle.bh_dispatch.specs.declared.storage.HostStorage.{HostStorage}
 
 module _ (digest : Octets → Octets) (l : HostLimits) (s : State) where
   abbrev pub IsAtWork : Type 0
@@ -103,11 +100,6 @@ opened I A B (Err (Refused r)) h = λ up intact. h intact up
 opened I A B (Err (Failed trouble)) h = tt
 
 -- ---- a host's call
-
--- as its storage's
-pub stored : {S P D : Type 0} (g : Ghosts S) (k : Shelves P) (old new : HostStorage S P D) → Keeps g k old.host new.host
-    → calls.Within (λ (h : HostStorage S P D). IsIntact g k h.host) (λ (h : HostStorage S P D). IsOpen g k h.host) (λ (h : HostStorage S P D). seen g k h.host) (λ (h : HostStorage S P D). left g k h.host) old new
-stored g k old new h = record { intact = h.intact; opened = h.opened; survives = h.survives; kept = h.kept; limits = h.limits }
 
 -- what is left without the stale uploads shows the purged state
 pub purges : (old new : Tables) (t : Octets) (at : ℕ) → IsSound old → new ≡ rows_purged t at old → calls.Purges t at old new

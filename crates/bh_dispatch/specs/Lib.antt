@@ -3,3 +3,4 @@ pub mod Operating
 pub mod Seeing
 pub mod Stored
 pub mod Changing
+pub mod Responses

@@ -1,6 +1,5 @@
 -- What an operation stores of its request's bytes.
-use Rattle.std.specs.Fn.{Once, FnOnceReturns}
-use Rattle.std.specs.Prelude.{◌≡◌, ℕ, Result}
+use Rattle.std.specs.Prelude.{ℕ, Result}
 use Rattle.sqlite_trees.specs.declared.store.Store.{Ghosts}
 use Rattle.bh_shelf.specs.declared.shelf.Shelf.{Ghosts as Shelves}
 use Rattle.bh_base.specs.declared.connection.Connection.{Connection}
@@ -10,16 +9,9 @@ use Rattle.bh_operation.specs.declared.operation.Operation.{Operation}
 use Rattle.bh_operation.specs.declared.operation.Operation.TheVariants.{Store}
 use Rattle.bh_tables.specs.Typed.{Tables}
 use Rattle.bh_view.specs.Bodies.{StoresPieces}
-use Rattle.bh_types.specs.Rejections.{plain}
-use Rattle.bh_types.specs.declared.refusal.Refusal.{Refusal}
-use Rattle.bh_types.specs.declared.rejection.Rejection.{Rejection}
 use Rattle.bh_base.specs.Connections.{IsClean, tables}
 use Rattle.bh_storage.specs.Calls.{IfDone}
-use Rattle.bh_host.specs.declared.offer.Answer.{Answer}
-use Rattle.bh_host.specs.declared.offer.Offer.{Offer}
-use Rattle.bh_host.specs.declared.offer.Offer.TheVariants.{Whole}
 use Rattle.bh_storage.specs.declared.error.Outcome.{Outcome}
-use Rattle.bh_storage.specs.declared.error.Outcome.TheVariants.{Done, Spoilt}
 use Rattle.bh_storage.specs.declared.error.StepError.{StepError}
 
 -- an object and a part are cut into blocks of a size
@@ -33,17 +25,3 @@ pub record CutsBody {S P X E : Type 0} (g : Ghosts S) (k : Shelves P) (digest : 
   pub given : Octets
   pub gives : Gives before after given
   pub cut : IfDone result (IsClean g k new → StoresBody digest size given operation (tables g k old) (tables g k new))
-
--- the result of a call is converted so
-abbrev pub Makes : {X F : Type 0} → Once F (X × Unit {0}) Answer → F → (X → Answer) → Type 0
-Makes {X} g call made = (x : X) (answer : Answer) → FnOnceReturns g call (x, tt) answer → answer ≡ made x
-
--- the result of a step, as an answer
-abbrev pub outcome_as : {X : Type 0} → (X → Answer) → Outcome X Refusal → Outcome Answer Rejection
-outcome_as shown (Done x) = Done (shown x)
-outcome_as shown (Spoilt r) = Spoilt (plain r)
-
--- an answer that is complete
-abbrev pub offer_as : Outcome Answer Rejection → Outcome Offer Rejection
-offer_as (Done answer) = Done (Whole answer)
-offer_as (Spoilt r) = Spoilt r

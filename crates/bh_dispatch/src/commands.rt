@@ -6,8 +6,8 @@ ghost use Rattle.bh_schema.specs.Working.{Works};
 ghost use Rattle.bh_dispatch.specs.Operating.{CarriesOut};
 
 use bh_base::connection::Connection;
-use bh_shelf::shelf::Shelf;
 use bh_host::offer::CommandAnswer;
+use bh_shelf::shelf::Shelf;
 use bh_storage::error::StepError;
 use bh_types::moment::Moment;
 use bh_types::names::TenantName;

@@ -5,24 +5,25 @@ ghost use Rattle.bh_http.specs.Bodies.{Gives};
 ghost use Rattle.bh_machine.specs.Machine.{document_operated};
 ghost use Rattle.bh_model.specs.State.{Octets};
 ghost use Rattle.bh_view.specs.View.{latest_of};
-ghost use Rattle.bh_host.specs.Offers.{answer_view};
+ghost use Rattle.bh_http.specs.Answers.{response_view};
+ghost use Rattle.bh_host.specs.Offers.{responded};
 ghost use Rattle.bh_base.specs.Connections.{IsClean, tables};
 ghost use Rattle.bh_schema.specs.Working.{Works};
 ghost use Rattle.bh_dispatch.specs.Documents.{TakenAs};
 ghost use Rattle.bh_dispatch.specs.Operating.{CarriesOut, OperatesOn};
 
-use crate::answers::told;
+use crate::answers::{told, told_with_details};
 use crate::asked::Asked;
 use crate::uploads::complete_upload;
 use bh_base::connection::Connection;
 use bh_docs::read::DOCUMENT_END;
 use bh_docs::{read_lifecycle, read_retention, read_versioning};
 use bh_http::body::{Body, collect};
+use bh_http::response::Response;
 use bh_objects::bodies::refused_whole;
 use bh_objects::{buckets, retention};
 use bh_operation::operation::DocumentOperation;
 use bh_shelf::shelf::Shelf;
-use bh_host::offer::Answer;
 use bh_storage::error::{Outcome, StepError, Trouble};
 use bh_types::refusal::Refusal;
 use bh_types::rejection::Rejection;
@@ -53,26 +54,27 @@ fn carry_out_document<S: Alter, P: Shelf>(
     asked: &Asked<'_>,
     operation: &DocumentOperation,
     document: &[u8],
-) -> Result<Answer, StepError<Rejection>>
+) -> Result<Response, StepError<Rejection>>
     requires working { Works S.Store P.Shelf connection.old }
     requires early { IsClean S.Store P.Shelf connection.old → asked.now.at ≤ latest_of (tables S.Store P.Shelf connection.old) }
-    ensures { CarriesOut S.Store P.Shelf answer_view asked.now.tenant.now
-        (document_operated asked.now.limits asked.now.at document.now operation.now) connection.old connection.new result }
+    ensures { CarriesOut S.Store P.Shelf response_view asked.now.tenant.now
+        (λ s. responded (document_operated asked.now.limits asked.now.at document.now operation.now s))
+        connection.old connection.new result }
 {
     let tenant = asked.tenant;
     match operation {
         DocumentOperation::PutBucketVersioning(bucket) => {
             let state = read_versioning(alloc, document)?;
             told(
+                alloc,
                 buckets::set_versioning(connection, tenant, bucket, state),
-                |()| Answer::Done,
             )
         }
         DocumentOperation::PutLifecycle(bucket) => {
             let days = read_lifecycle(alloc, document)?;
             told(
+                alloc,
                 lifecycle::set_lifecycle(connection, tenant, bucket, days),
-                |()| Answer::Done,
             )
         }
         DocumentOperation::CompleteMultipartUpload { object, upload } => {
@@ -81,9 +83,10 @@ fn carry_out_document<S: Alter, P: Shelf>(
         DocumentOperation::PutRetention { object, version } => {
             let until = read_retention(alloc, document)?;
             let (bucket, key) = (&object.bucket, &object.key);
-            retention::set_retention(
+            let set = retention::set_retention(
                 connection, tenant, asked.at, bucket, key, *version, until,
-            ).map(|()| Answer::Done)
+            );
+            told_with_details(alloc, set)
         }
     }
 }
@@ -96,15 +99,15 @@ pub fn operate_document<S: Alter, P: Shelf, B: Body>(
     asked: &Asked<'_>,
     operation: &DocumentOperation,
     body: &mut B,
-) -> Result<Outcome<Answer, Rejection>, StepError<Rejection>>
+) -> Result<Outcome<Response, Rejection>, StepError<Rejection>>
     requires working { Works S.Store P.Shelf connection.old }
     requires early { IsClean S.Store P.Shelf connection.old → asked.now.at ≤ latest_of (tables S.Store P.Shelf connection.old) }
     requires going { (B.coming body.old).broken ≡ None }
-    ensures { OperatesOn S.Store P.Shelf answer_view asked.now.tenant.now
-        (λ document. document_operated asked.now.limits asked.now.at document operation.now)
+    ensures { OperatesOn S.Store P.Shelf response_view asked.now.tenant.now
+        (λ document s. responded (document_operated asked.now.limits asked.now.at document operation.now s))
         (B.coming body.old) (B.coming body.new) connection.old connection.new result }
 {
     let document = take_document(alloc, body)?;
-    let answer = carry_out_document(connection, alloc, asked, operation, &document)?;
-    Ok(Outcome::Done(answer))
+    let response = carry_out_document(connection, alloc, asked, operation, &document)?;
+    Ok(Outcome::Done(response))
 }

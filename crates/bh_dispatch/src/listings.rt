@@ -4,20 +4,21 @@ ghost use Rattle.std.specs.Prelude.{◌≡◌, option_map};
 ghost use Rattle.bh_listing.specs.Told.{asked_view};
 ghost use Rattle.bh_machine.specs.Machine.{listing_operated, page_asked, place_asked, upload_asked};
 ghost use Rattle.bh_pages.specs.Seen.{token_of};
-ghost use Rattle.bh_host.specs.Offers.{answer_view};
+ghost use Rattle.bh_http.specs.Answers.{response_view};
+ghost use Rattle.bh_host.specs.Offers.{responded};
 ghost use Rattle.bh_schema.specs.Working.{Works};
 ghost use Rattle.bh_dispatch.specs.Operating.{CarriesOut};
 
 use crate::answers::told;
 use crate::operations::bytes_of;
 use bh_base::connection::Connection;
+use bh_http::response::Response;
 use bh_listing::objects::list_objects;
 use bh_listing::versions::list_versions;
 use bh_operation::operation::ListingOperation;
 use bh_operation::page::{Page, UploadMarker, VersionMarker};
 use bh_pages::gathering::PageAsked;
 use bh_shelf::shelf::Shelf;
-use bh_host::offer::Answer;
 use bh_storage::error::StepError;
 use bh_types::id::UploadId;
 use bh_types::names::TenantName;
@@ -66,9 +67,10 @@ pub fn operate_listing<S: Alter, P: Shelf>(
     alloc: Global,
     tenant: &TenantName,
     operation: &ListingOperation,
-) -> Result<Answer, StepError<Rejection>>
+) -> Result<Response, StepError<Rejection>>
     requires { Works S.Store P.Shelf connection.old }
-    ensures { CarriesOut S.Store P.Shelf answer_view tenant.now (listing_operated operation.now) connection.old connection.new result }
+    ensures { CarriesOut S.Store P.Shelf response_view tenant.now (λ s. responded (listing_operated operation.now s))
+        connection.old connection.new result }
 {
     match operation {
         ListingOperation::ListObjectsV2 {
@@ -78,8 +80,8 @@ pub fn operate_listing<S: Alter, P: Shelf>(
         } => {
             let page = page_of(page, bytes_of(token));
             told(
+                alloc,
                 list_objects(connection, alloc, tenant, bucket, &page),
-                Answer::Objects,
             )
         }
         ListingOperation::ListObjectVersions {
@@ -89,10 +91,8 @@ pub fn operate_listing<S: Alter, P: Shelf>(
         } => {
             let (key, version) = version_after(after);
             let page = page_of(page, key);
-            told(
-                list_versions(connection, alloc, tenant, bucket, &page, version),
-                Answer::Versions,
-            )
+            let listed = list_versions(connection, alloc, tenant, bucket, &page, version);
+            told(alloc, listed)
         }
         ListingOperation::ListMultipartUploads {
             bucket,
@@ -101,10 +101,8 @@ pub fn operate_listing<S: Alter, P: Shelf>(
         } => {
             let (key, upload) = upload_after(after);
             let page = page_of(page, key);
-            told(
-                list_uploads(connection, alloc, tenant, bucket, &page, upload),
-                Answer::Uploads,
-            )
+            let listed = list_uploads(connection, alloc, tenant, bucket, &page, upload);
+            told(alloc, listed)
         }
     }
 }

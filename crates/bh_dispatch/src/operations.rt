@@ -5,7 +5,8 @@ ghost use Rattle.bh_machine.specs.Machine.{operated, bare_operated, service_oper
 ghost use Rattle.bh_model.specs.Operations as machine;
 ghost use Rattle.bh_view.specs.Bodies.{StoresPieces};
 ghost use Rattle.bh_view.specs.View.{latest_of};
-ghost use Rattle.bh_host.specs.Offers.{answer_view, offer_view};
+ghost use Rattle.bh_http.specs.Answers.{response_view};
+ghost use Rattle.bh_host.specs.Offers.{offer_view, responded};
 ghost use Rattle.bh_storage.specs.Plans.{IsMeasured};
 ghost use Rattle.bh_host.specs.Offers.{IfPlanned};
 ghost use Rattle.bh_storage.specs.Calls.{UnlessSpoilt};
@@ -15,14 +16,16 @@ ghost use Rattle.bh_schema.specs.Working.{Works};
 ghost use Rattle.bh_dispatch.specs.Operating.{CarriesOut, HasBlocks, OperatesOn, OperatesOnBy};
 ghost use Rattle.bh_dispatch.specs.Stored.{StoresBody};
 
-use crate::answers::{offered, received, told};
+use crate::answers::{offered, received, told, told_with_details};
 use crate::asked::Asked;
 use crate::documents::operate_document;
 use crate::lifecycle::operate_lifecycle;
 use crate::listings::operate_listing;
 use crate::uploads::operate_upload;
 use bh_base::connection::Connection;
+use bh_host::offer::Offer;
 use bh_http::body::{Body, drain};
+use bh_http::response::Response;
 use bh_objects::bodies::Blocks;
 use bh_objects::copies::NewCopy;
 use bh_objects::writes::NewObject;
@@ -35,7 +38,6 @@ use bh_operation::operation::{
 use bh_operation::text::Bytes;
 use bh_schema::host::Digester;
 use bh_shelf::shelf::Shelf;
-use bh_host::offer::{Answer, Offer};
 use bh_storage::error::{Outcome, StepError, Trouble};
 use bh_types::limits::Limits;
 use bh_types::moment::Moment;
@@ -65,71 +67,62 @@ fn operate_service<S: Alter, P: Shelf>(
     alloc: Global,
     tenant: &TenantName,
     operation: &ServiceOperation,
-) -> Result<Answer, StepError<Rejection>>
+) -> Result<Response, StepError<Rejection>>
     requires { Works S.Store P.Shelf connection.old }
-    ensures { CarriesOut S.Store P.Shelf answer_view tenant.now (service_operated operation.now) connection.old connection.new result }
+    ensures { CarriesOut S.Store P.Shelf response_view tenant.now (λ s. responded (service_operated operation.now s))
+        connection.old connection.new result }
 {
     match operation {
         ServiceOperation::ListBuckets => {
-            told(
-                buckets::list_buckets(connection, alloc, tenant),
-                Answer::Buckets,
-            )
+            told(alloc, buckets::list_buckets(connection, alloc, tenant))
         }
-        ServiceOperation::Usage => told(usage(connection, tenant), Answer::Used),
+        ServiceOperation::Usage => told(alloc, usage(connection, tenant)),
     }
 }
 
 /// Carries out an operation on a bucket itself.
 fn operate_bucket<S: Alter, P: Shelf>(
     connection: &mut Connection<S, P>,
+    alloc: Global,
     asked: &Asked<'_>,
     operation: &BucketOperation,
-) -> Result<Answer, StepError<Rejection>>
+) -> Result<Response, StepError<Rejection>>
     requires working { Works S.Store P.Shelf connection.old }
     requires early { IsClean S.Store P.Shelf connection.old → asked.now.at ≤ latest_of (tables S.Store P.Shelf connection.old) }
-    ensures { CarriesOut S.Store P.Shelf answer_view asked.now.tenant.now (bucket_operated asked.now.at operation.now)
+    ensures { CarriesOut S.Store P.Shelf response_view asked.now.tenant.now (λ s. responded (bucket_operated asked.now.at operation.now s))
         connection.old connection.new result }
 {
     let tenant = asked.tenant;
     match operation {
         BucketOperation::CreateBucket { bucket, locked } => {
             let created = buckets::create_bucket(connection, tenant, asked.at, bucket, *locked);
-            told(created, |()| Answer::Done)
+            told(alloc, created)
         }
         BucketOperation::HeadBucket(bucket) => {
-            told(
-                buckets::head_bucket(connection, tenant, bucket),
-                |()| Answer::Done,
-            )
+            told(alloc, buckets::head_bucket(connection, tenant, bucket))
         }
         BucketOperation::DeleteBucket(bucket) => {
-            told(
-                buckets::delete_bucket(connection, tenant, bucket),
-                Answer::Removed,
-            )
+            told(alloc, buckets::delete_bucket(connection, tenant, bucket))
         }
         BucketOperation::GetBucketVersioning(bucket) => {
-            told(
-                buckets::versioning(connection, tenant, bucket),
-                Answer::Versioning,
-            )
+            told(alloc, buckets::versioning(connection, tenant, bucket))
         }
     }
 }
 
 fn copy_object<S: Alter, P: Shelf>(
     connection: &mut Connection<S, P>,
+    alloc: Global,
     asked: &Asked<'_>,
     object: &ObjectName,
     source: &CopySource,
     date: Option<Option<Moment>>,
-) -> Result<Answer, StepError<Rejection>>
+) -> Result<Response, StepError<Rejection>>
     requires working { Works S.Store P.Shelf connection.old }
     requires early { IsClean S.Store P.Shelf connection.old → asked.now.at ≤ latest_of (tables S.Store P.Shelf connection.old) }
-    ensures { CarriesOut S.Store P.Shelf answer_view asked.now.tenant.now
-        (λ s. plainly (machine.copy_object asked.now.at object.now.bucket object.now.key
-        source.now.object.bucket source.now.object.key source.now.version date s))
+    ensures { CarriesOut S.Store P.Shelf response_view asked.now.tenant.now
+        (λ s. responded (plainly (machine.copy_object asked.now.at object.now.bucket object.now.key
+        source.now.object.bucket source.now.object.key source.now.version date s)))
         connection.old connection.new result }
 {
     let copy = NewCopy {
@@ -142,18 +135,19 @@ fn copy_object<S: Alter, P: Shelf>(
         version: source.version,
         date,
     };
-    told(copies::copy_object(connection, &copy), Answer::Copied)
+    told(alloc, copies::copy_object(connection, &copy))
 }
 
 /// Carries out an operation on an object, without its bytes.
 fn operate_object<S: Alter, P: Shelf>(
     connection: &mut Connection<S, P>,
+    alloc: Global,
     asked: &Asked<'_>,
     operation: &ObjectOperation,
-) -> Result<Answer, StepError<Rejection>>
+) -> Result<Response, StepError<Rejection>>
     requires working { Works S.Store P.Shelf connection.old }
     requires early { IsClean S.Store P.Shelf connection.old → asked.now.at ≤ latest_of (tables S.Store P.Shelf connection.old) }
-    ensures { CarriesOut S.Store P.Shelf answer_view asked.now.tenant.now (object_operated asked.now.at operation.now)
+    ensures { CarriesOut S.Store P.Shelf response_view asked.now.tenant.now (λ s. responded (object_operated asked.now.at operation.now s))
         connection.old connection.new result }
 {
     let tenant = asked.tenant;
@@ -162,21 +156,23 @@ fn operate_object<S: Alter, P: Shelf>(
             object,
             source,
             date,
-        } => { copy_object(connection, asked, object, source, *date) }
+        } => { copy_object(connection, alloc, asked, object, source, *date) }
         ObjectOperation::HeadObject { object, version } => {
             let (bucket, key) = (&object.bucket, &object.key);
-            heads::head_object(connection, tenant, bucket, key, *version).map(Answer::Head)
+            let head = heads::head_object(connection, tenant, bucket, key, *version);
+            told_with_details(alloc, head)
         }
         ObjectOperation::DeleteObject { object, version } => {
             let (bucket, key) = (&object.bucket, &object.key);
             let removed = deletes::delete_object(
                 connection, tenant, asked.at, bucket, key, *version,
             );
-            told(removed, Answer::Removed)
+            told(alloc, removed)
         }
         ObjectOperation::GetRetention { object, version } => {
             let (bucket, key) = (&object.bucket, &object.key);
-            retention::retention(connection, tenant, bucket, key, *version).map(Answer::Retention)
+            let date = retention::retention(connection, tenant, bucket, key, *version);
+            told_with_details(alloc, date)
         }
     }
 }
@@ -187,25 +183,25 @@ fn carry_out<S: Alter, P: Shelf>(
     alloc: Global,
     asked: &Asked<'_>,
     operation: &BareOperation,
-) -> Result<Answer, StepError<Rejection>>
+) -> Result<Response, StepError<Rejection>>
     requires working { Works S.Store P.Shelf connection.old }
     requires early { IsClean S.Store P.Shelf connection.old → asked.now.at ≤ latest_of (tables S.Store P.Shelf connection.old) }
-    ensures { CarriesOut S.Store P.Shelf answer_view asked.now.tenant.now (bare_operated asked.now.at operation.now)
+    ensures { CarriesOut S.Store P.Shelf response_view asked.now.tenant.now (λ s. responded (bare_operated asked.now.at operation.now s))
         connection.old connection.new result }
 {
     match operation {
         BareOperation::Service(operation) => {
             operate_service(connection, alloc, asked.tenant, operation)
         }
-        BareOperation::Bucket(operation) => operate_bucket(connection, asked, operation),
+        BareOperation::Bucket(operation) => operate_bucket(connection, alloc, asked, operation),
         BareOperation::Listing(operation) => {
             operate_listing(connection, alloc, asked.tenant, operation)
         }
         BareOperation::Lifecycle(operation) => {
-            operate_lifecycle(connection, asked.tenant, operation)
+            operate_lifecycle(connection, alloc, asked.tenant, operation)
         }
         BareOperation::Upload(operation) => operate_upload(connection, alloc, asked, operation),
-        BareOperation::Object(operation) => operate_object(connection, asked, operation),
+        BareOperation::Object(operation) => operate_object(connection, alloc, asked, operation),
     }
 }
 
@@ -217,17 +213,17 @@ fn operate_bare<S: Alter, P: Shelf, B: Body>(
     asked: &Asked<'_>,
     operation: &BareOperation,
     body: &mut B,
-) -> Result<Outcome<Answer, Rejection>, StepError<Rejection>>
+) -> Result<Outcome<Response, Rejection>, StepError<Rejection>>
     requires working { Works S.Store P.Shelf connection.old }
     requires early { IsClean S.Store P.Shelf connection.old → asked.now.at ≤ latest_of (tables S.Store P.Shelf connection.old) }
     requires going { (B.coming body.old).broken ≡ None }
-    ensures { OperatesOn S.Store P.Shelf answer_view asked.now.tenant.now (λ _. bare_operated asked.now.at operation.now)
+    ensures { OperatesOn S.Store P.Shelf response_view asked.now.tenant.now (λ _ s. responded (bare_operated asked.now.at operation.now s))
         (B.coming body.old) (B.coming body.new) connection.old connection.new result }
 {
     match drain(body) {
         Ok(()) => {
-            let answer = carry_out(connection, alloc, asked, operation)?;
-            Ok(Outcome::Done(answer))
+            let response = carry_out(connection, alloc, asked, operation)?;
+            Ok(Outcome::Done(response))
         }
         Err(cause) => Err(StepError::Failed(Trouble::from(cause))),
     }
@@ -245,7 +241,7 @@ fn get_object<S: Alter, P: Shelf, B: Body>(
     requires working { Works S.Store P.Shelf connection.old }
     requires going { (B.coming body.old).broken ≡ None }
     ensures found { OperatesOn S.Store P.Shelf (offer_view (tables S.Store P.Shelf connection.new)) tenant.now
-        (λ _. machine.get_object object.now.bucket object.now.key version (option_copied range.entry))
+        (λ _ s. responded (machine.get_object object.now.bucket object.now.key version (option_copied range.entry) s))
         (B.coming body.old) (B.coming body.new) connection.old connection.new result }
     ensures measured { IfPlanned result (λ found. IsClean S.Store P.Shelf connection.new
         → IsMeasured (tables S.Store P.Shelf connection.new) found) }
@@ -268,13 +264,13 @@ fn operate_store<S: Alter, P: Shelf, D: Digester, B: Body>(
     asked: &Asked<'_>,
     operation: &StoreOperation,
     body: &mut B,
-) -> Result<Outcome<Answer, Rejection>, StepError<Rejection>>
+) -> Result<Outcome<Response, Rejection>, StepError<Rejection>>
     requires working { Works S.Store P.Shelf connection.old }
     requires blocks { HasBlocks S.Store P.Shelf D.digest_of blocks.now.cache.now blocks.now.size connection.old }
     requires early { IsClean S.Store P.Shelf connection.old → asked.now.at ≤ latest_of (tables S.Store P.Shelf connection.old) }
     requires going { (B.coming body.old).broken ≡ None }
-    ensures operated { OperatesOnBy S.Store P.Shelf D.digest_of answer_view asked.now.tenant.now
-        (λ bytes. store_operated asked.now.at bytes operation.now)
+    ensures operated { OperatesOnBy S.Store P.Shelf D.digest_of response_view asked.now.tenant.now
+        (λ bytes s. responded (store_operated asked.now.at bytes operation.now s))
         (λ bytes. StoresPieces D.digest_of blocks.now.size bytes (tables S.Store P.Shelf connection.old)
         (tables S.Store P.Shelf connection.new))
         (B.coming body.old) (B.coming body.new) connection.old connection.new result }
@@ -296,7 +292,7 @@ fn operate_store<S: Alter, P: Shelf, D: Digester, B: Body>(
             };
             let given = bytes_of(checksum);
             let stored = objects::put_object(connection, alloc, blocks, &object, given, body);
-            received(stored, Answer::Stored)
+            received(alloc, stored)
         }
         StoreOperation::UploadPart {
             object,
@@ -316,7 +312,7 @@ fn operate_store<S: Alter, P: Shelf, D: Digester, B: Body>(
             };
             let given = bytes_of(checksum);
             let stored = parts::put_part(connection, alloc, blocks, &part, given, body);
-            received(stored, Answer::PartStored)
+            received(alloc, stored)
         }
     }
 }
@@ -340,7 +336,7 @@ pub fn operate<S: Alter, P: Shelf, D: Digester, B: Body>(
     requires early { IsClean S.Store P.Shelf connection.old → at ≤ latest_of (tables S.Store P.Shelf connection.old) }
     requires going { (B.coming body.old).broken ≡ None }
     ensures operated { OperatesOnBy S.Store P.Shelf D.digest_of (offer_view (tables S.Store P.Shelf connection.new)) tenant.now
-        (λ bytes. operated limits at bytes operation.now)
+        (λ bytes s. responded (operated limits at bytes operation.now s))
         (λ bytes. StoresBody D.digest_of blocks.now.size bytes operation.now
         (tables S.Store P.Shelf connection.old) (tables S.Store P.Shelf connection.new))
         (B.coming body.old) (B.coming body.new) connection.old connection.new result }

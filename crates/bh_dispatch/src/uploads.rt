@@ -1,11 +1,12 @@
-//! The operations on multipart uploads, as answers of a host's storage.
+//! The operations on multipart uploads, as responses of a host's storage.
 ghost use Rattle.std.specs.Prelude.{◌≤◌};
 ghost use Rattle.bh_types.specs.Rejections.{plainly};
 ghost use Rattle.bh_machine.specs.Machine.{finish_upload, upload_operated};
 ghost use Rattle.bh_model.specs.Listings as listings;
 ghost use Rattle.bh_view.specs.View.{latest_of};
 ghost use Rattle.bh_base.specs.Connections.{IsClean, tables};
-ghost use Rattle.bh_host.specs.Offers.{answer_view};
+ghost use Rattle.bh_http.specs.Answers.{response_view};
+ghost use Rattle.bh_host.specs.Offers.{responded};
 ghost use Rattle.bh_schema.specs.Working.{Works};
 ghost use Rattle.bh_dispatch.specs.Operating.{CarriesOut};
 
@@ -13,11 +14,11 @@ use crate::answers::told;
 use crate::asked::Asked;
 use bh_base::connection::Connection;
 use bh_docs::read_complete;
+use bh_http::response::Response;
 use bh_operation::address::ObjectName;
 use bh_operation::operation::UploadOperation;
 use bh_operation::page::PartPage;
 use bh_shelf::shelf::Shelf;
-use bh_host::offer::Answer;
 use bh_storage::error::StepError;
 use bh_types::id::UploadId;
 use bh_types::names::TenantName;
@@ -37,11 +38,12 @@ pub fn complete_upload<'a, S: Alter, P: Shelf>(
     object: &'a ObjectName,
     upload: Option<UploadId>,
     document: &[u8],
-) -> Result<Answer, StepError<Rejection>>
+) -> Result<Response, StepError<Rejection>>
     requires working { Works S.Store P.Shelf connection.old }
     requires early { IsClean S.Store P.Shelf connection.old → asked.now.at ≤ latest_of (tables S.Store P.Shelf connection.old) }
-    ensures { CarriesOut S.Store P.Shelf answer_view asked.now.tenant.now
-        (λ s. plainly (finish_upload asked.now.limits asked.now.at object.now.bucket object.now.key upload document.now s))
+    ensures { CarriesOut S.Store P.Shelf response_view asked.now.tenant.now
+        (λ s. responded (plainly
+        (finish_upload asked.now.limits asked.now.at object.now.bucket object.now.key upload document.now s)))
         connection.old connection.new result }
 {
     let named = read_complete(alloc, document)?;
@@ -52,17 +54,15 @@ pub fn complete_upload<'a, S: Alter, P: Shelf>(
         key: &object.key,
         upload,
     };
-    told(
-        complete::complete_upload(
-            connection,
-            alloc,
-            &upload,
-            asked.at,
-            &named,
-            limits.min_part,
-        ),
-        Answer::Completed,
-    )
+    let completed = complete::complete_upload(
+        connection,
+        alloc,
+        &upload,
+        asked.at,
+        &named,
+        limits.min_part,
+    );
+    told(alloc, completed)
 }
 
 fn list_parts<S: Alter, P: Shelf>(
@@ -72,10 +72,10 @@ fn list_parts<S: Alter, P: Shelf>(
     object: &ObjectName,
     upload: Option<UploadId>,
     page: PartPage,
-) -> Result<Answer, StepError<Rejection>>
+) -> Result<Response, StepError<Rejection>>
     requires { Works S.Store P.Shelf connection.old }
-    ensures { CarriesOut S.Store P.Shelf answer_view tenant.now
-        (λ s. plainly (listings.list_parts object.now.bucket object.now.key upload page.size page.after s))
+    ensures { CarriesOut S.Store P.Shelf response_view tenant.now
+        (λ s. responded (plainly (listings.list_parts object.now.bucket object.now.key upload page.size page.after s)))
         connection.old connection.new result }
 {
     let upload = NamedUpload {
@@ -88,10 +88,7 @@ fn list_parts<S: Alter, P: Shelf>(
         max: page.size,
         after: page.after,
     };
-    told(
-        parts::list_parts(connection, alloc, &upload, asked),
-        Answer::Parts,
-    )
+    told(alloc, parts::list_parts(connection, alloc, &upload, asked))
 }
 
 /// Carries out an operation on a multipart upload, without a document or a part's bytes.
@@ -100,10 +97,10 @@ pub fn operate_upload<S: Alter, P: Shelf>(
     alloc: Global,
     asked: &Asked<'_>,
     operation: &UploadOperation,
-) -> Result<Answer, StepError<Rejection>>
+) -> Result<Response, StepError<Rejection>>
     requires working { Works S.Store P.Shelf connection.old }
     requires early { IsClean S.Store P.Shelf connection.old → asked.now.at ≤ latest_of (tables S.Store P.Shelf connection.old) }
-    ensures { CarriesOut S.Store P.Shelf answer_view asked.now.tenant.now (upload_operated asked.now.at operation.now)
+    ensures { CarriesOut S.Store P.Shelf response_view asked.now.tenant.now (λ s. responded (upload_operated asked.now.at operation.now s))
         connection.old connection.new result }
 {
     let tenant = asked.tenant;
@@ -115,10 +112,7 @@ pub fn operate_upload<S: Alter, P: Shelf>(
                 key: &object.key,
                 at: asked.at,
             };
-            told(
-                begin::begin_upload(connection, alloc, &upload),
-                Answer::Begun,
-            )
+            told(alloc, begin::begin_upload(connection, alloc, &upload))
         }
         UploadOperation::ListParts {
             object,
@@ -132,10 +126,7 @@ pub fn operate_upload<S: Alter, P: Shelf>(
                 key: &object.key,
                 upload: *upload,
             };
-            told(
-                abort::abort_upload(connection, alloc, &upload),
-                Answer::Removed,
-            )
+            told(alloc, abort::abort_upload(connection, alloc, &upload))
         }
     }
 }

@@ -1,10 +1,13 @@
 -- Events of a host, as contracts see them.
-use Rattle.std.specs.Prelude.{ℕ, Bool, List}
+use Rattle.std.specs.Prelude.{ℕ, Bool, List, Option, Some, None}
 use Rattle.std.specs.String.{string_bytes}
-use Rattle.bh_event.specs.declared.event.Command.{Command}
+use Rattle.bh_event.specs.declared.event.Command as command
 use Rattle.bh_event.specs.declared.event.Command.TheVariants.{TenantAdd, Quota, TenantRemove, KeyAdd, KeyRemove, Usage, Keys}
 use Rattle.bh_event.specs.declared.event.Event.{Event}
-use Rattle.bh_event.specs.declared.event.Event.TheVariants as event
+use Rattle.bh_event.specs.declared.event.Message as asked
+use Rattle.bh_event.specs.declared.event.Message.TheVariants as event
+use Rattle.bh_event.specs.declared.order.HostOrder.{HostOrder}
+use Rattle.bh_event.specs.declared.order.HostOrder.TheVariants.{Command, Sweep, Report, Tenants}
 
 -- an operator's order; names and secrets are bytes
 pub data Order : Type 0 where
@@ -40,7 +43,7 @@ pub record Arrival : Type 0 where
   pub reading : ℕ
   pub message : Message
 
-abbrev pub order_of : Command → Order
+abbrev pub order_of : command.Command → Order
 order_of (TenantAdd tenant quota) = AddTenant (string_bytes tenant) quota
 order_of (Quota tenant quota) = SetQuota (string_bytes tenant) quota
 order_of (TenantRemove tenant with_objects) = RemoveTenant (string_bytes tenant) with_objects
@@ -49,9 +52,21 @@ order_of (KeyRemove tenant name) = RemoveKey (string_bytes tenant) (string_bytes
 order_of (Usage tenant) = ShowUsage (string_bytes tenant)
 order_of (Keys tenant) = ShowKeys (string_bytes tenant)
 
+-- what is ordered of a host, as a message
+abbrev pub message_of : HostOrder → Message
+message_of (Command command) = Ordered (order_of command)
+message_of (Sweep limit) = SweepOrdered limit
+message_of Report = ReportOrdered
+message_of Tenants = TenantsOrdered
+
+-- the tenant that a message names as its own: that of an order on a tenant
+abbrev pub tenant_in : Message → Option (List ℕ)
+tenant_in (Ordered order) = Some (tenant_of order)
+tenant_in message = None
+
+abbrev pub message_view : asked.Message → Message
+message_view (event.Request bytes) = Requested bytes.items
+message_view (event.Order order) = message_of order
+
 abbrev pub arrival : Event → Arrival
-arrival (event.Http reading bytes) = record { reading = reading; message = Requested bytes.items }
-arrival (event.Operator reading command) = record { reading = reading; message = Ordered (order_of command) }
-arrival (event.Sweep reading limit) = record { reading = reading; message = SweepOrdered limit }
-arrival (event.Report reading) = record { reading = reading; message = ReportOrdered }
-arrival (event.Tenants reading) = record { reading = reading; message = TenantsOrdered }
+arrival e = record { reading = e.reading; message = message_view e.message }

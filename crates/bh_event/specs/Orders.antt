@@ -1,16 +1,14 @@
 -- An operator's order, by the values of its fields: a line for each.
 use Rattle.std.specs.Prelude.{ℕ, nat_le, List, Option, Some, None, if◌then◌else◌}
 use Rattle.std.specs.String.{string_bytes}
-use Rattle.bh_event.specs.Events.{Order, AddTenant, SetQuota, RemoveTenant, AddKey, RemoveKey, ShowUsage, ShowKeys, order_of}
-use Rattle.bh_event.specs.Events.{Message, Ordered, SweepOrdered, ReportOrdered, TenantsOrdered, Arrival}
+use Rattle.bh_event.specs.Events.{Order, AddTenant, SetQuota, RemoveTenant, AddKey, RemoveKey, ShowUsage, ShowKeys}
+use Rattle.bh_event.specs.Events.{Message, Ordered, SweepOrdered, ReportOrdered, TenantsOrdered, Arrival, message_of}
 use Rattle.bh_event.specs.Given.{Given, ◌>>=◌}
 use Rattle.bh_event.specs.declared.name.Field.TheVariants as field
 use Rattle.bh_event.specs.declared.name.OrderName.{OrderName}
 use Rattle.bh_event.specs.declared.name.OrderName.TheVariants as name
 use Rattle.bh_event.specs.declared.order.Asked.{Asked}
 use Rattle.bh_event.specs.declared.order.Asked.TheVariants.{Health, Metrics, ClockAccept}
-use Rattle.bh_event.specs.declared.order.HostOrder.{HostOrder}
-use Rattle.bh_event.specs.declared.order.HostOrder.TheVariants.{Command, Sweep, Report, Tenants}
 use Rattle.bh_event.specs.declared.order.Order.{Order as OrderRead}
 use Rattle.bh_event.specs.declared.order.Order.TheVariants.{Host, Backup, Stop, Server}
 
@@ -21,12 +19,6 @@ pub data Instruction : Type 0 where
   ToCopy : (to : List ℕ) → Instruction
   ToStop : Instruction
   ToAnswer : (asked : Asked) → Instruction
-
-abbrev pub message_of : HostOrder → Message
-message_of (Command command) = Ordered (order_of command)
-message_of (Sweep limit) = SweepOrdered limit
-message_of Report = ReportOrdered
-message_of Tenants = TenantsOrdered
 
 abbrev pub instruction_of : OrderRead → Instruction
 instruction_of (Host order) = ToDo (message_of order)

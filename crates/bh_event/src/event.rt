@@ -1,5 +1,7 @@
 ghost use Rattle.std.specs.Prelude.{◌≡◌};
-ghost use Rattle.bh_event.specs.Events.{arrival, order_of, tenant_of};
+ghost use Rattle.bh_event.specs.Events.{order_of, tenant_of};
+
+use crate::order::HostOrder;
 
 /// An operator's command. Names, secrets and quotas are unchecked: the host checks their ranges.
 #[derive(Drop)]
@@ -57,32 +59,19 @@ impl Command {
     }
 }
 
-/// An event of a host, with the clock's reading in seconds since 1970.
+/// What a host is asked.
 #[derive(Drop)]
-pub enum Event {
+pub enum Message {
     /// The bytes of an HTTP/1.1 request (RFC 9112).
-    Http { reading: u64, bytes: Vec<u8> },
-    /// An operator's command on a tenant.
-    Operator { reading: u64, command: Command },
-    /// Removes at most `limit` stale uploads and unreferenced blocks, of all tenants.
-    Sweep { reading: u64, limit: u32 },
-    /// An operator's request for the sizes of what all tenants have stored.
-    Report { reading: u64 },
-    /// An operator's request for the list of all tenants.
-    Tenants { reading: u64 },
+    Request(Vec<u8>),
+    /// An operator's order.
+    Order(HostOrder),
 }
 
-impl Event {
+/// An event of a host.
+#[derive(Drop)]
+pub struct Event {
     /// The clock's reading, in seconds since 1970.
-    pub fn reading(&self) -> u64
-        ensures { result ≡ (arrival self.now).reading }
-    {
-        match self {
-            Event::Http { reading, .. } => *reading,
-            Event::Operator { reading, .. } => *reading,
-            Event::Sweep { reading, .. } => *reading,
-            Event::Report { reading } => *reading,
-            Event::Tenants { reading } => *reading,
-        }
-    }
+    pub reading: u64,
+    pub message: Message,
 }

@@ -6,7 +6,7 @@ ghost use Rattle.bh_event.specs.Events.{arrival};
 ghost use Rattle.bh_event.specs.Lines as spec;
 ghost use Rattle.bh_event.specs.Orders.{instruction_of};
 
-use crate::event::Event;
+use crate::event::{Event, Message};
 use crate::given::{Fields, GivenError};
 use crate::name::{Field, OrderName};
 use crate::order::{Order, order_by};
@@ -59,7 +59,8 @@ fn event_in(alloc: Global, document: &Value) -> Result<Option<Event>, AllocError
         return Ok(None);
     };
     if let Some(bytes) = request_in(alloc, document)? {
-        return Ok(Some(Event::Http { reading, bytes }));
+        let message = Message::Request(bytes);
+        return Ok(Some(Event { reading, message }));
     }
     match order_among(alloc, document, 2)? {
         Some(Order::Host(order)) => Ok(Some(order.at(reading))),

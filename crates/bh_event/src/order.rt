@@ -1,11 +1,12 @@
 //! An operator's order, and how it is read from the values of its fields.
 ghost use Rattle.std.specs.Prelude.{◌≡◌};
-ghost use Rattle.bh_event.specs.Events.{arrival, order_of, Ordered};
+ghost use Rattle.std.specs.Option.{option_copied};
+ghost use Rattle.bh_event.specs.Events.{arrival, message_of, order_of, tenant_in, Ordered};
 ghost use Rattle.bh_event.specs.Given.{Gives};
 ghost use Rattle.bh_event.specs.Orders as spec;
 ghost use Rattle.bh_event.specs.declared.name.OrderName.TheVariants as named;
 
-use crate::event::{Command, Event};
+use crate::event::{Command, Event, Message};
 use crate::given::{Fields, GivenError, needed, text};
 use crate::name::{Field, OrderName};
 use std::alloc::Global;
@@ -50,13 +51,21 @@ pub enum Order {
 impl HostOrder {
     /// The order's event at a reading of the clock, in seconds since 1970.
     pub fn at(self, reading: u64) -> Event
-        ensures { arrival result ≡ spec.arrival_at reading (spec.message_of self) }
+        ensures { arrival result ≡ record { reading = reading; message = message_of self } }
+    {
+        Event {
+            reading,
+            message: Message::Order(self),
+        }
+    }
+
+    /// The name of the tenant, if it is a command on one.
+    pub fn tenant(&self) -> Option<&str>
+        ensures { option_copied result ≡ tenant_in (message_of self.now) }
     {
         match self {
-            HostOrder::Command(command) => Event::Operator { reading, command },
-            HostOrder::Sweep { limit } => Event::Sweep { reading, limit },
-            HostOrder::Report => Event::Report { reading },
-            HostOrder::Tenants => Event::Tenants { reading },
+            HostOrder::Command(command) => Some(command.tenant()),
+            HostOrder::Sweep { .. } | HostOrder::Report | HostOrder::Tenants => None,
         }
     }
 }

@@ -1,12 +1,10 @@
 -- An answer, and how it is delivered.
-use Rattle.std.proofs.Common.{◌≡◌, ℕ, Bool, true, false, List, [], ◌++◌, Ok, sym, ap, ◌∙◌, append-nil}
+use Rattle.std.proofs.Common.{◌≡◌, ℕ, Bool, true, false, List, [], ◌++◌, sym, ap, ◌∙◌, append-nil}
 use Rattle.std.specs.Prelude.{codes, if◌then◌else◌}
 use Rattle.std.specs.Str.{bytes_eq}
 use Rattle.bh_http.specs.Responses.{Sent, crlf, fields_text, response_text, status_line}
-use Rattle.bh_http.specs.Views.{Taken}
-use Rattle.bh_machine.specs.Machine.{RequestRead}
-use Rattle.bh_model.specs.Operations.{Answer}
-use Rattle.bh_host.specs.Replies.{response_to, text}
+use Rattle.bh_model.specs.State.{Octets}
+use Rattle.bh_host.specs.Replies.{sent_for}
 use Rattle.bh_storage.specs.Calls.{Seen, Within}
 use Rattle.bh_host.specs.Offers.{IfFound}
 use Rattle.bh_storage.specs.declared.answer.FoundVersion.{FoundVersion}
@@ -34,20 +32,18 @@ bare_head head whole bytes bare is = ap (λ (b : List ℕ). record head { body =
 
 -- a premise comes first
 pub found_when : (offer : Offer) (P : Type 0) (Q : FoundVersion → Type 0) → IfFound offer (λ found. P → Q found) → P → IfFound offer Q
-found_when (Whole answer) P Q h p = tt
+found_when (Whole response) P Q h p = tt
 found_when (Planned found) P Q h p = h p
 
--- ---- the text of an answer whose body follows
+-- ---- the text of a response whose body follows
 
-module _ (request : Taken) (answer : Answer) (bytes : List ℕ) (is : bytes ≡ response_text (record (response_to answer) { body = [] })) where
+module _ (method : Octets) (sent : Sent) (bytes : List ℕ) (is : bytes ≡ response_text (record sent { body = [] })) where
   abbrev sent_as : Bool → List ℕ
-  sent_as head = response_text (record (response_to answer) { body = if head then [] else (response_to answer).body })
+  sent_as head = response_text (record sent { body = if head then [] else sent.body })
 
   -- to a request for the head alone none follows
-  pub alone_text : bytes_eq request.method (codes "HEAD") ≡ true → bytes ≡ text (RequestRead (Ok request)) (Ok answer)
-  unfolding text
+  pub alone_text : bytes_eq method (codes "HEAD") ≡ true → bytes ≡ response_text (sent_for method sent)
   alone_text same = is ∙ ap sent_as (sym same)
 
-  pub followed_text : bytes_eq request.method (codes "HEAD") ≡ false → bytes ++ (response_to answer).body ≡ text (RequestRead (Ok request)) (Ok answer)
-  unfolding text
-  followed_text other = ap (λ l. l ++ (response_to answer).body) is ∙ headed_body (response_to answer) ∙ ap sent_as (sym other)
+  pub followed_text : bytes_eq method (codes "HEAD") ≡ false → bytes ++ sent.body ≡ response_text (sent_for method sent)
+  followed_text other = ap (λ l. l ++ sent.body) is ∙ headed_body sent ∙ ap sent_as (sym other)

@@ -3,6 +3,7 @@ pub mod Resting
 mod Listing
 mod Delivering
 pub mod ToldApart
+pub mod Responding
 mod Turning
 mod Grouping
 mod Asking

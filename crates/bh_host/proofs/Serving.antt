@@ -6,13 +6,14 @@ use Rattle.bh_types.specs.declared.access_key.AccessKeyId.{AccessKeyId}
 use Rattle.bh_types.specs.declared.rejection.Rejection.{Rejection}
 use Rattle.bh_http.specs.Bodies.{Coming, Gives, IsWhole, MayBreak}
 use Rattle.bh_http.specs.Credentials.{key_given}
+use Rattle.bh_http.specs.Responses.{response_text}
 use Rattle.bh_http.specs.Views.{with_body}
 use Rattle.bh_http.specs.declared.request.Head.{Head}
 use Rattle.bh_http.proofs.BodyLemmas.{gives_none, going_may}
 use Rattle.bh_machine.specs.Machine.{RequestRead, requested}
 use Rattle.bh_model.specs.State.{Octets}
-use Rattle.bh_host.specs.Offers.{offer_view}
-use Rattle.bh_storage.specs.Calls.{Seen, Clean, Within, IsWorking, Purges, Carries, Operates}
+use Rattle.bh_host.specs.Offers.{offer_view, responded}
+use Rattle.bh_storage.specs.Calls.{Seen, Clean, Within, IsWorking, Purges, GivesStep, Operates}
 use Rattle.bh_storage.specs.Plans.{IsMeasured}
 use Rattle.bh_host.specs.Offers.{IfFound}
 use Rattle.bh_host.specs.declared.offer.Offer.{Offer}
@@ -25,13 +26,14 @@ use Rattle.bh_tables.specs.Typed.{Tables}
 use Rattle.bh_view.specs.View.{view, rows_purged}
 use Rattle.bh_host.specs.Answers.{composed_in}
 use Rattle.bh_host.specs.Receives.{Serves}
-use Rattle.bh_host.specs.Replies.{text}
+use Rattle.bh_host.specs.Replies.{text, sent_for}
 use Rattle.bh_host.specs.Turns.{IsActDone}
 use Rattle.bh_host.specs.declared.delivery.Composed.{Composed}
 use Rattle.bh_host.specs.declared.delivery.Composed.TheVariants.{Whole}
 use Rattle.bh_host.specs.declared.delivery.Served.{Served}
 use Rattle.bh_host.specs.declared.delivery.Served.TheVariants.{Kept, TakenBack}
-use Rattle.bh_host.proofs.Turning.{limits_stay, turned_request, turned_nobody}
+use Rattle.bh_host.proofs.Responding.{responded_err}
+use Rattle.bh_host.proofs.Turning.{limits_stay, request_done, request_refused, turned_nobody}
 
 -- memory or the store was wanting
 pub served_err : (clean : Type 0) (limits : HostLimits) (head : Head) (m : ℕ) (before after : Coming) (old new : Tables) (result : Result Served Trouble) (trouble : Trouble) → result ≡ Err trouble → (given : Octets) → Gives before after given → MayBreak after
@@ -58,7 +60,7 @@ module _ {H : Type 0} (IsIntact IsOpen : H → Type 0) (seen : H → Seen) (left
   Now = Clean IsIntact IsOpen new
 
   abbrev Came : Result (Outcome Offer Rejection) (StepError Rejection) → Type 0
-  Came outcome = Operates (offer_view (seen new).now) key.tenant (λ given. requested (seen mid).limits at (with_body head given)) Now before after (seen mid).now (seen new).now outcome
+  Came outcome = Operates (offer_view (seen new).now) key.tenant (λ given s. responded (requested (seen mid).limits at (with_body head given) s)) Now before after (seen mid).now (seen new).now outcome
 
   abbrev Gave : Result Served Trouble → Type 0
   Gave result = Serves Now (seen old).limits head at before after (seen old).now (seen new).now result
@@ -75,7 +77,7 @@ module _ {H : Type 0} (IsIntact IsOpen : H → Type 0) (seen : H → Seen) (left
     still c = (third.intact c.0, third.opened c.0 c.1)
 
     pub served_done : (offer : Offer) (made given : Composed) → (Now → IsWorking IsSound (seen new)) → Came (Ok (Done offer)) → (Now → IfFound offer (IsMeasured (seen new).now))
-        → ((body : Octets) (tables : Tables) → IfFound offer (IsMeasured tables) → composed_in tables made ≡ text (RequestRead (Ok (with_body head body))) (Ok (offer_view tables offer)))
+        → ((tables : Tables) → IfFound offer (IsMeasured tables) → composed_in tables made ≡ response_text (sent_for head.method.now (offer_view tables offer)))
         → (Clean IsIntact IsOpen last → composed_in (seen new).now given ≡ composed_in (seen new).now made)
         → Serves (Clean IsIntact IsOpen last) (seen old).limits head at before after (seen old).now (seen last).now (Ok (Kept given))
     served_done offer made given working o measured told delivered = record {
@@ -86,9 +88,10 @@ module _ {H : Type 0} (IsIntact IsOpen : H → Type 0) (seen : H → Seen) (left
         λ c. (
             let n = still c in
             subst (λ (s : Seen). IsActDone (seen old).limits (RequestRead (Ok (with_body head o.given))) at (seen old).now s.now (composed_in s.now given)) (sym (same c))
-            (turned_request (seen old).limits (offer_view (seen new).now) key at (with_body head o.given) (seen old).now (seen mid).now (seen new).now (Ok offer) (composed_in (seen new).now given) (keyed o.given) (purges (clean_mid n))
-            (subst (λ l. Carries {E = Rejection} (offer_view (seen new).now) key.tenant (requested l at (with_body head o.given)) (seen mid).now (seen new).now (Ok offer)) first.limits (o.carries n))
-            (limits_stay (seen old) (seen new) (works (clean_old n)) (working n) (second.limits ∙ first.limits)) (delivered c ∙ told o.given (seen new).now (measured n)))
+            (request_done (seen old).limits key at (with_body head o.given) (seen old).now (seen mid).now (seen new).now (composed_in (seen new).now given) (keyed o.given) (purges (clean_mid n))
+            (limits_stay (seen old) (seen new) (works (clean_old n)) (working n) (second.limits ∙ first.limits)) (offer_view (seen new).now offer)
+            (subst (λ l. GivesStep key.tenant (λ s. responded (requested l at (with_body head o.given) s)) (offer_view (seen new).now offer) (seen mid).now (seen new).now) first.limits (o.carries n))
+            (delivered c ∙ told (seen new).now (measured n)))
             ),
       );
     }
@@ -99,9 +102,9 @@ module _ {H : Type 0} (IsIntact IsOpen : H → Type 0) (seen : H → Seen) (left
     gives = o.gives;
     served = (
       o.decided,
-      λ c. turned_request {X = Offer} (seen old).limits (offer_view (seen new).now) key at (with_body head o.given) (seen old).now (seen mid).now (seen new).now (Err (Refused rejection)) reply.items (keyed o.given) (purges (clean_mid c))
-          (subst (λ l. Carries {X = Offer} (offer_view (seen new).now) key.tenant (requested l at (with_body head o.given)) (seen mid).now (seen new).now (Err (Refused rejection))) first.limits (o.carries c))
-          (limits_stay (seen old) (seen new) (works (clean_old c)) (working c) (second.limits ∙ first.limits)) (told o.given),
+      λ c. request_refused (seen old).limits key at (with_body head o.given) (seen old).now (seen mid).now (seen new).now reply.items (keyed o.given) (purges (clean_mid c))
+          (limits_stay (seen old) (seen new) (works (clean_old c)) (working c) (second.limits ∙ first.limits)) rejection
+          (subst (λ l. responded (requested l at (with_body head o.given) (view (seen mid).now key.tenant)) ≡ Err rejection) first.limits (o.carries c).0) (o.carries c).1 (told o.given),
     );
   }
 
@@ -115,7 +118,8 @@ module _ {H : Type 0} (IsIntact IsOpen : H → Type 0) (seen : H → Seen) (left
       λ c. (
         rejection,
         subst (λ l. requested l at (with_body head o.given) (view (rows_purged key.tenant at (seen old).now) key.tenant) ≡ Err rejection) first.limits
-            (subst (λ (x : Tables). requested (seen mid).limits at (with_body head o.given) (view x key.tenant) ≡ Err rejection) (purges (clean_mid c)).is (o.carries c)),
+            (subst (λ (x : Tables). requested (seen mid).limits at (with_body head o.given) (view x key.tenant) ≡ Err rejection) (purges (clean_mid c)).is
+            (responded_err (requested (seen mid).limits at (with_body head o.given) (view (seen mid).now key.tenant)) rejection (o.carries c))),
         told o.given,
       ),
     );

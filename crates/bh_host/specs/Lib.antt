@@ -2,6 +2,7 @@ pub mod Answers
 pub mod Asking
 pub mod Groups
 pub mod Offers
+pub mod Orders
 pub mod Receives
 pub mod Replies
 pub mod Resting

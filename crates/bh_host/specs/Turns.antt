@@ -1,13 +1,14 @@
 -- An event's effect on the tables, and its reply.
 use Rattle.std.specs.Prelude.{◌≡◌, ◌≢◌, ◌⊎◌, ℕ, List, [], ◌∷◌, nat_lt, if◌then◌else◌}
-use Rattle.std.specs.Prelude.{Option, Some, None, Result, Ok, Err, IfErr, IfNone, IfSome}
+use Rattle.std.specs.Prelude.{Option, Some, None, option_and_then, String, Result, Ok, Err, IfErr, IfNone, IfSome}
+use Rattle.std.specs.declared.alloc.Global.{Global}
+use Rattle.std.specs.String.{string_bytes}
+use Rattle.bh_types.specs.AccessKeys.{tenant_named}
 use Rattle.bh_types.specs.Limits.{HostLimits}
-use Rattle.bh_types.specs.Rejections.{plain}
 use Rattle.bh_types.specs.declared.refusal.Refusal.{Refusal}
-use Rattle.bh_types.specs.declared.rejection.Rejection.{Rejection}
-use Rattle.bh_event.specs.Events.{Order, Message, Requested, Ordered, SweepOrdered, ReportOrdered, TenantsOrdered, Arrival}
-use Rattle.bh_machine.specs.Machine.{Act, Commanded, Acted, owner_of, step}
-use Rattle.bh_model.specs.Operations.{Answer}
+use Rattle.bh_event.specs.Events.{Message, Requested, Ordered, SweepOrdered, ReportOrdered, TenantsOrdered, Arrival, tenant_in}
+use Rattle.bh_http.specs.Responses.{refusal_text}
+use Rattle.bh_machine.specs.Machine.{Act, Acted, owner_of, step}
 use Rattle.bh_model.specs.Runs.{last_reading, stamp_of, purged_tenant}
 use Rattle.bh_model.specs.State.{Octets}
 use Rattle.bh_storage.specs.Calls.{Seen, OthersSame}
@@ -75,25 +76,15 @@ IsServed limits (SweepOrdered limit) m stamped new reply = IsSweepDone limit m s
 IsServed limits ReportOrdered m stamped new reply = IsReportDone stamped new reply
 IsServed limits TenantsOrdered m stamped new reply = IsListDone stamped new reply
 
--- the bytes of an outcome; failures aren't described
-abbrev pub Tells : {X : Type 0} → (X → Answer) → Act → Result X (StepError Rejection) → List ℕ → Type 0
-Tells shown act (Ok answer) bytes = bytes ≡ text act (Ok (shown answer))
-Tells shown act (Err (Refused r)) bytes = bytes ≡ text act (Err r)
-Tells shown act (Err (Failed trouble)) bytes = ⊥
+-- the reply to an order: its line, or the refusal's number and code
+abbrev pub TellsLine : Result (String Global) (StepError Refusal) → List ℕ → Type 0
+TellsLine (Ok line) bytes = bytes ≡ string_bytes line
+TellsLine (Err (Refused r)) bytes = bytes ≡ refusal_text r
+TellsLine (Err (Failed trouble)) bytes = ⊥
 
--- the reply to an order
-abbrev pub TellsOrder : {X : Type 0} → (X → Answer) → Order → Result X (StepError Refusal) → List ℕ → Type 0
-TellsOrder shown order (Ok answer) bytes = bytes ≡ text (Commanded order) (Ok (shown answer))
-TellsOrder shown order (Err (Refused r)) bytes = bytes ≡ text (Commanded order) (Err (plain r))
-TellsOrder shown order (Err (Failed trouble)) bytes = ⊥
-
--- an event that is not a request
-abbrev pub IsOrder : Message → Type 0
-IsOrder (Requested bytes) = ⊥
-IsOrder (Ordered order) = Unit {0}
-IsOrder (SweepOrdered limit) = Unit {0}
-IsOrder ReportOrdered = Unit {0}
-IsOrder TenantsOrdered = Unit {0}
+-- the owner of an order, if it is on a tenant of a valid name
+abbrev pub owner_in : Message → Option Octets
+owner_in message = option_and_then tenant_named (tenant_in message)
 
 -- ---- an event
 

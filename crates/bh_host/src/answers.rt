@@ -1,17 +1,14 @@
 ghost use Rattle.std.specs.Prelude.{◌≡◌, [], length, map, IfOk};
 ghost use Rattle.std.specs.String.{string_bytes};
-ghost use Rattle.bh_docs.specs.Documents.{bucket_view, usage_view};
+ghost use Rattle.bh_docs.specs.Documents.{bucket_view};
 ghost use Rattle.bh_docs.specs.Pages.{page_view, versions_view, uploads_view, parts_view};
-ghost use Rattle.bh_http.specs.Answers.{response_view};
+ghost use Rattle.bh_http.specs.Answers.{response_view, with_document};
 ghost use Rattle.bh_host.specs.Replies as spec;
 ghost use Rattle.bh_model.specs.State.{Octets};
-ghost use Rattle.bh_model.specs.Operations.{Object, Buckets, Versioning, Objects, Versions, Lifecycle, Retention, Uploads, Parts};
-ghost use Rattle.bh_model.specs.Operations.{PartStored, Used};
+ghost use Rattle.bh_model.specs.Operations as model;
 ghost use Rattle.bh_storage.specs.Answers.{removed_answer, stored_answer, copied_answer, head_answer, begun_answer};
-ghost use Rattle.bh_host.specs.Offers.{answer_view};
-ghost use Rattle.bh_storage.specs.Answers.{completed_answer};
+ghost use Rattle.bh_storage.specs.Answers.{completed_answer, used_answer};
 
-use crate::offer::Answer;
 use bh_docs::{
     BucketEntry, ObjectsPage, PartsPage, UploadsPage, Usage, VersionsPage, begun_document,
     buckets_document, completed_document, copied_document, lifecycle_document, objects_document,
@@ -29,56 +26,71 @@ use bh_types::moment::Moment;
 use bh_types::range::RangePlan;
 use std::alloc::{AllocError, Global};
 
-/// The response to a request that was carried out.
-pub fn response_to(alloc: Global, answer: Answer) -> Result<Response, AllocError>
-    ensures { IfOk result (λ response. response_view response ≡ spec.response_to (answer_view answer)) }
+/// The result of an operation that was carried out, which makes its response.
+pub trait Answered {
+    /// The machine's answer.
+    ghost answer: { Self → model.Answer };
+
+    /// The response. Fails if memory runs out.
+    fn response(self, alloc: Global) -> Result<Response, AllocError>
+        ensures { IfOk result (λ response. response_view response ≡ spec.response_to (answer self)) };
+}
+
+/// The response with this document.
+fn documented(alloc: Global, document: String) -> Response
+    ensures { response_view result ≡ with_document 200 (string_bytes document) }
 {
-    match answer {
-        Answer::Done => Ok(Response::empty(alloc, StatusCode::OK)),
-        Answer::Removed(entry) => Ok(removed(alloc, entry)),
-        Answer::Stored(version) => Ok(stored(alloc, version)),
-        Answer::Copied(version) => copied(alloc, &version),
-        Answer::Head(head) => Ok(headed(alloc, head)),
-        Answer::Buckets(buckets) => listed(alloc, &buckets),
-        Answer::Versioning(state) => versioning(alloc, state),
-        Answer::Objects(page) => objects(alloc, &page),
-        Answer::Versions(page) => versions(alloc, &page),
-        Answer::Uploads(page) => uploads(alloc, &page),
-        Answer::Parts(page) => parts(alloc, &page),
-        Answer::Lifecycle(days) => lifecycle(alloc, days),
-        Answer::Retention(date) => retention(alloc, date),
-        Answer::Begun(upload) => begun(alloc, &upload),
-        Answer::PartStored(checksum) => Ok(part_stored(alloc, checksum)),
-        Answer::Completed(upload) => completed(alloc, &upload),
-        Answer::Used(usage) => used(alloc, &usage),
+    Response::with_document(alloc, StatusCode::OK, document.into_bytes())
+}
+
+/// It was done, and there is no value.
+impl Answered for () {
+    ghost answer = { λ _. model.Done };
+
+    fn response(self, alloc: Global) -> Result<Response, AllocError> {
+        Ok(Response::empty(alloc, StatusCode::OK))
     }
 }
 
-fn removed(alloc: Global, entry: RemovedEntry) -> Response
-    ensures { response_view result ≡ spec.response_to (removed_answer entry) }
-{
-    let mut response = Response::bare(alloc, StatusCode::NO_CONTENT);
-    response.version_id = entry.id;
-    response.delete_marker = entry.marker;
-    response
+impl Answered for RemovedEntry {
+    ghost answer = { removed_answer };
+
+    fn response(self, alloc: Global) -> Result<Response, AllocError> {
+        let mut response = Response::bare(alloc, StatusCode::NO_CONTENT);
+        response.version_id = self.id;
+        response.delete_marker = self.marker;
+        Ok(response)
+    }
 }
 
-fn stored(alloc: Global, version: StoredVersion) -> Response
-    ensures { response_view result ≡ spec.response_to (stored_answer version) }
-{
-    let mut response = Response::empty(alloc, StatusCode::OK);
-    response.checksum = Some(version.checksum);
-    response.version_id = version.id;
-    response
+impl Answered for StoredVersion {
+    ghost answer = { stored_answer };
+
+    fn response(self, alloc: Global) -> Result<Response, AllocError> {
+        let mut response = Response::empty(alloc, StatusCode::OK);
+        response.checksum = Some(self.checksum);
+        response.version_id = self.id;
+        Ok(response)
+    }
 }
 
-fn copied(alloc: Global, version: &CopiedVersion) -> Result<Response, AllocError>
-    ensures { IfOk result (λ response. response_view response ≡ spec.response_to (copied_answer version.now)) }
-{
-    let document = copied_document(alloc, &version.checksum, version.modified)?;
-    let mut response = Response::with_document(alloc, StatusCode::OK, document.into_bytes());
-    response.version_id = version.id;
-    Ok(response)
+impl Answered for CopiedVersion {
+    ghost answer = { copied_answer };
+
+    fn response(self, alloc: Global) -> Result<Response, AllocError> {
+        let document = copied_document(alloc, &self.checksum, self.modified)?;
+        let mut response = documented(alloc, document);
+        response.version_id = self.id;
+        Ok(response)
+    }
+}
+
+impl Answered for ObjectHead {
+    ghost answer = { head_answer };
+
+    fn response(self, alloc: Global) -> Result<Response, AllocError> {
+        Ok(headed(alloc, self))
+    }
 }
 
 /// The response head of an object, without its bytes.
@@ -96,10 +108,10 @@ fn headed(alloc: Global, head: ObjectHead) -> Response
 
 /// The response head of a download: of a whole object, or of the range that was requested (RFC
 /// 9110, section 15.3.7). `count` is its Content-Length.
-pub fn found(alloc: Global, head: ObjectHead, range: RangePlan, count: u64) -> Response
+pub(crate) fn found(alloc: Global, head: ObjectHead, range: RangePlan, count: u64) -> Response
     ensures is { (bytes : Octets) → count ≡ length bytes
         → record (response_view result) { body = bytes }
-        ≡ spec.response_to (Object head.id head.size range bytes (string_bytes head.checksum)) }
+        ≡ spec.response_to (model.Object head.id head.size range bytes (string_bytes head.checksum)) }
     ensures bare { (response_view result).body ≡ [] }
 {
     let size = head.size;
@@ -129,92 +141,127 @@ fn part_told(size: u64, plan: RangePlan) -> Option<ContentRange>
     }
 }
 
-fn listed(alloc: Global, buckets: &[BucketEntry]) -> Result<Response, AllocError>
-    ensures { IfOk result (λ response. response_view response ≡ spec.response_to (Buckets (map bucket_view buckets.now))) }
-{
-    let document = buckets_document(alloc, buckets)?;
-    Ok(Response::with_document(alloc, StatusCode::OK, document.into_bytes()))
+/// The buckets of a tenant, by their names.
+impl Answered for Vec<BucketEntry> {
+    ghost answer = { λ buckets. model.Buckets (map bucket_view buckets.items) };
+
+    fn response(self, alloc: Global) -> Result<Response, AllocError> {
+        Ok(documented(alloc, buckets_document(alloc, &self)?))
+    }
 }
 
-fn versioning(alloc: Global, state: BucketState) -> Result<Response, AllocError>
-    ensures { IfOk result (λ response. response_view response ≡ spec.response_to (Versioning state)) }
-{
-    let document = versioning_document(alloc, state)?;
-    Ok(Response::with_document(alloc, StatusCode::OK, document.into_bytes()))
+impl Answered for BucketState {
+    ghost answer = { model.Versioning };
+
+    fn response(self, alloc: Global) -> Result<Response, AllocError> {
+        Ok(documented(alloc, versioning_document(alloc, self)?))
+    }
 }
 
-fn lifecycle(alloc: Global, days: u16) -> Result<Response, AllocError>
-    ensures { IfOk result (λ response. response_view response ≡ spec.response_to (Lifecycle days)) }
-{
-    let document = lifecycle_document(alloc, days)?;
-    Ok(Response::with_document(alloc, StatusCode::OK, document.into_bytes()))
+/// The number of days after which a bucket's unfinished uploads are removed.
+impl Answered for u16 {
+    ghost answer = { model.Lifecycle };
+
+    fn response(self, alloc: Global) -> Result<Response, AllocError> {
+        Ok(documented(alloc, lifecycle_document(alloc, self)?))
+    }
 }
 
-/// A version's retention. If it has no date, the document is empty.
-fn retention(alloc: Global, date: Option<Moment>) -> Result<Response, AllocError>
-    ensures { IfOk result (λ response. response_view response ≡ spec.response_to (Retention date)) }
-{
-    let document = retention_document(alloc, date)?;
-    Ok(Response::with_document(alloc, StatusCode::OK, document.into_bytes()))
+/// The moment until which a version is retained. If it has none, the document is empty.
+impl Answered for Option<Moment> {
+    ghost answer = { model.Retention };
+
+    fn response(self, alloc: Global) -> Result<Response, AllocError> {
+        Ok(documented(alloc, retention_document(alloc, self)?))
+    }
 }
 
-fn objects(alloc: Global, page: &ObjectsPage) -> Result<Response, AllocError>
-    ensures { IfOk result (λ response. response_view response ≡ spec.response_to (Objects (page_view page.now))) }
-{
-    let document = objects_document(alloc, page)?;
-    Ok(Response::with_document(alloc, StatusCode::OK, document.into_bytes()))
+/// A page of a bucket's objects.
+impl Answered for ObjectsPage {
+    ghost answer = { λ page. model.Objects (page_view page) };
+
+    fn response(self, alloc: Global) -> Result<Response, AllocError> {
+        Ok(documented(alloc, objects_document(alloc, &self)?))
+    }
 }
 
-fn versions(alloc: Global, page: &VersionsPage) -> Result<Response, AllocError>
-    ensures { IfOk result (λ response. response_view response ≡ spec.response_to (Versions (versions_view page.now))) }
-{
-    let document = versions_document(alloc, page)?;
-    Ok(Response::with_document(alloc, StatusCode::OK, document.into_bytes()))
+/// A page of a bucket's versions and delete markers.
+impl Answered for VersionsPage {
+    ghost answer = { λ page. model.Versions (versions_view page) };
+
+    fn response(self, alloc: Global) -> Result<Response, AllocError> {
+        Ok(documented(alloc, versions_document(alloc, &self)?))
+    }
 }
 
-fn uploads(alloc: Global, page: &UploadsPage) -> Result<Response, AllocError>
-    ensures { IfOk result (λ response. response_view response ≡ spec.response_to (Uploads (uploads_view page.now))) }
-{
-    let document = uploads_document(alloc, page)?;
-    Ok(Response::with_document(alloc, StatusCode::OK, document.into_bytes()))
+/// A page of a bucket's uploads.
+impl Answered for UploadsPage {
+    ghost answer = { λ page. model.Uploads (uploads_view page) };
+
+    fn response(self, alloc: Global) -> Result<Response, AllocError> {
+        Ok(documented(alloc, uploads_document(alloc, &self)?))
+    }
 }
 
-fn parts(alloc: Global, page: &PartsPage) -> Result<Response, AllocError>
-    ensures { IfOk result (λ response. response_view response ≡ spec.response_to (Parts (parts_view page.now))) }
-{
-    let document = parts_document(alloc, page)?;
-    Ok(Response::with_document(alloc, StatusCode::OK, document.into_bytes()))
+/// A page of an upload's parts.
+impl Answered for PartsPage {
+    ghost answer = { λ page. model.Parts (parts_view page) };
+
+    fn response(self, alloc: Global) -> Result<Response, AllocError> {
+        Ok(documented(alloc, parts_document(alloc, &self)?))
+    }
 }
 
-fn used(alloc: Global, usage: &Usage) -> Result<Response, AllocError>
-    ensures { IfOk result (λ response. response_view response ≡ spec.response_to (Used (usage_view usage.now))) }
-{
-    let document = usage_document(alloc, usage)?;
-    Ok(Response::with_document(alloc, StatusCode::OK, document.into_bytes()))
+/// A tenant's usage.
+impl Answered for Usage {
+    ghost answer = { used_answer };
+
+    fn response(self, alloc: Global) -> Result<Response, AllocError> {
+        Ok(documented(alloc, usage_document(alloc, &self)?))
+    }
 }
 
-fn begun(alloc: Global, upload: &BegunUpload) -> Result<Response, AllocError>
-    ensures { IfOk result (λ response. response_view response ≡ spec.response_to (begun_answer upload.now)) }
-{
-    let document = begun_document(alloc, &upload.bucket, &upload.key, upload.upload)?;
-    let mut response = Response::with_document(alloc, StatusCode::OK, document.into_bytes());
-    response.abort_date = upload.abort;
-    Ok(response)
+impl Answered for BegunUpload {
+    ghost answer = { begun_answer };
+
+    fn response(self, alloc: Global) -> Result<Response, AllocError> {
+        let BegunUpload {
+            bucket,
+            key,
+            upload,
+            abort,
+        } = self;
+        let document = begun_document(alloc, &bucket, &key, upload)?;
+        let mut response = documented(alloc, document);
+        response.abort_date = abort;
+        Ok(response)
+    }
 }
 
-fn part_stored(alloc: Global, checksum: String) -> Response
-    ensures { response_view result ≡ spec.response_to (PartStored (string_bytes checksum)) }
-{
-    let mut response = Response::empty(alloc, StatusCode::OK);
-    response.checksum = Some(checksum);
-    response
+/// A part was put: the base64 (RFC 4648) of the SHA-256 digest (FIPS 180-4) of its bytes.
+impl Answered for String {
+    ghost answer = { λ checksum. model.PartStored (string_bytes checksum) };
+
+    fn response(self, alloc: Global) -> Result<Response, AllocError> {
+        let mut response = Response::empty(alloc, StatusCode::OK);
+        response.checksum = Some(self);
+        Ok(response)
+    }
 }
 
-fn completed(alloc: Global, upload: &CompletedUpload) -> Result<Response, AllocError>
-    ensures { IfOk result (λ response. response_view response ≡ spec.response_to (completed_answer upload.now)) }
-{
-    let document = completed_document(alloc, &upload.bucket, &upload.checksum, &upload.key)?;
-    let mut response = Response::with_document(alloc, StatusCode::OK, document.into_bytes());
-    response.version_id = upload.id;
-    Ok(response)
+impl Answered for CompletedUpload {
+    ghost answer = { completed_answer };
+
+    fn response(self, alloc: Global) -> Result<Response, AllocError> {
+        let CompletedUpload {
+            bucket,
+            key,
+            id,
+            checksum,
+        } = self;
+        let document = completed_document(alloc, &bucket, &checksum, &key)?;
+        let mut response = documented(alloc, document);
+        response.version_id = id;
+        Ok(response)
+    }
 }

@@ -1,10 +1,10 @@
 ghost use Rattle.std.specs.Prelude.{◌≡◌, ◌⊎◌, ◌<◌, ◌≤◌, Ok, Err, Some, None, is_some, IfOk, IfSome, IfNone, OnOk, OnErr};
-ghost use Rattle.bh_event.specs.Events.{arrival, order_of};
-ghost use Rattle.bh_machine.specs.Machine.{Commanded, owner_of as owner_of_act};
+ghost use Rattle.bh_event.specs.Events.{arrival, message_of, tenant_in};
+ghost use Rattle.bh_event.specs.Orders.{arrival_at};
 ghost use Rattle.bh_model.specs.Runs.{last_reading};
+ghost use Rattle.bh_types.specs.AccessKeys.{tenant_named};
 ghost use Rattle.bh_storage.specs.Calls.{Clean, Within, LeavesSound, IsAtRest, IsWorking};
 ghost use Rattle.bh_tables.specs.Typed.{Tables};
-ghost use Rattle.bh_view.specs.View.{latest_of};
 ghost use Rattle.bh_http.specs.Reading.{completed};
 ghost use Rattle.bh_http.specs.Views.{announced_view};
 ghost use Rattle.bh_host.specs.Answers.{told_in, is_wanting, IsNoted, IsToldNoted, IsToldWanting};
@@ -13,16 +13,15 @@ ghost use Rattle.bh_host.specs.Receives.{ToldOf};
 ghost use Rattle.bh_host.specs.Replies.{clock_text, reply_bytes, reply_trouble};
 ghost use Rattle.bh_host.specs.Replies as reply;
 ghost use Rattle.bh_host.specs.Resting.{StaysAtRest};
-ghost use Rattle.bh_host.specs.Turns.{IsServed, IsActDone, IsSweepDone, IsReportDone, IsListDone, IsOrder, IsToldApart, WouldApply};
-ghost use Rattle.bh_host.specs.Turns.{AppliedTo, Happened, request_at};
+ghost use Rattle.bh_host.specs.Turns.{owner_in, IsServed, IsToldApart, WouldApply, AppliedTo, Happened, request_at};
 ghost use Rattle.bh_host.specs.declared.delivery.Delivery.TheVariants.{AtOnce, InPieces};
 
 use crate::delivery::{Delivery, Replied};
-use crate::lists::tenants_line;
 use crate::receiving::{receive, refuse_unread, wanting};
-use crate::reply::{Caller, Reply, order_text, refusal_line, report_line, sweep_line};
+use crate::reply::{Caller, Reply, order_text, refusal_line};
 use crate::storage::Storage;
-use bh_event::event::{Command, Event};
+use bh_event::event::{Event, Message};
+use bh_event::order::HostOrder;
 use bh_http::body::WholeBody;
 use bh_http::read::split_head;
 use bh_http::request::Head;
@@ -41,40 +40,58 @@ pub struct Told {
     pub reply: Reply,
 }
 
-/// The tenant in a command, if it is a valid name.
-fn owner_of_command(alloc: Global, command: &Command) -> Result<Option<TenantName>, AllocError>
-    ensures { IfOk result (λ owner. owner ≡ owner_of_act (Commanded (order_of command.now))) }
+/// The tenant of this name, if the name is valid.
+fn tenant_of(alloc: Global, name: &str) -> Result<Option<TenantName>, AllocError>
+    ensures { IfOk result (λ tenant. tenant ≡ tenant_named name.now) }
 {
-    TenantName::read(alloc, command.tenant())
+    TenantName::read(alloc, name)
 }
 
-/// An operator's command on a tenant, which may not exist.
-fn serve_named_command<H: Storage>(
+/// An order on a tenant, which may not exist. Its stale uploads are removed first.
+fn serve_named<H: Storage>(
     alloc: Global,
     host: &mut H,
     tenant: &TenantName,
-    command: &Command,
+    order: &HostOrder,
     at: Moment,
 ) -> Result<Vec<u8>, Trouble>
-    requires named { owner_of_act (Commanded (order_of command.now)) ≡ Some tenant.now }
+    requires named { owner_in (message_of order.now) ≡ Some tenant.now }
     requires working { Clean H.IsIntact H.IsOpen host.old → IsWorking H.IsSoundStore (H.seen host.old) }
     ensures within { Within H.IsIntact H.IsOpen H.seen H.left host.old host.new }
     ensures opens { OnOk result (H.IsOpen host.old → H.IsIntact host.new → H.IsOpen host.new) }
     ensures working { OnOk result (Clean H.IsIntact H.IsOpen host.new → IsWorking H.IsSoundStore (H.seen host.new)) }
     ensures turned { IfOk result (λ bytes. Clean H.IsIntact H.IsOpen host.new
-        → IsActDone (H.seen host.old).limits (Commanded (order_of command.now)) at
-        (H.seen host.old).now (H.seen host.new).now bytes.items) }
+        → IsServed (H.seen host.old).limits (message_of order.now) at (H.seen host.old).now (H.seen host.new).now bytes.items) }
 {
     host.purge(alloc, tenant, at)?;
-    let outcome = host.command(alloc, at, command);
-    order_text(alloc, command, outcome)
+    let outcome = host.order(alloc, at, order);
+    order_text(alloc, outcome)
 }
 
-/// An operator's command.
-fn serve_command<H: Storage>(
+/// An order on all tenants together.
+fn serve_shared<H: Storage>(
     alloc: Global,
     host: &mut H,
-    command: &Command,
+    order: &HostOrder,
+    at: Moment,
+) -> Result<Vec<u8>, Trouble>
+    requires shared { tenant_in (message_of order.now) ≡ None }
+    requires working { Clean H.IsIntact H.IsOpen host.old → IsWorking H.IsSoundStore (H.seen host.old) }
+    ensures within { Within H.IsIntact H.IsOpen H.seen H.left host.old host.new }
+    ensures opens { OnOk result (H.IsOpen host.old → H.IsIntact host.new → H.IsOpen host.new) }
+    ensures working { OnOk result (Clean H.IsIntact H.IsOpen host.new → IsWorking H.IsSoundStore (H.seen host.new)) }
+    ensures turned { IfOk result (λ bytes. Clean H.IsIntact H.IsOpen host.new
+        → IsServed (H.seen host.old).limits (message_of order.now) at (H.seen host.old).now (H.seen host.new).now bytes.items) }
+{
+    let outcome = host.order(alloc, at, order);
+    order_text(alloc, outcome)
+}
+
+/// The reply to an order at its stamp. An order on a tenant whose name isn't valid is refused.
+pub(crate) fn serve_order<H: Storage>(
+    alloc: Global,
+    host: &mut H,
+    order: &HostOrder,
     at: Moment,
 ) -> Result<Vec<u8>, Trouble>
     requires working { Clean H.IsIntact H.IsOpen host.old → IsWorking H.IsSoundStore (H.seen host.old) }
@@ -82,108 +99,42 @@ fn serve_command<H: Storage>(
     ensures opens { OnOk result (H.IsOpen host.old → H.IsIntact host.new → H.IsOpen host.new) }
     ensures working { OnOk result (Clean H.IsIntact H.IsOpen host.new → IsWorking H.IsSoundStore (H.seen host.new)) }
     ensures turned { IfOk result (λ bytes. Clean H.IsIntact H.IsOpen host.new
-        → IsActDone (H.seen host.old).limits (Commanded (order_of command.now)) at
-        (H.seen host.old).now (H.seen host.new).now bytes.items) }
+        → IsServed (H.seen host.old).limits (message_of order.now) at (H.seen host.old).now (H.seen host.new).now bytes.items) }
 {
-    match owner_of_command(alloc, command)? {
-        Some(tenant) => serve_named_command(alloc, host, &tenant, command, at),
+    let Some(name) = order.tenant() else {
+        return serve_shared(alloc, host, order, at);
+    };
+    match tenant_of(alloc, name)? {
+        Some(tenant) => serve_named(alloc, host, &tenant, order, at),
         None => Ok(refusal_line(alloc, Refusal::InvalidName)?.into_bytes()),
     }
 }
 
-/// A sweep, which removes at most `limit` stale uploads and unreferenced blocks.
-fn serve_sweep<H: Storage>(
-    alloc: Global,
-    host: &mut H,
-    limit: u32,
-    at: Moment,
-) -> Result<Vec<u8>, Trouble>
-    requires working { Clean H.IsIntact H.IsOpen host.old → IsWorking H.IsSoundStore (H.seen host.old) }
-    ensures within { Within H.IsIntact H.IsOpen H.seen H.left host.old host.new }
-    ensures opens { OnOk result (H.IsOpen host.old → H.IsIntact host.new → H.IsOpen host.new) }
-    ensures working { OnOk result (Clean H.IsIntact H.IsOpen host.new → IsWorking H.IsSoundStore (H.seen host.new)) }
-    ensures swept { IfOk result (λ bytes. Clean H.IsIntact H.IsOpen host.new
-        → IsSweepDone limit at (H.seen host.old).now (H.seen host.new).now bytes.items) }
-{
-    let report = host.sweep(alloc, at, limit)?;
-    Ok(sweep_line(alloc, report)?.into_bytes())
-}
-
-/// A report of what is stored.
-fn serve_report<H: Storage>(alloc: Global, host: &mut H) -> Result<Vec<u8>, Trouble>
-    requires working { Clean H.IsIntact H.IsOpen host.old → IsWorking H.IsSoundStore (H.seen host.old) }
-    ensures within { Within H.IsIntact H.IsOpen H.seen H.left host.old host.new }
-    ensures opens { OnOk result (H.IsOpen host.old → H.IsIntact host.new → H.IsOpen host.new) }
-    ensures working { OnOk result (Clean H.IsIntact H.IsOpen host.new → IsWorking H.IsSoundStore (H.seen host.new)) }
-    ensures reported { IfOk result (λ bytes. Clean H.IsIntact H.IsOpen host.new
-        → IsReportDone (H.seen host.old).now (H.seen host.new).now bytes.items) }
-{
-    let report = host.report()?;
-    Ok(report_line(alloc, report)?.into_bytes())
-}
-
-/// A list of all tenants.
-fn serve_tenants<H: Storage>(alloc: Global, host: &mut H) -> Result<Vec<u8>, Trouble>
-    requires working { Clean H.IsIntact H.IsOpen host.old → IsWorking H.IsSoundStore (H.seen host.old) }
-    ensures within { Within H.IsIntact H.IsOpen H.seen H.left host.old host.new }
-    ensures opens { OnOk result (H.IsOpen host.old → H.IsIntact host.new → H.IsOpen host.new) }
-    ensures working { OnOk result (Clean H.IsIntact H.IsOpen host.new → IsWorking H.IsSoundStore (H.seen host.new)) }
-    ensures listed { IfOk result (λ bytes. Clean H.IsIntact H.IsOpen host.new
-        → IsListDone (H.seen host.old).now (H.seen host.new).now bytes.items) }
-{
-    let tenants = host.tenants(alloc)?;
-    Ok(tenants_line(alloc, &tenants)?.into_bytes())
-}
-
-/// The reply to an event that is not a request, and its stamp. A request is a failure here: `apply`
-/// passes none.
-pub fn serve<H: Storage>(
-    alloc: Global,
-    host: &mut H,
-    event: &Event,
-    at: Moment,
-) -> Result<Vec<u8>, Trouble>
-    requires working { Clean H.IsIntact H.IsOpen host.old → IsWorking H.IsSoundStore (H.seen host.old) }
-    requires early { Clean H.IsIntact H.IsOpen host.old → at ≤ latest_of (H.seen host.old).now }
-    ensures within { Within H.IsIntact H.IsOpen H.seen H.left host.old host.new }
-    ensures opens { OnOk result (H.IsOpen host.old → H.IsIntact host.new → H.IsOpen host.new) }
-    ensures working { OnOk result (Clean H.IsIntact H.IsOpen host.new → IsWorking H.IsSoundStore (H.seen host.new)) }
-    ensures turned { IfOk result (λ bytes. Clean H.IsIntact H.IsOpen host.new
-        → IsServed (H.seen host.old).limits (arrival event.now).message at (H.seen host.old).now (H.seen host.new).now bytes.items) }
-{
-    match event {
-        Event::Http { .. } => Err(Trouble::Store),
-        Event::Operator { command, .. } => serve_command(alloc, host, command, at),
-        Event::Sweep { limit, .. } => serve_sweep(alloc, host, *limit, at),
-        Event::Report { .. } => serve_report(alloc, host),
-        Event::Tenants { .. } => serve_tenants(alloc, host),
-    }
-}
-
-/// One event in a transaction: its stamp and its reply. If this fails, the transaction may still be
+/// An order in a transaction: its stamp and its reply. If this fails, the transaction may still be
 /// open.
 fn try_apply<H: Storage>(
     alloc: Global,
     host: &mut H,
-    event: &Event,
+    reading: u64,
+    order: &HostOrder,
 ) -> Result<(Moment, Vec<u8>), Trouble>
-    requires in_range { (arrival event.now).reading ≤ last_reading }
+    requires in_range { reading ≤ last_reading }
     requires rest { Clean H.IsIntact H.IsOpen host.old → IsAtRest H.IsSoundStore (H.seen host.old) }
     ensures intact { H.IsIntact host.new → H.IsIntact host.old }
     ensures opened { H.IsIntact host.new → H.IsOpen host.new → H.IsOpen host.old }
     ensures limits { (H.seen host.new).limits ≡ (H.seen host.old).limits }
     ensures ready { OnOk result (Clean H.IsIntact H.IsOpen host.new → IsAtRest H.IsSoundStore (H.seen host.new)) }
     ensures applied { IfOk result (λ done. H.IsIntact host.new
-        → AppliedTo H.IsOpen H.seen (arrival event.now) host.old host.new (Some done.0) done.1.items) }
+        → AppliedTo H.IsOpen H.seen (arrival_at reading (message_of order.now)) host.old host.new (Some done.0) done.1.items) }
     ensures survives { OnOk result (H.IsIntact host.new → (x : Tables) → H.left host.new x → x ≡ (H.seen host.new).now) }
     ensures crash { OnErr result (H.IsIntact host.new → (x : Tables) → H.left host.new x
-        → H.left host.old x ⊎ (H.IsOpen host.old × WouldApply (arrival event.now) (H.seen host.old).now x)) }
+        → H.left host.old x ⊎ (H.IsOpen host.old × WouldApply (arrival_at reading (message_of order.now)) (H.seen host.old).now x)) }
     ensures leaves { H.IsIntact host.new → LeavesSound H.IsSoundStore H.left host.old host.new }
     ensures kept { OnErr result (Clean H.IsIntact H.IsOpen host.new → (H.seen host.new).kept ≡ (H.seen host.old).kept) }
 {
     host.begin()?;
-    let stamp = host.stamp(event.reading())?;
-    let bytes = serve(alloc, host, event, stamp)?;
+    let stamp = host.stamp(reading)?;
+    let bytes = serve_order(alloc, host, order, stamp)?;
     host.commit()?;
     Ok((stamp, bytes))
 }
@@ -192,32 +143,29 @@ fn try_apply<H: Storage>(
 fn caller_of(event: &Event) -> Caller
     ensures { result ≡ reply.caller_of (arrival event.now).message }
 {
-    match event {
-        Event::Http { .. } => Caller::Request,
-        Event::Operator { .. }
-        | Event::Sweep { .. }
-        | Event::Report { .. }
-        | Event::Tenants { .. } => Caller::Operator,
+    match &event.message {
+        Message::Request(_) => Caller::Request,
+        Message::Order(_) => Caller::Operator,
     }
 }
 
-/// Applies an event that is not a request in one transaction.
-fn apply_order<H: Storage>(alloc: Global, host: &mut H, event: &Event) -> Told
-    requires order { IsOrder (arrival event.now).message }
-    requires in_range { (arrival event.now).reading ≤ last_reading }
+/// Applies an order in one transaction.
+fn apply_order<H: Storage>(alloc: Global, host: &mut H, reading: u64, order: &HostOrder) -> Told
+    requires in_range { reading ≤ last_reading }
     requires rest { Clean H.IsIntact H.IsOpen host.old → IsAtRest H.IsSoundStore (H.seen host.old) }
     ensures stays { StaysAtRest H.IsIntact H.IsOpen H.IsSoundStore H.seen H.left host.old host.new }
     ensures applied { H.IsIntact host.new
-        → AppliedTo H.IsOpen H.seen (arrival event.now) host.old host.new result.stamp (reply_bytes result.reply) }
-    ensures told_apart { H.IsIntact host.new → IsToldApart (arrival event.now) result.stamp (reply_bytes result.reply) }
+        → AppliedTo H.IsOpen H.seen (arrival_at reading (message_of order.now)) host.old host.new result.stamp (reply_bytes result.reply) }
+    ensures told_apart { H.IsIntact host.new
+        → IsToldApart (arrival_at reading (message_of order.now)) result.stamp (reply_bytes result.reply) }
     ensures acknowledged { IfSome result.stamp (λ _. H.IsIntact host.new
         → (x : Tables) → H.left host.new x → x ≡ (H.seen host.new).now) }
     ensures crash { IfNone result.stamp (H.IsIntact host.new → (x : Tables) → H.left host.new x
-        → H.left host.old x ⊎ (H.IsOpen host.old × WouldApply (arrival event.now) (H.seen host.old).now x)) }
+        → H.left host.old x ⊎ (H.IsOpen host.old × WouldApply (arrival_at reading (message_of order.now)) (H.seen host.old).now x)) }
     ensures small { IsSmallReply result.reply }
     ensures noted { IsNoted result }
 {
-    match try_apply(alloc, host, event) {
+    match try_apply(alloc, host, reading, order) {
         Ok((stamp, bytes)) => Told {
             stamp: Some(stamp),
             reply: Reply::Text(bytes),
@@ -226,7 +174,7 @@ fn apply_order<H: Storage>(alloc: Global, host: &mut H, event: &Event) -> Told
             host.take_back();
             Told {
                 stamp: None,
-                reply: Reply::Wanting(caller_of(event), trouble),
+                reply: Reply::Wanting(Caller::Operator, trouble),
             }
         }
     }
@@ -311,18 +259,14 @@ fn apply_with<H: Storage>(
     ensures noted { IsToldWanting (arrival event.now).reading result }
     ensures measured { Clean H.IsIntact H.IsOpen host.new → IsToldMeasured (H.seen host.new).now result }
 {
-    if event.reading() > LAST_READING {
+    let reading = event.reading;
+    if reading > LAST_READING {
         let reply = Reply::ClockOutOfRange(caller_of(event));
         return Replied::Told(Told { stamp: None, reply });
     }
-    match event {
-        Event::Http { reading, bytes } => {
-            apply_request(alloc, routes, host, *reading, bytes, delivery)
-        }
-        Event::Operator { .. }
-        | Event::Sweep { .. }
-        | Event::Report { .. }
-        | Event::Tenants { .. } => Replied::Told(apply_order(alloc, host, event)),
+    match &event.message {
+        Message::Request(bytes) => apply_request(alloc, routes, host, reading, bytes, delivery),
+        Message::Order(order) => Replied::Told(apply_order(alloc, host, reading, order)),
     }
 }
 

@@ -2,7 +2,7 @@
 //! private machine.
 #![tactic(auto)]
 
-mod answers;
+pub mod answers;
 mod delivery;
 mod event;
 mod events;
@@ -21,6 +21,7 @@ pub use delivery::{Delivery, PlannedReply, Replied};
 pub use event::{Told, apply};
 pub use events::run;
 pub use group::{Group, apply_group};
+pub use lists::tenants_line;
 pub use receiving::{receive, refuse_unread};
-pub use reply::{Caller, Reply};
+pub use reply::{Caller, Reply, command_line, report_line, sweep_line};
 pub use together::apply_together;

@@ -3,6 +3,7 @@
 ghost use Rattle.std.specs.Prelude.{◌≡◌, ◌⊎◌, ◌≤◌, ℕ, None, Some, Ok, Err, IfOk, IfSome, OnOk, OnErr, option_map};
 ghost use Rattle.std.specs.Option.{option_copied};
 ghost use Rattle.bh_http.specs.Credentials.{key_given};
+ghost use Rattle.bh_http.specs.Responses.{response_text};
 ghost use Rattle.bh_http.specs.Views.{with_body};
 ghost use Rattle.bh_machine.specs.Machine.{RequestRead};
 ghost use Rattle.bh_types.specs.Rejections.{plain};
@@ -21,7 +22,7 @@ ghost use Rattle.bh_host.specs.Answers.{IsPlanMeasured, IsServedMeasured, IsTrie
 ghost use Rattle.bh_host.specs.Answers.{IsSmall, IsSmallReply, IsServedSmall, IsTriedSmall, IsToldSmall};
 ghost use Rattle.bh_host.specs.Answers.{IsNoted, IsTriedNoted, IsToldNoted};
 ghost use Rattle.bh_host.specs.Receives.{Serves, Tries, AnewAs, Receives, IsStamp, Records, IfKept, IfApplied};
-ghost use Rattle.bh_host.specs.Replies.{text, wanting_text};
+ghost use Rattle.bh_host.specs.Replies.{text, wanting_text, response_to, sent_for};
 ghost use Rattle.bh_host.specs.Resting.{StaysAtRest};
 ghost use Rattle.bh_host.specs.declared.delivery.Delivery.TheVariants.{AtOnce, InPieces};
 ghost use Rattle.bh_host.specs.declared.reply.Caller.TheVariants.{Request};
@@ -30,7 +31,7 @@ use crate::delivery::{Composed, Delivery, Replied, Served, Tried, delivered, rep
 use crate::event::Told;
 use crate::offer::Offer;
 use crate::reply::{
-    Caller, Reply, answer_text, found_text, is_head, refused_request_text, unread_text,
+    Caller, Reply, found_text, is_head, refused_request_text, sent_text, unread_text,
 };
 use crate::serve::{requested, stranger_refusal};
 use crate::storage::Storage;
@@ -50,8 +51,8 @@ use std::alloc::{AllocError, Global};
 /// The response to a request that found an object, whatever the request's body. A HEAD request gets
 /// none of the object's bytes.
 fn found(alloc: Global, head: &Head, version: FoundVersion) -> Result<Composed, AllocError>
-    ensures told { (body : Octets) (tables : Tables) → IsMeasured tables version → IfOk result (λ composed. composed_in tables composed
-        ≡ text (RequestRead (Ok (with_body head.now body))) (Ok (found_answer tables version))) }
+    ensures told { (tables : Tables) → IsMeasured tables version → IfOk result (λ composed. composed_in tables composed
+        ≡ response_text (sent_for head.now.method.now (response_to (found_answer tables version)))) }
     ensures measured { (tables : Tables) → IsMeasured tables version → IfOk result (IsPlanMeasured tables) }
     ensures small { IfOk result IsSmall }
 {
@@ -66,14 +67,13 @@ fn found(alloc: Global, head: &Head, version: FoundVersion) -> Result<Composed, 
 
 /// The response to a request, whatever its body. No byte of an object has been read yet.
 fn offered(alloc: Global, head: &Head, offer: Offer) -> Result<Composed, AllocError>
-    ensures told { (body : Octets) (tables : Tables) → IfFound offer (IsMeasured tables)
-        → IfOk result (λ composed. composed_in tables composed
-        ≡ text (RequestRead (Ok (with_body head.now body))) (Ok (offer_view tables offer))) }
+    ensures told { (tables : Tables) → IfFound offer (IsMeasured tables) → IfOk result (λ composed. composed_in tables composed
+        ≡ response_text (sent_for head.now.method.now (offer_view tables offer))) }
     ensures measured { (tables : Tables) → IfFound offer (IsMeasured tables) → IfOk result (IsPlanMeasured tables) }
     ensures small { IfOk result IsSmall }
 {
     match offer {
-        Offer::Whole(answer) => Ok(Composed::Whole(answer_text(alloc, head, answer)?)),
+        Offer::Whole(response) => { Ok(Composed::Whole(sent_text(alloc, head.method, response)?)) }
         Offer::Planned(version) => found(alloc, head, version),
     }
 }

@@ -1,4 +1,4 @@
-ghost use Rattle.std.specs.Prelude.{◌≡◌, ℕ, List, [], codes, length, Ok, Err, IfOk};
+ghost use Rattle.std.specs.Prelude.{◌≡◌, ◌++◌, ℕ, List, [], codes, length, Ok, Err, IfOk};
 ghost use Rattle.std.specs.Str.{bytes_eq};
 ghost use Rattle.bh_event.specs.Events.{order_of};
 ghost use Rattle.bh_http.specs.Answers.{response_view, refused};
@@ -7,15 +7,15 @@ ghost use Rattle.bh_http.specs.Views.{with_body};
 ghost use Rattle.bh_docs.specs.Documents.{usage_view};
 ghost use Rattle.bh_machine.specs.Machine.{RequestRead};
 ghost use Rattle.bh_model.specs.Operations.{Object, Used};
-ghost use Rattle.bh_host.specs.Offers.{answer_view, command_answer_view};
+ghost use Rattle.bh_host.specs.Offers.{command_answer_view};
 ghost use Rattle.bh_types.specs.Rejections.{plain};
 ghost use Rattle.std.specs.String.{string_bytes};
 ghost use Rattle.bh_host.specs.Replies as spec;
-ghost use Rattle.bh_host.specs.Turns.{TellsOrder};
+ghost use Rattle.bh_host.specs.Turns.{TellsLine};
 
-use crate::answers::{found, response_to};
+use crate::answers::found;
 use crate::lists::names_end;
-use crate::offer::{Answer, CommandAnswer};
+use crate::offer::CommandAnswer;
 use bh_docs::reply::{Usage, error_document};
 use bh_event::event::Command;
 use bh_http::encode::response_bytes;
@@ -113,16 +113,6 @@ pub fn refused_request_text(
     sent_text(alloc, head.method, response)
 }
 
-/// The response that answers a request with this head, whatever its body.
-#[tactic(auto, unfolding(crate::specs::Replies::text))]
-pub fn answer_text(alloc: Global, head: &Head, answer: Answer) -> Result<Vec<u8>, AllocError>
-    ensures { (body : List ℕ) → IfOk result (λ bytes. bytes.items
-        ≡ spec.text (RequestRead (Ok (with_body head.now body))) (Ok (answer_view answer))) }
-{
-    let response = response_to(alloc, answer)?;
-    sent_text(alloc, head.method, response)
-}
-
 /// The response head before an object's bytes, or before a range of them. `count` bytes follow.
 pub fn found_text(
     alloc: Global,
@@ -138,7 +128,7 @@ pub fn found_text(
 }
 
 /// The bytes of a response to a request of this method.
-fn sent_text(alloc: Global, method: &[u8], response: Response) -> Result<Vec<u8>, AllocError>
+pub fn sent_text(alloc: Global, method: &[u8], response: Response) -> Result<Vec<u8>, AllocError>
     ensures { IfOk result (λ bytes. bytes.items ≡ response_text (spec.sent_for method.now (response_view response))) }
 {
     let sent = sent_for(alloc, method, response);
@@ -234,29 +224,28 @@ pub fn unread_text(alloc: Global, routes: &Routes, refusal: Refusal) -> Result<V
     response_bytes(alloc, &response)
 }
 
-/// An operator's reply: what the command did, or its refusal.
-#[tactic(auto, unfolding(crate::specs::Replies::text))]
+/// An operator's reply: the line that tells what was done, or its refusal.
 pub fn order_text(
     alloc: Global,
-    command: &Command,
-    outcome: Result<CommandAnswer, StepError<Refusal>>,
+    outcome: Result<String, StepError<Refusal>>,
 ) -> Result<Vec<u8>, Trouble>
-    ensures { IfOk result (λ bytes. TellsOrder command_answer_view (order_of command.now) outcome bytes.items) }
+    ensures { IfOk result (λ bytes. TellsLine outcome bytes.items) }
 {
     match outcome {
-        Ok(answer) => Ok(accepted_line(alloc, command, &answer)?.into_bytes()),
+        Ok(line) => Ok(line.into_bytes()),
         Err(StepError::Refused(refusal)) => Ok(refusal_line(alloc, refusal)?.into_bytes()),
         Err(StepError::Failed(trouble)) => Err(trouble),
     }
 }
 
 /// What a command did, and the values of its answer.
-fn accepted_line(
+pub fn command_line(
     alloc: Global,
     command: &Command,
     answer: &CommandAnswer,
 ) -> Result<String, AllocError>
-    ensures { IfOk result (λ text. string_bytes text ≡ spec.line (order_of command.now) (Ok (command_answer_view answer.now))) }
+    ensures { IfOk result (λ text. string_bytes text
+        ≡ spec.line_of (order_of command.now) ++ spec.line_end (command_answer_view answer.now)) }
 {
     let line = line_of(alloc, command)?;
     let end = line_end(alloc, answer)?;

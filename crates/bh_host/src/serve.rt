@@ -4,7 +4,7 @@ ghost use Rattle.bh_http.specs.Credentials.{key_given};
 ghost use Rattle.bh_http.specs.Views.{with_body};
 ghost use Rattle.bh_machine.specs.Machine as machine;
 ghost use Rattle.bh_model.specs.State.{Octets};
-ghost use Rattle.bh_host.specs.Offers.{offer_view};
+ghost use Rattle.bh_host.specs.Offers.{offer_view, responded};
 ghost use Rattle.bh_storage.specs.Plans.{IsMeasured};
 ghost use Rattle.bh_host.specs.Offers.{IfPlanned};
 ghost use Rattle.bh_storage.specs.Calls.{Clean, Within, Decides, IsWorking, Unless, UnlessSpoilt, Operates};
@@ -90,7 +90,7 @@ pub fn requested<H: Storage, B: Body>(
     ensures opens { UnlessSpoilt result (H.IsOpen host.old → H.IsIntact host.new → H.IsOpen host.new) }
     ensures working { UnlessSpoilt result (Clean H.IsIntact H.IsOpen host.new → IsWorking H.IsSoundStore (H.seen host.new)) }
     ensures operates { Operates (offer_view (H.seen host.new).now) key.now.tenant
-        (λ given. machine.requested (H.seen host.old).limits at (with_body head.now given))
+        (λ given s. responded (machine.requested (H.seen host.old).limits at (with_body head.now given) s))
         (Clean H.IsIntact H.IsOpen host.new) (B.coming body.old) (B.coming body.new) (H.seen host.old).now (H.seen host.new).now result }
     ensures measured { IfPlanned result (λ found. Clean H.IsIntact H.IsOpen host.new → IsMeasured (H.seen host.new).now found) }
 {

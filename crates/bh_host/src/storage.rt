@@ -1,24 +1,22 @@
 ghost use Rattle.std.specs.Prelude.{◌≡◌, ◌⊎◌, ◌++◌, ◌+◌, ◌<◌, ◌≤◌, [], length, None, IfOk, IfSome, IfNone, OnOk, OnErr};
-ghost use Rattle.bh_event.specs.Events.{order_of, tenant_of};
-ghost use Rattle.bh_machine.specs.Machine.{operated, ordered};
+ghost use Rattle.bh_event.specs.Events.{message_of};
+ghost use Rattle.bh_machine.specs.Machine.{operated};
 ghost use Rattle.bh_model.specs.Credentials as machine;
 ghost use Rattle.bh_model.specs.Runs.{last_reading};
 ghost use Rattle.bh_tables.specs.Typed.{Tables};
 ghost use Rattle.bh_view.specs.View.{view, latest_of};
-ghost use Rattle.bh_host.specs.Offers.{command_answer_view, offer_view};
+ghost use Rattle.bh_host.specs.Offers.{IfPlanned, offer_view, responded};
+ghost use Rattle.bh_host.specs.Orders.{Does};
 ghost use Rattle.bh_storage.specs.Calls.{Seen, Clean, Within, StaysAtWork, LeavesNothingNew, IsAtRest, IsReadable, IsWorking, Commits};
-ghost use Rattle.bh_storage.specs.Calls.{TakesBack, Unless, UnlessSpoilt, Stamps, Purges, Operates, Carries, Decides, Sweeps, Reports};
-ghost use Rattle.bh_storage.specs.Calls.{Lists};
+ghost use Rattle.bh_storage.specs.Calls.{TakesBack, Unless, UnlessSpoilt, Stamps, Purges, Operates, Decides};
 ghost use Rattle.bh_storage.specs.Plans.{IsMeasured, to_come};
-ghost use Rattle.bh_host.specs.Offers.{IfPlanned};
 
-use crate::offer::{CommandAnswer, Offer};
-use bh_event::event::Command;
+use crate::offer::Offer;
+use bh_event::order::HostOrder;
 use bh_http::body::Body;
 use bh_operation::operation::Operation;
 use bh_storage::error::{Outcome, StepError, Trouble};
 use bh_storage::plan::Plan;
-use bh_storage::report::{StoreReport, SweepReport, TenantReport};
 use bh_types::access_key::AccessKeyId;
 use bh_types::limits::Limits;
 use bh_types::moment::Moment;
@@ -126,7 +124,7 @@ pub trait Storage {
         requires early { Clean IsIntact IsOpen self.old → at ≤ latest_of (seen self.old).now }
         ensures goes_on { StaysAtWork IsIntact IsOpen IsSoundStore seen left (UnlessSpoilt result) self.old self.new }
         ensures operates { Operates (offer_view (seen self.new).now) tenant.now
-            (λ given. operated (seen self.old).limits at given operation.now)
+            (λ given s. responded (operated (seen self.old).limits at given operation.now s))
             (Clean IsIntact IsOpen self.new) (B.coming body.old) (B.coming body.new) (seen self.old).now (seen self.new).now result }
         ensures measured { IfPlanned result (λ found. Clean IsIntact IsOpen self.new → IsMeasured (seen self.new).now found) };
 
@@ -145,38 +143,19 @@ pub trait Storage {
         ensures falls { IfOk result (λ piece. IfSome piece (λ bytes. length bytes.items + plan.new.left ≤ plan.old.left)) }
         ensures kept { OnErr result (plan.new ≡ plan.old) };
 
-    /// Carries out an operator's command on the tenant that it names, at a moment.
-    fn command(
+    /// Carries out an operator's order at a moment, and returns the line that tells of it, without
+    /// its line feed. An order on a tenant expects that its stale uploads were removed. A sweep
+    /// removes at most its limit of what is due: first stale uploads of all tenants, by tenant and
+    /// number, then unreferenced blocks, by digest and ordinal. Orders on all tenants together
+    /// aren't refused.
+    fn order(
         &mut self,
         alloc: Global,
         at: Moment,
-        command: &Command,
-    ) -> Result<CommandAnswer, StepError<Refusal>>
+        order: &HostOrder,
+    ) -> Result<String, StepError<Refusal>>
         requires { Clean IsIntact IsOpen self.old → IsWorking IsSoundStore (seen self.old) }
         ensures goes_on { StaysAtWork IsIntact IsOpen IsSoundStore seen left (Unless result) self.old self.new }
-        ensures carries { Clean IsIntact IsOpen self.new
-            → Carries command_answer_view (tenant_of (order_of command.now)) (ordered at (order_of command.now)) (seen self.old).now
-            (seen self.new).now result };
-
-    /// Removes at most `limit` of what is due at a moment: first stale uploads of all tenants, by
-    /// tenant and number, then unreferenced blocks, by digest and ordinal.
-    fn sweep(&mut self, alloc: Global, at: Moment, limit: u32) -> Result<SweepReport, Trouble>
-        requires { Clean IsIntact IsOpen self.old → IsWorking IsSoundStore (seen self.old) }
-        ensures goes_on { StaysAtWork IsIntact IsOpen IsSoundStore seen left (OnOk result) self.old self.new }
-        ensures sweeps { IfOk result (λ report. Clean IsIntact IsOpen self.new
-            → Sweeps at limit report (seen self.old).now (seen self.new).now) };
-
-    /// Counts what all tenants together have stored.
-    fn report(&mut self) -> Result<StoreReport, Trouble>
-        requires { Clean IsIntact IsOpen self.old → IsWorking IsSoundStore (seen self.old) }
-        ensures goes_on { StaysAtWork IsIntact IsOpen IsSoundStore seen left (OnOk result) self.old self.new }
-        ensures reports { IfOk result (λ report. Clean IsIntact IsOpen self.new
-            → Reports report (seen self.old).now (seen self.new).now) };
-
-    /// All tenants, by name in byte order.
-    fn tenants(&mut self, alloc: Global) -> Result<Vec<TenantReport>, Trouble>
-        requires { Clean IsIntact IsOpen self.old → IsWorking IsSoundStore (seen self.old) }
-        ensures goes_on { StaysAtWork IsIntact IsOpen IsSoundStore seen left (OnOk result) self.old self.new }
-        ensures lists { IfOk result (λ listed. Clean IsIntact IsOpen self.new
-            → Lists listed.items (seen self.old).now (seen self.new).now) };
+        ensures does { Clean IsIntact IsOpen self.new
+            → Does at (message_of order.now) (seen self.old).now (seen self.new).now result };
 }

@@ -13,11 +13,11 @@ ghost use Rattle.bh_host.specs.Groups.{AppliedAt};
 ghost use Rattle.bh_host.specs.Turns.{Acts, IsActDone, IsServed};
 
 use crate::delivery::{Composed, Delivery, Replied, Served, replied_at};
-use crate::event::serve as serve_order;
+use crate::event::serve_order;
 use crate::receiving::serve as serve_received;
 use crate::reply::unread_text;
 use crate::storage::Storage;
-use bh_event::event::Event;
+use bh_event::event::{Event, Message};
 use bh_http::body::WholeBody;
 use bh_http::read::split_head;
 use bh_http::request::Head;
@@ -110,12 +110,9 @@ fn serve_event<H: Storage>(
     ensures measured { IfOk result (λ composed. Clean H.IsIntact H.IsOpen host.new
         → IsPlanMeasured (H.seen host.new).now composed) }
 {
-    match event {
-        Event::Http { bytes, .. } => serve_request(alloc, routes, host, at, bytes),
-        Event::Operator { .. }
-        | Event::Sweep { .. }
-        | Event::Report { .. }
-        | Event::Tenants { .. } => Ok(Composed::Whole(serve_order(alloc, host, event, at)?)),
+    match &event.message {
+        Message::Request(bytes) => serve_request(alloc, routes, host, at, bytes),
+        Message::Order(order) => Ok(Composed::Whole(serve_order(alloc, host, order, at)?)),
     }
 }
 
@@ -128,10 +125,10 @@ fn stamp_event<H: Storage>(host: &mut H, event: &Event) -> Result<Moment, Troubl
     ensures stamps { IfOk result (λ m. Clean H.IsIntact H.IsOpen host.new
         → Stamps (arrival event.now).reading m (H.seen host.old).now (H.seen host.new).now) }
 {
-    if event.reading() > LAST_READING {
+    if event.reading > LAST_READING {
         return Err(Trouble::Store);
     }
-    host.stamp(event.reading())
+    host.stamp(event.reading)
 }
 
 /// Applies one event in an open transaction: it gets a stamp of its own. Fails if memory or the

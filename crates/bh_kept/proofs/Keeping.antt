@@ -16,7 +16,7 @@ use Rattle.bh_schema.specs.Storage as storage
 use Rattle.bh_schema.specs.declared.host.Digester as digester
 use Rattle.bh_connection.specs.Connections.{IsTakenBack}
 use Rattle.bh_dispatch.specs.Seeing as recalling
-use Rattle.bh_dispatch.specs.declared.recalling.RecallingStorage.{RecallingStorage}
+use Rattle.bh_dispatch.specs.declared.sql_host.SqlHost.{SqlHost}
 use Rattle.bh_dispatch.specs.Stored.{CutsBody}
 use Rattle.bh_kept.specs.Cutting.{Cuts}
 use Rattle.bh_kept.specs.Kept as kept
@@ -24,11 +24,11 @@ use Rattle.bh_kept.specs.declared.host.BlockSize as size
 use Rattle.bh_kept.specs.declared.host.KeptHost.{KeptHost}
 
 -- the host before a call and after it, and what it holds
-module _ {D P G K : Type 0} {g : Ghosts D} {p : Shelves P} {d : digester.Ghosts G} {k : size.Ghosts K} (old new : KeptHost D P G K g p d k) (a b : RecallingStorage (FileStore D g) P G) (was : old.storage ≡ Some a) (is : new.storage ≡ Some b) where
-  both_kept : (Q : Option (RecallingStorage (FileStore D g) P G) → Option (RecallingStorage (FileStore D g) P G) → Type 0) → Q (Some a) (Some b) → Q old.storage new.storage
+module _ {D P G K : Type 0} {g : Ghosts D} {p : Shelves P} {d : digester.Ghosts G} {k : size.Ghosts K} (old new : KeptHost D P G K g p d k) (a b : SqlHost (FileStore D g) P G) (was : old.storage ≡ Some a) (is : new.storage ≡ Some b) where
+  both_kept : (Q : Option (SqlHost (FileStore D g) P G) → Option (SqlHost (FileStore D g) P G) → Type 0) → Q (Some a) (Some b) → Q old.storage new.storage
   both_kept Q h = subst (λ o. Q o new.storage) (sym was) (subst (λ n. Q (Some a) n) (sym is) h)
 
-  pub within_kept : Within (λ (h : RecallingStorage (FileStore D g) P G). storage.IsIntact over_files p h.storage.host) (λ h. storage.IsOpen over_files p h.storage.host) (λ h. recalling.seen over_files p h) (λ h. storage.left over_files p h.storage.host) a b
+  pub within_kept : Within (λ (h : SqlHost (FileStore D g) P G). storage.IsIntact over_files p h.host) (λ h. storage.IsOpen over_files p h.host) (λ h. recalling.seen over_files p h) (λ h. storage.left over_files p h.host) a b
       → Within (λ (h : KeptHost D P G K g p d k). kept.IsIntact p h.storage) (λ h. kept.IsOpen p h.storage) (λ h. kept.seen p h.limits h.storage) (λ h. kept.left p h.storage) old new
   within_kept w = record {
     intact = both_kept (λ o n. kept.IsIntact p n → kept.IsIntact p o) w.intact;
@@ -39,7 +39,7 @@ module _ {D P G K : Type 0} {g : Ghosts D} {p : Shelves P} {d : digester.Ghosts 
   }
 
   pub at_work_kept : (IsSound : Tables → Type 0) (Done : Type 0 → Type 0)
-      → StaysAtWork (λ (h : RecallingStorage (FileStore D g) P G). storage.IsIntact over_files p h.storage.host) (λ h. storage.IsOpen over_files p h.storage.host) IsSound (λ h. recalling.seen over_files p h) (λ h. storage.left over_files p h.storage.host) Done a b
+      → StaysAtWork (λ (h : SqlHost (FileStore D g) P G). storage.IsIntact over_files p h.host) (λ h. storage.IsOpen over_files p h.host) IsSound (λ h. recalling.seen over_files p h) (λ h. storage.left over_files p h.host) Done a b
       → StaysAtWork (λ (h : KeptHost D P G K g p d k). kept.IsIntact p h.storage) (λ h. kept.IsOpen p h.storage) IsSound (λ h. kept.seen p h.limits h.storage) (λ h. kept.left p h.storage) Done old new
   at_work_kept IsSound Done s = record {
     within = within_kept s.within;
@@ -47,7 +47,7 @@ module _ {D P G K : Type 0} {g : Ghosts D} {p : Shelves P} {d : digester.Ghosts 
     working = both_kept (λ o n. Done (kept.IsIntact p n × kept.IsOpen p n → IsWorking IsSound (kept.seen p new.limits n))) s.working;
   }
 
-  pub back_kept : IsTakenBack (λ (h : RecallingStorage (FileStore D g) P G). storage.IsIntact over_files p h.storage.host) (λ h. storage.IsOpen over_files p h.storage.host) (λ h. recalling.seen over_files p h) (λ h. storage.left over_files p h.storage.host) a b
+  pub back_kept : IsTakenBack (λ (h : SqlHost (FileStore D g) P G). storage.IsIntact over_files p h.host) (λ h. storage.IsOpen over_files p h.host) (λ h. recalling.seen over_files p h) (λ h. storage.left over_files p h.host) a b
       → IsTakenBack (λ (h : KeptHost D P G K g p d k). kept.IsIntact p h.storage) (λ h. kept.IsOpen p h.storage) (λ h. kept.seen p h.limits h.storage) (λ h. kept.left p h.storage) old new
   back_kept t = record {
     same = both_kept (λ o n. kept.IsIntact p n → kept.IsOpen p n → kept.IsOpen p o × ((kept.seen p new.limits n).now ≡ (kept.seen p old.limits o).now)) t.same;
@@ -55,19 +55,19 @@ module _ {D P G K : Type 0} {g : Ghosts D} {p : Shelves P} {d : digester.Ghosts 
   }
 
   -- what it says of the tables before it and after it
-  pub says_kept : (Says : Tables → Tables → Type 0) → (storage.IsIntact over_files p b.storage.host × storage.IsOpen over_files p b.storage.host → Says (recalling.seen over_files p a).now (recalling.seen over_files p b).now)
+  pub says_kept : (Says : Tables → Tables → Type 0) → (storage.IsIntact over_files p b.host × storage.IsOpen over_files p b.host → Says (recalling.seen over_files p a).now (recalling.seen over_files p b).now)
       → kept.IsIntact p new.storage × kept.IsOpen p new.storage → Says (kept.seen p old.limits old.storage).now (kept.seen p new.limits new.storage).now
   says_kept Says h = both_kept (λ o n. kept.IsIntact p n × kept.IsOpen p n → Says (kept.seen p old.limits o).now (kept.seen p new.limits n).now) h
 
-module _ {D P G K : Type 0} {g : Ghosts D} {p : Shelves P} {d : digester.Ghosts G} {k : size.Ghosts K} (old : KeptHost D P G K g p d k) (a b : RecallingStorage (FileStore D g) P G) (was : old.storage ≡ Some a) where
-  pub opens_kept : {X E : Type 0} (result : Result X E) (B : Type 0) → OnOk result (storage.IsOpen over_files p a.storage.host → B) → OnOk result (kept.IsOpen p old.storage → B)
+module _ {D P G K : Type 0} {g : Ghosts D} {p : Shelves P} {d : digester.Ghosts G} {k : size.Ghosts K} (old : KeptHost D P G K g p d k) (a b : SqlHost (FileStore D g) P G) (was : old.storage ≡ Some a) where
+  pub opens_kept : {X E : Type 0} (result : Result X E) (B : Type 0) → OnOk result (storage.IsOpen over_files p a.host → B) → OnOk result (kept.IsOpen p old.storage → B)
   opens_kept result B h = subst (λ o. OnOk result (kept.IsOpen p o → B)) (sym was) h
 
   pub cuts_kept : {X E : Type 0} (digest : Octets → Octets) (size : ℕ) (operation : Operation) (before after : Coming) (result : Result (Outcome X E) (StepError E))
-      → CutsBody over_files p digest size operation before after a.storage.host.connection b.storage.host.connection result → Cuts p digest size operation before after old.storage (Some b) result
+      → CutsBody over_files p digest size operation before after a.host.connection b.host.connection result → Cuts p digest size operation before after old.storage (Some b) result
   cuts_kept digest size operation before after result h =
-      subst (λ o. IfSome o (λ (a : RecallingStorage (FileStore D g) P G). CutsBody over_files p digest size operation before after a.storage.host.connection b.storage.host.connection result)) (sym was) h
+      subst (λ o. IfSome o (λ (a : SqlHost (FileStore D g) P G). CutsBody over_files p digest size operation before after a.host.connection b.host.connection result)) (sym was) h
 
 -- a host that was closed and opened again with its settings has them
-pub tuned_kept : {D P G : Type 0} {g : Ghosts D} (was : Option (RecallingStorage (FileStore D g) P G)) (a : RecallingStorage (FileStore D g) P G) (tuning : HostTuning) → was ≡ Some a → tuning ≡ a.storage.host.cache.tuning → IfSome was (λ it. tuning ≡ it.storage.host.cache.tuning)
-tuned_kept {D} {P} {G} {g} was a tuning is same = subst (λ o. IfSome o (λ (it : RecallingStorage (FileStore D g) P G). tuning ≡ it.storage.host.cache.tuning)) (sym is) same
+pub tuned_kept : {D P G : Type 0} {g : Ghosts D} (was : Option (SqlHost (FileStore D g) P G)) (a : SqlHost (FileStore D g) P G) (tuning : HostTuning) → was ≡ Some a → tuning ≡ a.host.cache.tuning → IfSome was (λ it. tuning ≡ it.host.cache.tuning)
+tuned_kept {D} {P} {G} {g} was a tuning is same = subst (λ o. IfSome o (λ (it : SqlHost (FileStore D g) P G). tuning ≡ it.host.cache.tuning)) (sym is) same

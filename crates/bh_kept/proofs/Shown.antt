@@ -26,7 +26,7 @@ use Rattle.bh_base.proofs.Placing.{within_then, same_filled}
 use Rattle.bh_schema.specs.Storage.{beside, seen_in, left_in}
 use Rattle.bh_schema.proofs.Storing.{sound_host}
 use Rattle.bh_backup.specs.Copies.{IsFileOf}
-use Rattle.bh_dispatch.specs.declared.recalling.RecallingStorage.{RecallingStorage}
+use Rattle.bh_dispatch.specs.declared.sql_host.SqlHost.{SqlHost}
 use Rattle.bh_kept.specs.Closings.{IsOpenAgain}
 use Rattle.bh_backup.specs.Packs.{HaveAll}
 use Rattle.bh_kept.specs.Copies.{AreAsBefore}
@@ -105,7 +105,7 @@ module _ {D : Type 0} {g : Ghosts D} (a b : Backing) (cache : KeptBlocks) (tunin
 -- ---- the same of a host that is kept
 
 module _ {D P G : Type 0} {g : Ghosts D} (p : Shelves P) (digester : G) (facts : Facts) (cache : KeptBlocks) (limits made_with : HostLimits) (old : Held (FileStore D g)) (packs : P)
-    (was : Option (RecallingStorage (FileStore D g) P G)) (is : was ≡ Some (record { storage = record { host = record { connection = record { database = old; packs = packs }; digester = digester; limits = limits; cache = cache } }; memo = facts })) where
+    (was : Option (SqlHost (FileStore D g) P G)) (is : was ≡ Some (record { host = record { connection = record { database = old; packs = packs }; digester = digester; limits = limits; cache = cache }; memo = facts })) where
   -- what its packs have
   abbrev packed : Backing
   packed = backing p packs

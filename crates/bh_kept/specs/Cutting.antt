@@ -10,18 +10,18 @@ use Rattle.bh_operation.specs.declared.operation.Operation.{Operation}
 use Rattle.bh_storage.specs.declared.error.Outcome.{Outcome}
 use Rattle.bh_storage.specs.declared.error.StepError.{StepError}
 use Rattle.bh_dispatch.specs.Stored.{CutsBody}
-use Rattle.bh_dispatch.specs.declared.recalling.RecallingStorage.{RecallingStorage}
+use Rattle.bh_dispatch.specs.declared.sql_host.SqlHost.{SqlHost}
 
 module _ {D P G : Type 0} {g : disk.Ghosts D} where
   -- a call on a host that isn't lost cuts an object and a part into blocks of a size
   abbrev pub Cuts : {X E : Type 0} → Shelves P → (Octets → Octets) → ℕ → Operation → Coming → Coming
-      → Option (RecallingStorage (FileStore D g) P G)
-      → Option (RecallingStorage (FileStore D g) P G) → Result (Outcome X E) (StepError E) → Type 0
+      → Option (SqlHost (FileStore D g) P G)
+      → Option (SqlHost (FileStore D g) P G) → Result (Outcome X E) (StepError E) → Type 0
   Cuts p digest size operation before after old new result =
-      IfSome old (λ a. IfSome new (λ b. CutsBody over_files p digest size operation before after a.storage.host.connection
-      b.storage.host.connection result))
+      IfSome old (λ a. IfSome new (λ b. CutsBody over_files p digest size operation before after a.host.connection
+      b.host.connection result))
 
   -- a host that isn't lost keeps its settings
-  abbrev pub KeepsTuning : Option (RecallingStorage (FileStore D g) P G) → Option (RecallingStorage (FileStore D g) P G)
+  abbrev pub KeepsTuning : Option (SqlHost (FileStore D g) P G) → Option (SqlHost (FileStore D g) P G)
       → Type 0
-  KeepsTuning old new = IfSome old (λ a. IfSome new (λ b. b.storage.host.cache.tuning ≡ a.storage.host.cache.tuning))
+  KeepsTuning old new = IfSome old (λ a. IfSome new (λ b. b.host.cache.tuning ≡ a.host.cache.tuning))

@@ -10,7 +10,7 @@ use Rattle.bh_host.specs.declared.storage.Storage.{Ghosts}
 use Rattle.bh_schema.specs.Storage as host
 use Rattle.bh_schema.specs.declared.host.Digester as digester
 use Rattle.bh_schema.specs.declared.host.Host.{Host}
-use Rattle.bh_dispatch.specs.declared.recalling.RecallingStorage.{RecallingStorage}
+use Rattle.bh_dispatch.specs.declared.sql_host.SqlHost.{SqlHost}
 use Rattle.bh_kept.specs.declared.host.BlockSize as size
 use Rattle.bh_kept.specs.declared.host.KeptHost.{KeptHost}
 
@@ -26,11 +26,11 @@ module _ {D P G H : Type 0} {g : disk.Ghosts D} (p : Shelves P) (IsIntact IsOpen
 
 module _ {D P G : Type 0} {g : disk.Ghosts D} (p : Shelves P) where
   -- a storage that remembers facts of its tables
-  abbrev pub RecallingStandsOver : Ghosts (RecallingStorage (FileStore D g) P G) → Type 0
-  RecallingStandsOver s = (it : RecallingStorage (FileStore D g) P G)
-      → StandsOver p s.IsIntact s.IsOpen s.IsSoundStore s.seen s.left it it.storage.host
+  abbrev pub RecallingStandsOver : Ghosts (SqlHost (FileStore D g) P G) → Type 0
+  RecallingStandsOver s = (it : SqlHost (FileStore D g) P G)
+      → StandsOver p s.IsIntact s.IsOpen s.IsSoundStore s.seen s.left it it.host
 
   -- a host that is served, unless it was lost
   abbrev pub KeptStandsOver : {K : Type 0} {d : digester.Ghosts G} {k : size.Ghosts K} → Ghosts (KeptHost D P G K g p d k) → Type 0
-  KeptStandsOver {K} {d} {k} s = (kept : KeptHost D P G K g p d k) (it : RecallingStorage (FileStore D g) P G)
-      → kept.storage ≡ Some it → StandsOver p s.IsIntact s.IsOpen s.IsSoundStore s.seen s.left kept it.storage.host
+  KeptStandsOver {K} {d} {k} s = (kept : KeptHost D P G K g p d k) (it : SqlHost (FileStore D g) P G)
+      → kept.storage ≡ Some it → StandsOver p s.IsIntact s.IsOpen s.IsSoundStore s.seen s.left kept it.host

@@ -8,10 +8,9 @@ ghost use Rattle.bh_schema.specs.Garbage.{garbage_in};
 ghost use Rattle.bh_base.specs.Layer.{LeavesNothingNew, taken_back};
 
 use bh_base::connection::Connection;
-use bh_dispatch::recalling::Reported;
+use bh_dispatch::sql_host::Carried;
 use bh_schema::rows::garbage::garbage_bytes;
 use bh_shelf::shelf::Shelf;
-use bh_storage::report::StoreReport;
 use sqlite::Alter;
 
 /// How many bytes the blocks have that no reference names. `None` if memory or the store failed.
@@ -42,19 +41,18 @@ fn look<S: Alter, P: Shelf>(connection: &mut Connection<S, P>) -> Option<u64>
     }
 }
 
-/// A report. If there are packs, standard error tells how many, their bytes, and how many of these blocks have.
-pub(crate) fn told(errors: &impl Eprint, reported: Reported) -> StoreReport
-    ensures { result ≡ reported.report }
+/// The line of an order that was carried out. If it was a report and there are packs, standard error
+/// tells how many, their bytes, and how many of these blocks have.
+pub(crate) fn told(errors: &impl Eprint, carried: Carried) -> String
+    ensures { result ≡ carried.line }
 {
-    let Reported {
-        report,
-        packs: found,
-    } = reported;
-    if found.packs > 0 {
-        let _ = eprintln!(errors;
-            "bucketd: packs {}, bytes {}, of blocks {}",
-            found.packs, found.bytes, found.of_blocks
-        );
+    if let Some(found) = carried.packs {
+        if found.packs > 0 {
+            let _ = eprintln!(errors;
+                "bucketd: packs {}, bytes {}, of blocks {}",
+                found.packs, found.bytes, found.of_blocks
+            );
+        }
     }
-    report
+    carried.line
 }

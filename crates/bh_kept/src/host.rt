@@ -4,7 +4,7 @@ ghost use Rattle.std.specs.Prelude.{◌≡◌, ◌≤◌, ℕ, Some, option_map}
 ghost use Rattle.bh_memo.specs.Facts.{nothing};
 
 use bh_base::connection::Connection as Joined;
-use bh_dispatch::recalling::RecallingStorage;
+use bh_dispatch::sql_host::SqlHost;
 use bh_schema::host::{Digester, Host};
 use bh_shelf::shelf::Shelf;
 use bh_types::limits::Limits;
@@ -28,7 +28,7 @@ impl BlockSize for Brand {
 pub struct KeptHost<'a, D: Disk + Drop, P: Shelf + Drop, G: Digester + Drop, K: BlockSize> {
     pub(crate) rt: &'a HostRuntime,
     /// The host, until it is lost.
-    pub storage: Option<RecallingStorage<FileStore<D>, P, G>>,
+    pub storage: Option<SqlHost<FileStore<D>, P, G>>,
     /// The limits that it was created with.
     pub limits: Limits,
     pub(crate) block_size: u64,
@@ -47,13 +47,13 @@ where
     /// A host that is in its files, with the block size of its settings.
     pub fn new(rt: &'a HostRuntime, host: Host<FileStore<D>, P, G>) -> KeptHost<'a, D, P, G, K>
         requires { host.cache.tuning.block_size ≡ K.size }
-        ensures { result.storage ≡ Some (record { storage = record { host = host }; memo = nothing }) }
+        ensures { result.storage ≡ Some (record { host = host; memo = nothing }) }
     {
         let tuning = host.cache.tuning();
         KeptHost {
             rt,
             limits: host.limits,
-            storage: Some(RecallingStorage::new(rt.alloc(), host)),
+            storage: Some(SqlHost::new(rt.alloc(), host)),
             block_size: tuning.block_size,
             size: PhantomData,
         }
@@ -61,7 +61,7 @@ where
 
     /// The host's database, unless the host was lost.
     pub fn into_connection(self) -> Option<Connection<FileStore<D>>>
-        ensures { result ≡ option_map (λ it. it.storage.host.connection.database) self.entry.storage }
+        ensures { result ≡ option_map (λ it. it.host.connection.database) self.entry.storage }
     {
         let KeptHost {
             rt: _,
@@ -72,7 +72,7 @@ where
         } = self;
         match storage {
             Some(kept) => {
-                let Joined { database, packs: _ } = kept.storage.host.into_connection();
+                let Joined { database, packs: _ } = kept.host.into_connection();
                 Some(database)
             }
             None => None,

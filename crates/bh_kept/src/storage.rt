@@ -2,7 +2,7 @@ ghost use Rattle.std.specs.Prelude.{◌≡◌, ◌≤◌, None, IfSome};
 ghost use Rattle.bh_machine.specs.Machine.{operated};
 ghost use Rattle.bh_view.specs.Bodies.{IsSoundHost};
 ghost use Rattle.bh_view.specs.View.{latest_of};
-ghost use Rattle.bh_host.specs.Offers.{offer_view};
+ghost use Rattle.bh_host.specs.Offers.{offer_view, responded};
 ghost use Rattle.bh_storage.specs.Calls.{Clean, IsWorking, IsAtRest, StaysAtWork, UnlessSpoilt, Operates};
 ghost use Rattle.bh_storage.specs.Plans.{IsMeasured};
 ghost use Rattle.bh_host.specs.Offers.{IfPlanned};
@@ -16,21 +16,19 @@ use crate::freeing::drop_idle;
 use crate::host::{BlockSize, KeptHost};
 use bh_cache::blocks::BlockCache;
 use bh_connection::{BackUp, CacheUses};
-use bh_dispatch::recalling::RecallingStorage;
-use bh_dispatch::storage::HostStorage;
-use bh_event::event::Command;
+use bh_dispatch::sql_host::SqlHost;
+use bh_event::order::HostOrder;
 use bh_file::HostFile;
+use bh_host::offer::Offer;
+use bh_host::storage::Storage;
 use bh_http::body::Body;
 use bh_memo::memo::Memo;
 use bh_operation::operation::Operation;
 use bh_schema::host::{Digester, Host};
 use bh_shelf::copied::CopyShelf;
 use bh_shelf::shelf::Shelf;
-use bh_host::offer::{CommandAnswer, Offer};
 use bh_storage::error::{Outcome, StepError, Trouble};
 use bh_storage::plan::Plan;
-use bh_storage::report::{StoreReport, SweepReport, TenantReport};
-use bh_host::storage::Storage;
 use bh_types::access_key::AccessKeyId;
 use bh_types::limits::Limits;
 use bh_types::moment::Moment;
@@ -124,7 +122,7 @@ impl<'a, D: Disk + Drop, P: Shelf + Drop, G: Digester + Drop, K: BlockSize> Stor
         ensures goes_on { StaysAtWork (λ h. kept.IsIntact P.Shelf h.storage) (λ h. kept.IsOpen P.Shelf h.storage) (IsSoundHost G.digest_of)
             (λ h. kept.seen P.Shelf h.limits h.storage) (λ h. kept.left P.Shelf h.storage) (UnlessSpoilt result) self.old self.new }
         ensures operates { Operates (offer_view (kept.seen P.Shelf self.new.limits self.new.storage).now) tenant.now
-            (λ given. operated (kept.seen P.Shelf self.old.limits self.old.storage).limits at given operation.now)
+            (λ given s. responded (operated (kept.seen P.Shelf self.old.limits self.old.storage).limits at given operation.now s))
             (Clean (λ h. kept.IsIntact P.Shelf h.storage) (λ h. kept.IsOpen P.Shelf h.storage) self.new)
             (B.coming body.old) (B.coming body.new)
             (kept.seen P.Shelf self.old.limits self.old.storage).now (kept.seen P.Shelf self.new.limits self.new.storage).now result }
@@ -148,40 +146,19 @@ impl<'a, D: Disk + Drop, P: Shelf + Drop, G: Digester + Drop, K: BlockSize> Stor
         }
     }
 
-    fn command(
+    /// What packs have is told on standard error beside a report.
+    fn order(
         &mut self,
         alloc: Global,
         at: Moment,
-        command: &Command,
-    ) -> Result<CommandAnswer, StepError<Refusal>> {
-        match &mut self.storage {
-            Some(storage) => storage.command(alloc, at, command),
-            None => Err(StepError::Failed(Trouble::Store)),
-        }
-    }
-
-    fn sweep(&mut self, alloc: Global, at: Moment, limit: u32) -> Result<SweepReport, Trouble> {
-        match &mut self.storage {
-            Some(storage) => storage.sweep(alloc, at, limit),
-            None => Err(Trouble::Store),
-        }
-    }
-
-    /// What packs have is told on standard error.
-    fn report(&mut self) -> Result<StoreReport, Trouble> {
+        order: &HostOrder,
+    ) -> Result<String, StepError<Refusal>> {
         match &mut self.storage {
             Some(storage) => {
-                let reported = storage.report_with_packs()?;
-                Ok(told(self.rt, reported))
+                let carried = storage.carry_out(alloc, at, order)?;
+                Ok(told(self.rt, carried))
             }
-            None => Err(Trouble::Store),
-        }
-    }
-
-    fn tenants(&mut self, alloc: Global) -> Result<Vec<TenantReport>, Trouble> {
-        match &mut self.storage {
-            Some(storage) => storage.tenants(alloc),
-            None => Err(Trouble::Store),
+            None => Err(StepError::Failed(Trouble::Store)),
         }
     }
 }
@@ -202,8 +179,8 @@ impl<'a, D: Disk + Drop, P: CopyShelf + Drop, G: Digester + Drop, K: BlockSize> 
     fn cache_uses(&self) -> CacheUses {
         match &self.storage {
             Some(storage) => CacheUses {
-                hits: storage.storage.host.cache.hits(),
-                misses: storage.storage.host.cache.misses(),
+                hits: storage.host.cache.hits(),
+                misses: storage.host.cache.misses(),
             },
             None => CacheUses { hits: 0, misses: 0 },
         }
@@ -224,8 +201,7 @@ impl<'a, D: Disk + Drop, P: CopyShelf + Drop, G: Digester + Drop, K: BlockSize> 
             (kept.seen P.Shelf self.old.limits self.old.storage).now) }
         ensures tuned { KeepsTuning self.old.storage self.new.storage }
     {
-        let RecallingStorage { storage, memo: _ } = self.storage.take()?;
-        let HostStorage { host } = storage;
+        let SqlHost { host, memo: _ } = self.storage.take()?;
         let Host {
             connection,
             digester,
@@ -234,14 +210,12 @@ impl<'a, D: Disk + Drop, P: CopyShelf + Drop, G: Digester + Drop, K: BlockSize> 
         } = host;
         self.limits = limits;
         let (copy, connection) = copy_host(self.rt, connection, to)?;
-        self.storage = Some(RecallingStorage {
-            storage: HostStorage {
-                host: Host {
-                    connection,
-                    digester,
-                    limits,
-                    cache: BlockCache::new(cache.tuning()),
-                },
+        self.storage = Some(SqlHost {
+            host: Host {
+                connection,
+                digester,
+                limits,
+                cache: BlockCache::new(cache.tuning()),
             },
             memo: Memo::new(self.rt.alloc()),
         });
@@ -250,14 +224,14 @@ impl<'a, D: Disk + Drop, P: CopyShelf + Drop, G: Digester + Drop, K: BlockSize> 
 
     fn unneeded(&mut self) -> Option<u64> {
         match &mut self.storage {
-            Some(it) => count(&mut it.storage.host.connection),
+            Some(it) => count(&mut it.host.connection),
             None => None,
         }
     }
 
     fn drop_packs(&mut self) -> Option<u64> {
         match &mut self.storage {
-            Some(it) => drop_idle(self.rt, &mut it.storage.host.connection),
+            Some(it) => drop_idle(self.rt, &mut it.host.connection),
             None => None,
         }
     }

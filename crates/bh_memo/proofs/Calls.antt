@@ -3,7 +3,6 @@ use Rattle.std.proofs.Common.{arith, ◌≡◌, ◌⊎◌, inl, inr, ℕ, ◌≤
 use Rattle.std.proofs.lemmas.Bool.{le-leb}
 use Rattle.bh_http.specs.Bodies.{Coming}
 use Rattle.bh_model.specs.Credentials.{authenticate}
-use Rattle.bh_model.specs.Operations as machine
 use Rattle.bh_model.specs.Runs.{last_reading}
 use Rattle.bh_model.specs.State.{Octets, State as Machine}
 use Rattle.bh_types.specs.declared.access_key.AccessKeyId.{AccessKeyId}
@@ -118,7 +117,7 @@ module _ (before after : Facts) (old new : Seen) (clean : Type 0) (was : clean �
     shown_unless P none (Err (Failed trouble)) so h c = none trouble _ _
 
   -- a step whose body comes in pieces
-  module _ {X E : Type 0} (shown_by : Tables → X → machine.Answer) (t : Octets) (step : Octets → Option Machine → Result (machine.Answer × Option Machine) E) (start end : Coming) where
+  module _ {X Y E : Type 0} (shown_by : Tables → X → Y) (t : Octets) (step : Octets → Option Machine → Result (Y × Option Machine) E) (start end : Coming) where
     abbrev Steps : Tables → Tables → Tables → Result (Outcome X E) (StepError E) → Type 0
     Steps read a b result = Operates (shown_by read) t step clean start end a b result
 

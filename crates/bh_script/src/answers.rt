@@ -10,11 +10,11 @@ use crate::input::BadLine;
 use bh_event::event::Event;
 use bh_event::flaw::flaw_of;
 use bh_event::line::read_line;
+use bh_host::storage::Storage;
 use bh_host::{Reply, apply};
 use bh_link::ends::Sink;
 use bh_link::link::Link;
 use bh_operation::routes::Routes;
-use bh_host::storage::Storage;
 use memchr::memchr;
 use std::alloc::Global;
 

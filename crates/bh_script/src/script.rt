@@ -12,7 +12,7 @@ use crate::error::ScriptError;
 use crate::input::BadLine;
 use bh_base::connection::Connection;
 use bh_create::create;
-use bh_dispatch::recalling::RecallingStorage;
+use bh_dispatch::sql_host::SqlHost;
 use bh_link::ends::Sink;
 use bh_link::link::Link;
 use bh_operation::routes::Routes;
@@ -86,18 +86,18 @@ fn new_host<P: Shelf + Drop, D: Digester + Drop>(
     digest: BlockDigest,
     limits: Limits,
     tuning: Tuning,
-) -> Result<RecallingStorage<MemStore, P, D>, Trouble>
+) -> Result<SqlHost<MemStore, P, D>, Trouble>
     requires honest { (it : P) → IsTrue (P.Shelf.is_clean it) }
-    ensures limits { IfOk result (λ made. made.storage.host.limits ≡ limits) }
-    ensures made { IfOk result (λ made. IsNewHost made.storage.host.limits digest
-        (state over_memory P.Shelf made.storage.host.connection)) }
-    ensures cache { IfOk result (λ made. made.storage.host.cache ≡ no_blocks tuning) }
+    ensures limits { IfOk result (λ made. made.host.limits ≡ limits) }
+    ensures made { IfOk result (λ made. IsNewHost made.host.limits digest
+        (state over_memory P.Shelf made.host.connection)) }
+    ensures cache { IfOk result (λ made. made.host.cache ≡ no_blocks tuning) }
     ensures memo { IfOk result (λ made. made.memo ≡ nothing) }
 {
     let database = Database::open_in_memory(alloc)?;
     let connection = Connection { database, packs };
     match create(connection, digester, digest, limits, tuning) {
-        Ok(host) => Ok(RecallingStorage::new(alloc, host)),
+        Ok(host) => Ok(SqlHost::new(alloc, host)),
         Err(_) => Err(Trouble::Store),
     }
 }

@@ -2,8 +2,8 @@
 
 ghost use Rattle.std.specs.Prelude.{◌≡◌, ◌≤◌, IfOk};
 ghost use Rattle.serde_json.specs.View.{view};
-ghost use Rattle.bh_event.specs.Events.{order_of};
-ghost use Rattle.bh_event.specs.Orders.{instruction_of, message_of};
+ghost use Rattle.bh_event.specs.Events.{order_of, message_of};
+ghost use Rattle.bh_event.specs.Orders.{instruction_of};
 ghost use Rattle.bh_telling.specs.Objects as spec;
 
 use bh_event::event::Command;

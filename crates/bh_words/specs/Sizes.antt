@@ -7,6 +7,7 @@ use Rattle.std.specs.Option.{option_map_or}
 use Rattle.std.specs.Str.{bytes_eq}
 use Rattle.clap.specs.Words.{Text}
 use Rattle.bh_words.specs.Numbers.{◌>>=◌, number_of}
+use Rattle.bh_words.specs.Options.{word}
 use Rattle.bh_words.specs.declared.options.OptionName.{OptionName}
 use Rattle.bh_words.specs.declared.options.OptionName.TheVariants.{Quota, MinPart, MaxBody, BlockSize, CacheBytes, KeepGarbage}
 

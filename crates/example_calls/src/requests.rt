@@ -2,8 +2,9 @@
 
 use crate::answer::{Answer, Fault, refusal, text};
 use crate::operations::asks_of_target;
-use bh_event::event::{Command, Event};
+use bh_event::event::{Command, Event, Message};
 use bh_event::line::read_line;
+use bh_event::order::HostOrder;
 use bh_http::credentials::{access_key_of, secret_of};
 use bh_http::read::read_request;
 use bh_http::request::Request;
@@ -96,13 +97,21 @@ fn beginnings(alloc: Global, input: &[u8]) -> Answer {
 
 /// The event in a script's line.
 fn line(alloc: Global, input: &[u8]) -> Answer {
-    match read_line(alloc, input)? {
-        Some(Event::Http { reading, bytes }) => http_text(alloc, reading, bytes.as_slice()),
-        Some(Event::Operator { reading, command }) => command_text(alloc, reading, &command),
-        Some(Event::Sweep { reading, limit }) => sweep_text(alloc, reading, limit),
-        Some(Event::Report { reading }) => Ok(format!(in alloc; "at {reading}: report")?),
-        Some(Event::Tenants { reading }) => Ok(format!(in alloc; "at {reading}: tenants")?),
-        None => text(alloc, "none"),
+    let Some(Event { reading, message }) = read_line(alloc, input)? else {
+        return text(alloc, "none");
+    };
+    match message {
+        Message::Request(bytes) => http_text(alloc, reading, bytes.as_slice()),
+        Message::Order(order) => order_text(alloc, reading, &order),
+    }
+}
+
+fn order_text(alloc: Global, reading: u64, order: &HostOrder) -> Answer {
+    match order {
+        HostOrder::Command(command) => command_text(alloc, reading, command),
+        HostOrder::Sweep { limit } => sweep_text(alloc, reading, *limit),
+        HostOrder::Report => Ok(format!(in alloc; "at {reading}: report")?),
+        HostOrder::Tenants => Ok(format!(in alloc; "at {reading}: tenants")?),
     }
 }
 

@@ -12,8 +12,8 @@ use crate::served::{Passed, Sent, serve};
 use bh_blocks::digester::Sha256Digester;
 use bh_connection::End;
 use bh_create::create;
-use bh_dispatch::storage::HostStorage;
-use bh_event::event::Event;
+use bh_dispatch::sql_host::SqlHost;
+use bh_event::event::{Event, Message};
 use bh_event::line::read_line;
 use bh_host::storage::Storage;
 use bh_host::{Told, apply};
@@ -49,24 +49,10 @@ fn lines_of(alloc: Global, table: &str) -> Result<Vec<&str>, AllocError> {
 
 /// Appends the event of a line.
 fn add(alloc: Global, events: &mut Vec<Event>, line: &str) -> Result<(), Fault> {
-    let event = read_line(alloc, line.as_bytes())?.ok_or(Fault::Form)?;
-    let later = STEP.saturating_mul(events.len() as u64);
-    events.push(at(event, later))?;
+    let Event { message, .. } = read_line(alloc, line.as_bytes())?.ok_or(Fault::Form)?;
+    let reading = STEP.saturating_mul(events.len() as u64);
+    events.push(Event { reading, message })?;
     Ok(())
-}
-
-/// The event at another reading of the clock.
-fn at(event: Event, reading: u64) -> Event {
-    match event {
-        Event::Http { reading: _, bytes } => Event::Http { reading, bytes },
-        Event::Operator {
-            reading: _,
-            command,
-        } => Event::Operator { reading, command },
-        Event::Sweep { reading: _, limit } => Event::Sweep { reading, limit },
-        Event::Report { reading: _ } => Event::Report { reading },
-        Event::Tenants { reading: _ } => Event::Tenants { reading },
-    }
 }
 
 /// Adds the events of these lines.
@@ -115,7 +101,8 @@ fn is_alike<H: Storage>(
     requires { Clean H.IsIntact H.IsOpen host.old → IsAtRest H.IsSoundStore (H.seen host.old) }
     ensures { Clean H.IsIntact H.IsOpen host.new → IsAtRest H.IsSoundStore (H.seen host.new) }
 {
-    let Event::Http { reading, bytes } = event else {
+    let Event { reading, message } = event;
+    let Message::Request(bytes) = message else {
         let found = apply(alloc, routes, host, event);
         return is_told(found.stamp, found.reply.bytes(), told);
     };
@@ -166,7 +153,7 @@ fn served(alloc: Global, events: &[Event], told: &[Told]) -> Result<(Count, Stri
         tuning,
     ) {
         Ok(host) => {
-            let mut storage = HostStorage { host };
+            let mut storage = SqlHost::new(alloc, host);
             let count = all_alike(alloc, &routes, &mut storage, events, told);
             let rows = rows_of(alloc, &mut storage.host.connection.database)?;
             Ok((count, rows))

@@ -12,8 +12,8 @@ use crate::served::{Passed, Sent, serve};
 use bh_blocks::digester::Sha256Digester;
 use bh_connection::End;
 use bh_create::create;
-use bh_dispatch::storage::HostStorage;
-use bh_event::event::Event;
+use bh_dispatch::sql_host::SqlHost;
+use bh_event::event::{Event, Message};
 use bh_host::run;
 use bh_host::storage::Storage;
 use bh_operation::routes::Routes;
@@ -66,7 +66,7 @@ fn ending_of(alloc: Global, turn: Turn<'_>, cut: Cut) -> Result<Ending, Fault> {
         tuning,
     ) {
         Ok(host) => {
-            let mut storage = HostStorage { host };
+            let mut storage = SqlHost::new(alloc, host);
             let passed = pass(alloc, &routes, &mut storage, turn, cut)?;
             let rows = rows_of(alloc, &mut storage.host.connection.database)?;
             Ok(Ending { passed, rows })
@@ -163,7 +163,8 @@ fn breaks(alloc: Global, turn: Turn<'_>) -> Result<Count, Fault> {
 fn all_breaks(alloc: Global, events: &[Event]) -> Result<Count, Fault> {
     let mut runs = 0u64;
     for at in 0..events.len() {
-        let Event::Http { reading, bytes } = &events[at] else {
+        let Event { reading, message } = &events[at];
+        let Message::Request(bytes) = message else {
             continue;
         };
         let asked = Sent {

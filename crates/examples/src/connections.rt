@@ -10,8 +10,8 @@ use crate::series::events_in;
 use bh_blocks::digester::Sha256Digester;
 use bh_connection::{Arrival, End, Served, serve_each};
 use bh_create::create;
-use bh_dispatch::storage::HostStorage;
-use bh_event::event::Event;
+use bh_dispatch::sql_host::SqlHost;
+use bh_event::event::{Event, Message};
 use bh_host::apply;
 use bh_host::storage::Storage;
 use bh_link::ends::Untold;
@@ -32,16 +32,13 @@ fn request<'a>(alloc: Global, event: &'a Event, cut: &str) -> Option<Request<'a>
     ensures { IfSome result IsGoing }
 {
     let cut = cut_of(cut);
-    match event {
-        Event::Http { reading, bytes } => Some(Arrival {
-            reading: *reading,
+    match &event.message {
+        Message::Request(bytes) => Some(Arrival {
+            reading: event.reading,
             reader: Link::new(Untold(reader(bytes.as_slice(), cut.reads))),
             writer: Link::new(Untold(Narrow::new(alloc, cut))),
         }),
-        Event::Operator { .. }
-        | Event::Sweep { .. }
-        | Event::Report { .. }
-        | Event::Tenants { .. } => None,
+        Message::Order(_) => None,
     }
 }
 
@@ -88,7 +85,7 @@ fn order_one<H: Storage>(
     requires { Clean H.IsIntact H.IsOpen host.old → IsAtRest H.IsSoundStore (H.seen host.old) }
     ensures { Clean H.IsIntact H.IsOpen host.new → IsAtRest H.IsSoundStore (H.seen host.new) }
 {
-    if let Event::Http { .. } = event {
+    if let Message::Request(_) = &event.message {
         return Ok(());
     }
     let told = apply(alloc, routes, host, event);
@@ -171,7 +168,7 @@ fn answered(alloc: Global, events: &[Event], cuts: &str) -> io::Result<Vec<u8>> 
         Limits::default(),
         Tuning::default(),
     ) {
-        Ok(host) => answers(alloc, &routes, &mut HostStorage { host }, events, cuts),
+        Ok(host) => answers(alloc, &routes, &mut SqlHost::new(alloc, host), events, cuts),
         Err(_) => Ok(Vec::new(alloc)),
     }
 }

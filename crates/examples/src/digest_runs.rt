@@ -6,8 +6,9 @@ use crate::joined::without_packs;
 use crate::series::events_of;
 use bh_blocks::digester::{FastDigester, Sha256Digester};
 use bh_create::create;
-use bh_dispatch::storage::HostStorage;
-use bh_event::event::Event;
+use bh_dispatch::sql_host::SqlHost;
+use bh_event::event::{Event, Message};
+use bh_event::order::HostOrder;
 use bh_host::{Told, run};
 use bh_operation::routes::Routes;
 use bh_schema::host::Digester;
@@ -59,7 +60,7 @@ pub fn answers<D: Digester + Drop>(
     let Ok(host) = create(connection, digester, BlockDigest::Sha256, limits, tuning) else {
         return Ok(None);
     };
-    let mut storage = HostStorage { host };
+    let mut storage = SqlHost::new(alloc, host);
     let dones = run(alloc, &routes, &mut storage, events)?;
     let cached = storage.host.cached();
     Ok(Some(Answered {
@@ -75,7 +76,9 @@ fn are_alike(events: &[Event], ones: &[Told], others: &[Told]) -> bool {
         return false;
     }
     for ((event, one), other) in events.iter().zip(ones.iter()).zip(others.iter()) {
-        if !matches!(event, Event::Report { .. }) && one.reply.bytes() != other.reply.bytes() {
+        if !matches!(&event.message, Message::Order(HostOrder::Report))
+            && one.reply.bytes() != other.reply.bytes()
+        {
             return false;
         }
     }

@@ -10,7 +10,7 @@ use crate::stops::{Expected, answered, expect, is_at};
 use bh_again::stop_and_open_host;
 use bh_blocks::digester::Sha256Digester;
 use bh_create::create;
-use bh_dispatch::storage::HostStorage;
+use bh_dispatch::sql_host::SqlHost;
 use bh_event::event::Event;
 use bh_host::Told;
 use bh_open::Opened;
@@ -50,7 +50,7 @@ fn reopen<D: Crash + Drop>(
         return Err(Fault::Memory);
     };
     let routes = Routes::new(alloc)?;
-    let mut storage = HostStorage { host };
+    let mut storage = SqlHost::new(alloc, host);
     if answered(alloc, &routes, &mut storage, events, answers)? != events.len() {
         return Err(Fault::Form);
     }

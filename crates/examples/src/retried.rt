@@ -10,7 +10,7 @@ use crate::joined::without_packs;
 use crate::series::events_in;
 use bh_blocks::digester::Sha256Digester;
 use bh_create::create;
-use bh_dispatch::storage::HostStorage;
+use bh_dispatch::sql_host::SqlHost;
 use bh_event::event::Event;
 use bh_host::storage::Storage;
 use bh_host::{Told, apply};
@@ -71,7 +71,7 @@ pub fn retry(rt: &(impl Input + Print + AllocGlobal)) -> io::Result<bool> {
         Tuning::default(),
     ) {
         Ok(host) => {
-            let mut storage = HostStorage { host };
+            let mut storage = SqlHost::new(alloc, host);
             let text = answers(alloc, &routes, &mut storage, events.as_slice())?;
             io::writer(rt).write_all(text.as_slice())?;
             Ok(true)

@@ -11,7 +11,7 @@ use crate::joined::without_packs;
 use crate::series::{Count, events_of, is_told, tell};
 use bh_blocks::digester::Sha256Digester;
 use bh_create::create;
-use bh_dispatch::storage::HostStorage;
+use bh_dispatch::sql_host::SqlHost;
 use bh_event::event::Event;
 use bh_host::storage::Storage;
 use bh_host::{Told, apply};
@@ -98,7 +98,7 @@ fn run_on<S: Alter + Drop>(
     let connection = without_packs(connection);
     match create(connection, Sha256Digester, digest, limits, tuning) {
         Ok(host) => {
-            let mut storage = HostStorage { host };
+            let mut storage = SqlHost::new(alloc, host);
             let answers = expected.answers.as_slice();
             let count = answered(alloc, &routes, &mut storage, expected.events, answers)?;
             Ok((

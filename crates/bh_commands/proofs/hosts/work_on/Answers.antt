@@ -3,7 +3,7 @@ use Rattle.bh_commands.proofs.Kept.{rests_kept, left_of}
 use Rattle.bh_commands.proofs.hosts.work_on.Goals as goal
 
 pub do_work-requires : goal.do_work-requires
-do_work-requires g c = rests_kept g.P.Shelf g.G.Digester.digest_of c.new-kept.result (record { host = c.args.host }) c.new-kept.ensures c.requires.rest
+do_work-requires g c = rests_kept g.P.Shelf g.G.Digester.digest_of c.new-kept.result c.args.host c.new-kept.ensures c.requires.rest
 
 pub returns-in-Some : goal.returns-in-Some
 returns-in-Some g c =

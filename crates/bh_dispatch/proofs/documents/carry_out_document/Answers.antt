@@ -1,11 +1,10 @@
-use Rattle.std.proofs.Common.{refl, rules}
+use Rattle.std.proofs.Common.{refl, ap}
 use Rattle.std.proofs.lemmas.Result.{err_from_is_err_and}
 use Rattle.bh_docs.specs.Requests.{versioning_of, lifecycle_of, retention_of}
 use Rattle.bh_machine.specs.Machine.{document_operated, set_versioning, set_lifecycle, set_retention}
-use Rattle.bh_model.specs.Operations.{put_versioning, put_lifecycle, put_retention}
+use Rattle.bh_model.specs.Operations.{Done, put_versioning, put_lifecycle, put_retention}
 use Rattle.bh_types.specs.Rejections.{plainly}
-use Rattle.bh_host.specs.declared.offer.Answer.TheVariants as answer
-use Rattle.bh_dispatch.proofs.Operating.{by_step, carried, carried_plainly, map_is, unread}
+use Rattle.bh_dispatch.proofs.Operating.{by_step, carried, carried_plainly, responding, unread}
 use Rattle.bh_dispatch.proofs.Steps.{rules as ruled, dates, states, lifecycle_range}
 use Rattle.bh_dispatch.proofs.documents.carry_out_document.Goals as goal
 
@@ -21,9 +20,9 @@ unfolding document_operated
 returns-in_ok-state-in-PutBucketVersioning g c =
     let it = c.set_versioning in
     let at = c.in_ok-state-in-PutBucketVersioning in
-    rw (c.in-PutBucketVersioning.is, c.told.ensures (λ _. answer.Done) (λ x a e. search rules))
-    (by_step g.S.Store g.P.Shelf c.args.asked.now.tenant.now c.args.connection.now it.new.connection _ _ _ (states c.in-PutBucketVersioning.bucket c.args.document.now at.state at.ensures)
-    (carried_plainly g.S.Store g.P.Shelf c.args.asked.now.tenant.now c.args.connection.now it.new.connection (λ _. answer.Done) (put_versioning c.in-PutBucketVersioning.bucket at.state) it.result it.ensures.works.within it.ensures.works.opens it.ensures.works.working it.ensures.carries))
+    rw c.in-PutBucketVersioning.is
+    (by_step g.S.Store g.P.Shelf c.args.asked.now.tenant.now c.args.connection.now it.new.connection _ _ _ (ap responding (states c.in-PutBucketVersioning.bucket c.args.document.now at.state at.ensures))
+    (carried_plainly g.S.Store g.P.Shelf c.args.asked.now.tenant.now c.args.connection.now it.new.connection (λ _. Done) (put_versioning c.in-PutBucketVersioning.bucket at.state) it.result c.told.result c.told.ensures it.ensures.works.within it.ensures.works.opens it.ensures.works.working it.ensures.carries))
 
 pub returns-in_err-days-in-PutLifecycle : goal.returns-in_err-days-in-PutLifecycle
 unfolding document_operated
@@ -43,9 +42,9 @@ unfolding document_operated
 returns-in_ok-days-in-PutLifecycle g c =
     let it = c.set_lifecycle in
     let at = c.in_ok-days-in-PutLifecycle in
-    rw (c.in-PutLifecycle.is, c.told-in-PutLifecycle.ensures (λ _. answer.Done) (λ x a e. search rules))
-    (by_step g.S.Store g.P.Shelf c.args.asked.now.tenant.now c.args.connection.now it.new.connection _ _ _ (ruled c.in-PutLifecycle.bucket c.args.document.now at.days at.ensures)
-    (carried_plainly g.S.Store g.P.Shelf c.args.asked.now.tenant.now c.args.connection.now it.new.connection (λ _. answer.Done) (put_lifecycle c.in-PutLifecycle.bucket at.days) it.result it.ensures.works.within it.ensures.works.opens it.ensures.works.working it.ensures.carries))
+    rw c.in-PutLifecycle.is
+    (by_step g.S.Store g.P.Shelf c.args.asked.now.tenant.now c.args.connection.now it.new.connection _ _ _ (ap responding (ruled c.in-PutLifecycle.bucket c.args.document.now at.days at.ensures))
+    (carried_plainly g.S.Store g.P.Shelf c.args.asked.now.tenant.now c.args.connection.now it.new.connection (λ _. Done) (put_lifecycle c.in-PutLifecycle.bucket at.days) it.result c.told-in-PutLifecycle.result c.told-in-PutLifecycle.ensures it.ensures.works.within it.ensures.works.opens it.ensures.works.working it.ensures.carries))
 
 pub returns-in-CompleteMultipartUpload : goal.returns-in-CompleteMultipartUpload
 unfolding document_operated
@@ -61,9 +60,9 @@ returns-in_err-until-in-PutRetention g c =
 pub returns-in_ok-until-in-PutRetention : goal.returns-in_ok-until-in-PutRetention
 unfolding document_operated
 returns-in_ok-until-in-PutRetention g c =
-    let it = c.set_retention in
+    let it = c.set_retention-set in
     let at = c.in_ok-until-in-PutRetention in
     let object = c.in-PutRetention.object in
-    rw (c.in-PutRetention.is, map_is (λ _. answer.Done) _ (λ x a e. search rules) it.result c.map.result c.map.ensures.cases)
-    (by_step g.S.Store g.P.Shelf c.args.asked.now.tenant.now c.args.connection.now it.new.connection _ _ _ (dates c.args.asked.now.at object.bucket object.key c.in-PutRetention.version c.args.document.now at.until at.ensures)
-    (carried g.S.Store g.P.Shelf c.args.asked.now.tenant.now c.args.connection.now it.new.connection (λ _. answer.Done) (put_retention c.args.asked.now.at object.bucket object.key c.in-PutRetention.version at.until) it.result it.ensures.works.within it.ensures.works.opens it.ensures.works.working it.ensures.carries))
+    rw c.in-PutRetention.is
+    (by_step g.S.Store g.P.Shelf c.args.asked.now.tenant.now c.args.connection.now it.new.connection _ _ _ (ap responding (dates c.args.asked.now.at object.bucket object.key c.in-PutRetention.version c.args.document.now at.until at.ensures))
+    (carried g.S.Store g.P.Shelf c.args.asked.now.tenant.now c.args.connection.now it.new.connection (λ _. Done) (put_retention c.args.asked.now.at object.bucket object.key c.in-PutRetention.version at.until) it.result c.told_with_details.result c.told_with_details.ensures it.ensures.works.within it.ensures.works.opens it.ensures.works.working it.ensures.carries))

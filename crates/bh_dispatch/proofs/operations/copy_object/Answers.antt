@@ -1,5 +1,5 @@
 use Rattle.bh_model.specs.Operations.{copy_object}
-use Rattle.bh_host.specs.declared.offer.Answer.TheVariants as answer
+use Rattle.bh_storage.specs.Answers.{copied_answer}
 use Rattle.bh_dispatch.proofs.Operating.{carried_plainly}
 use Rattle.bh_dispatch.proofs.operations.copy_object.Goals as goal
 
@@ -8,5 +8,4 @@ returns g c =
     let it = c.copy_object in
     let object = c.args.object.now in
     let source = c.args.source.now in
-    rw (c.told.ensures answer.Copied (λ x a e. e))
-    (carried_plainly g.S.Store g.P.Shelf c.args.asked.now.tenant.now c.args.connection.now it.new.connection answer.Copied (copy_object c.args.asked.now.at object.bucket object.key source.object.bucket source.object.key source.version c.args.date) it.result it.ensures.works.within it.ensures.works.opens it.ensures.works.working it.ensures.carries)
+    carried_plainly g.S.Store g.P.Shelf c.args.asked.now.tenant.now c.args.connection.now it.new.connection copied_answer (copy_object c.args.asked.now.at object.bucket object.key source.object.bucket source.object.key source.version c.args.date) it.result c.told.result c.told.ensures it.ensures.works.within it.ensures.works.opens it.ensures.works.working it.ensures.carries

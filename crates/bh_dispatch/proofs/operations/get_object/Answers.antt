@@ -1,10 +1,12 @@
+use Rattle.std.proofs.Common.{refl}
 use Rattle.std.proofs.lemmas.Result.{err_from_is_err_and}
 use Rattle.bh_base.specs.Connections.{state}
 use Rattle.bh_http.proofs.BodyLemmas.{breaks_may}
+use Rattle.bh_storage.specs.Answers.{found_answer}
 use Rattle.bh_host.specs.declared.offer.Offer.{Offer}
 use Rattle.bh_schema.specs.Working.{tables_at}
 use Rattle.bh_dispatch.proofs.Operating.{still}
-use Rattle.bh_dispatch.proofs.Receiving.{spoilt_err}
+use Rattle.bh_dispatch.proofs.Receiving.{gives_response, spoilt_err}
 use Rattle.bh_dispatch.proofs.Offering.{found_err}
 use Rattle.bh_dispatch.proofs.operations.get_object.Goals as goal
 
@@ -32,7 +34,14 @@ pub returns-in_ok-found-in-Ok-clause-found : goal.returns-in_ok-found-in-Ok-clau
 returns-in_ok-found-in-Ok-clause-found g c =
     let (given, gives) = c.drain.ensures.some in
     let h = c.in_ok-found-in-Ok.ensures in
+    let old = tables_at (state g.S.Store g.P.Shelf c.args.connection.now) in
+    let new = tables_at (state g.S.Store g.P.Shelf c.get_object.new.connection) in
     record {
       works = record { within = h.works.within; opens = h.works.opens; working = h.works.working };
-      operates = record { given = given; gives = gives; decided = c.in-Ok.ensures.whole; carries = h.carries };
+      operates = record {
+        given = given;
+        gives = gives;
+        decided = c.in-Ok.ensures.whole;
+        carries = λ clean. gives_response c.args.tenant.now (found_answer new c.in_ok-found-in-Ok.found) old new _ _ refl (h.carries clean);
+      };
     }

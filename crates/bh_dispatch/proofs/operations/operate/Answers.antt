@@ -1,6 +1,7 @@
 use Rattle.bh_base.specs.Connections.{state}
 use Rattle.bh_machine.specs.Machine.{operated}
-use Rattle.bh_host.specs.Offers.{answer_view, offer_view}
+use Rattle.bh_http.specs.Answers.{response_view}
+use Rattle.bh_host.specs.Offers.{offer_view}
 use Rattle.bh_schema.specs.Working.{tables_at}
 use Rattle.bh_dispatch.proofs.Offering.{offered_spoilt, offered_plans, offered_on, keeps_blocks, stores_no_object}
 use Rattle.bh_dispatch.proofs.Operating.{operates_by_any}
@@ -28,7 +29,7 @@ returns-in-Bare g c =
     let new = it.new.connection in
     rw (c.in-Bare.is, c.offered.ensures) (record {
       operated = offered_on g.S.Store g.P.Shelf c.args.tenant.now old new _ _ _ it.result g.D.Digester.digest_of _
-          (operates_by_any g.S.Store g.P.Shelf old new g.D.Digester.digest_of answer_view c.args.tenant.now _ _ _ _ it.result (λ _. tt) it.ensures);
+          (operates_by_any g.S.Store g.P.Shelf old new g.D.Digester.digest_of response_view c.args.tenant.now _ _ _ _ it.result (λ _. tt) it.ensures);
       measured = offered_plans it.result _;
       kept = keeps_blocks g.S.Store g.P.Shelf c.args.tenant.now old new _ _ _ it.result c.args.blocks.now.cache.now c.requires.blocks.kept it.ensures;
     })
@@ -41,7 +42,7 @@ returns-in-ByDocument g c =
     let new = it.new.connection in
     rw (c.in-ByDocument.is, c.offered-in-ByDocument.ensures) (record {
       operated = offered_on g.S.Store g.P.Shelf c.args.tenant.now old new _ _ _ it.result g.D.Digester.digest_of _
-          (operates_by_any g.S.Store g.P.Shelf old new g.D.Digester.digest_of answer_view c.args.tenant.now _ _ _ _ it.result (λ _. tt) it.ensures);
+          (operates_by_any g.S.Store g.P.Shelf old new g.D.Digester.digest_of response_view c.args.tenant.now _ _ _ _ it.result (λ _. tt) it.ensures);
       measured = offered_plans it.result _;
       kept = keeps_blocks g.S.Store g.P.Shelf c.args.tenant.now old new _ _ _ it.result c.args.blocks.now.cache.now c.requires.blocks.kept it.ensures;
     })

@@ -6,12 +6,12 @@ use Rattle.bh_script.proofs.script.answer_with.Goals as goal
 use Rattle.std.proofs.Common.{refl}
 
 pub answer_lines-requires-clause-clean : goal.answer_lines-requires-clause-clean
-answer_lines-requires-clause-clean g c = λ storage. (intact_with g.P.Shelf storage.storage.host.connection (c.requires.honest storage.storage.host.connection.packs), open_with g.P.Shelf storage.storage.host.connection)
+answer_lines-requires-clause-clean g c = λ storage. (intact_with g.P.Shelf storage.host.connection (c.requires.honest storage.host.connection.packs), open_with g.P.Shelf storage.host.connection)
 
 pub answer_lines-requires-clause-rest : goal.answer_lines-requires-clause-rest
 answer_lines-requires-clause-rest g c =
     let storage = c.in_ok-storage.storage in
-    rests_first _ storage.memo c.args.tuning storage.storage.host.cache c.in_ok-storage.ensures.memo c.in_ok-storage.ensures.cache c.in_ok-storage.ensures.made
+    rests_first _ storage.memo c.args.tuning storage.host.cache c.in_ok-storage.ensures.memo c.in_ok-storage.ensures.cache c.in_ok-storage.ensures.made
 
 pub returns-in_err-storage-clause-answers : goal.returns-in_err-storage-clause-answers
 returns-in_err-storage-clause-answers g c =
@@ -33,7 +33,7 @@ pub returns-clause-answers : goal.returns-clause-answers
 returns-clause-answers g c =
     let made = c.in_ok-storage.ensures in
     by_new_host c.args.limits c.args.digest c.args.bytes.now _ _ c.answer_lines.result (g.W.Sink.contents c.args.writer.now.inner) (g.W.Sink.contents c.answer_lines.new.writer.inner)
-    (first_of c.in_ok-storage.storage.memo c.args.tuning c.in_ok-storage.storage.storage.host.cache made.memo made.cache made.limits made.made) c.answer_lines.ensures.answers
+    (first_of c.in_ok-storage.storage.memo c.args.tuning c.in_ok-storage.storage.host.cache made.memo made.cache made.limits made.made) c.answer_lines.ensures.answers
 
 pub returns-in_err-storage-clause-alone : goal.returns-in_err-storage-clause-alone
 returns-in_err-storage-clause-alone g c =
@@ -59,4 +59,4 @@ returns-clause-alone g c =
     let old = g.W.Sink.contents c.args.writer.now.inner in
     let new = g.W.Sink.contents c.answer_lines.new.writer.inner in
     script_alone c.args.limits c.args.digest c.args.bytes.now c.answer_lines.result old new
-    (by_new_host c.args.limits c.args.digest c.args.bytes.now _ _ c.answer_lines.result old new (first_of c.in_ok-storage.storage.memo c.args.tuning c.in_ok-storage.storage.storage.host.cache made.memo made.cache made.limits made.made) c.answer_lines.ensures.answers)
+    (by_new_host c.args.limits c.args.digest c.args.bytes.now _ _ c.answer_lines.result old new (first_of c.in_ok-storage.storage.memo c.args.tuning c.in_ok-storage.storage.host.cache made.memo made.cache made.limits made.made) c.answer_lines.ensures.answers)

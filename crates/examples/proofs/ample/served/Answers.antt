@@ -2,4 +2,5 @@ use Rattle.bh_create.proofs.Resting.{at_rest}
 use Rattle.examples.proofs.ample.served.Goals as goal
 
 pub all_alike-count-requires : goal.all_alike-count-requires
-all_alike-count-requires c clean = at_rest _ _ _ _ _ c.in-Ok.ensures.given.0 c.in-Ok.ensures.given.1 c.in-Ok.ensures.made clean
+all_alike-count-requires c clean =
+    c.new-storage.ensures.rests (at_rest _ _ _ _ _ c.in-Ok.ensures.given.0 c.in-Ok.ensures.given.1 c.in-Ok.ensures.made (rw c.new-storage.ensures.host at clean))

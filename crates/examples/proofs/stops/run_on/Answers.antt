@@ -2,4 +2,5 @@ use Rattle.bh_create.proofs.Resting.{at_rest}
 use Rattle.examples.proofs.stops.run_on.Goals as goal
 
 pub answered-requires : goal.answered-requires
-answered-requires g c clean = at_rest _ _ _ _ _ c.in-Ok.ensures.given.0 c.in-Ok.ensures.given.1 c.in-Ok.ensures.made clean
+answered-requires g c clean =
+    c.new-storage.ensures.rests (at_rest _ _ _ _ _ c.in-Ok.ensures.given.0 c.in-Ok.ensures.given.1 c.in-Ok.ensures.made (rw c.new-storage.ensures.host at clean))

@@ -14,26 +14,26 @@ at_some P is said = subst (λ o. IfSome o P) is said
 
 pub returns-in_err-copy-clause-limits : goal.returns-in_err-copy-clause-limits
 returns-in_err-copy-clause-limits g c =
-    let host = c.in_ok-storage.field-0.storage.host in
-    let facts = c.in_ok-storage.field-0.memo in
-    let is : c.args.self.now.storage ≡ Some c.in_ok-storage.field-0 = sym c.take.ensures.value ∙ c.in_ok-storage.was in
+    let host = c.in_ok-host.field-0.host in
+    let facts = c.in_ok-host.field-0.memo in
+    let is : c.args.self.now.storage ≡ Some c.in_ok-host.field-0 = sym c.take.ensures.value ∙ c.in_ok-host.was in
     rw c.take.ensures.after (limits_stay g.P.Shelf host.digester facts host.cache host.limits c.args.self.now.limits host.connection.database host.connection.packs c.args.self.now.storage is)
 
 pub returns-clause-intact : goal.returns-clause-intact
 returns-clause-intact g c intact =
-    let host = c.in_ok-storage.field-0.storage.host in
-    let facts = c.in_ok-storage.field-0.memo in
+    let host = c.in_ok-host.field-0.host in
+    let facts = c.in_ok-host.field-0.memo in
     let new = c.in_ok-copy.connection in
-    let is : c.args.self.now.storage ≡ Some c.in_ok-storage.field-0 = sym c.take.ensures.value ∙ c.in_ok-storage.was in
+    let is : c.args.self.now.storage ≡ Some c.in_ok-host.field-0 = sym c.take.ensures.value ∙ c.in_ok-host.was in
     let back = subst (λ o. IfSome o (λ it. IsIntact over_files g.P.Shelf it.1 → IsReopened g.P.Shelf host.connection it.1)) c.in_ok-copy.was c.copy_host.ensures.again intact in
     intact_kept g.P.Shelf host.digester facts host.cache host.limits c.args.self.now.limits host.connection.database host.connection.packs c.args.self.now.storage is c.tuning.result new.database new.packs back.database back.packs
 
 pub returns-clause-stays : goal.returns-clause-stays
 returns-clause-stays g c =
-    let host = c.in_ok-storage.field-0.storage.host in
-    let facts = c.in_ok-storage.field-0.memo in
+    let host = c.in_ok-host.field-0.host in
+    let facts = c.in_ok-host.field-0.memo in
     let new = c.in_ok-copy.connection in
-    let is : c.args.self.now.storage ≡ Some c.in_ok-storage.field-0 = sym c.take.ensures.value ∙ c.in_ok-storage.was in
+    let is : c.args.self.now.storage ≡ Some c.in_ok-host.field-0 = sym c.take.ensures.value ∙ c.in_ok-host.was in
     let found = subst (λ o. IfSome o (λ it. IsIntact over_files g.P.Shelf it.1 → IsReopened g.P.Shelf host.connection it.1)) c.in_ok-copy.was c.copy_host.ensures.again in
     record {
       same = λ intact up.
@@ -48,10 +48,10 @@ returns-clause-stays g c =
 
 pub returns-clause-ready : goal.returns-clause-ready
 returns-clause-ready g c clean =
-    let host = c.in_ok-storage.field-0.storage.host in
-    let facts = c.in_ok-storage.field-0.memo in
+    let host = c.in_ok-host.field-0.host in
+    let facts = c.in_ok-host.field-0.memo in
     let new = c.in_ok-copy.connection in
-    let is : c.args.self.now.storage ≡ Some c.in_ok-storage.field-0 = sym c.take.ensures.value ∙ c.in_ok-storage.was in
+    let is : c.args.self.now.storage ≡ Some c.in_ok-host.field-0 = sym c.take.ensures.value ∙ c.in_ok-host.was in
     let back = subst (λ o. IfSome o (λ it. IsIntact over_files g.P.Shelf it.1 → IsReopened g.P.Shelf host.connection it.1)) c.in_ok-copy.was c.copy_host.ensures.again clean.0 in
     rw (c.new-2.ensures, c.new.ensures)
     (rests_kept g.P.Shelf host.digester facts host.cache host.limits c.args.self.now.limits host.connection.database host.connection.packs c.args.self.now.storage is c.tuning.result new.database new.packs back.database back.packs
@@ -59,19 +59,19 @@ returns-clause-ready g c clean =
 
 pub returns-clause-limits : goal.returns-clause-limits
 returns-clause-limits g c =
-    let host = c.in_ok-storage.field-0.storage.host in
-    let facts = c.in_ok-storage.field-0.memo in
+    let host = c.in_ok-host.field-0.host in
+    let facts = c.in_ok-host.field-0.memo in
     let new = c.in_ok-copy.connection in
-    let is : c.args.self.now.storage ≡ Some c.in_ok-storage.field-0 = sym c.take.ensures.value ∙ c.in_ok-storage.was in
+    let is : c.args.self.now.storage ≡ Some c.in_ok-host.field-0 = sym c.take.ensures.value ∙ c.in_ok-host.was in
     rw (c.new-2.ensures, c.new.ensures)
     (limits_after g.P.Shelf host.digester facts host.cache host.limits c.args.self.now.limits host.connection.database host.connection.packs c.args.self.now.storage is c.tuning.result new.database new.packs)
 
 pub returns-clause-copied : goal.returns-clause-copied
 returns-clause-copied g c =
-    let host = c.in_ok-storage.field-0.storage.host in
-    let facts = c.in_ok-storage.field-0.memo in
+    let host = c.in_ok-host.field-0.host in
+    let facts = c.in_ok-host.field-0.memo in
     let new = c.in_ok-copy.connection in
-    let is : c.args.self.now.storage ≡ Some c.in_ok-storage.field-0 = sym c.take.ensures.value ∙ c.in_ok-storage.was in
+    let is : c.args.self.now.storage ≡ Some c.in_ok-host.field-0 = sym c.take.ensures.value ∙ c.in_ok-host.was in
     let found = subst (λ o. IfSome o (λ it. IsIntact over_files g.P.Shelf it.1 → IsReopened g.P.Shelf host.connection it.1)) c.in_ok-copy.was c.copy_host.ensures.again in
     let copies = at_some _ c.in_ok-copy.was c.copy_host.ensures.copied in
     if_some c.in_ok-copy.copy
@@ -84,5 +84,5 @@ returns-clause-copied g c =
 
 pub returns-clause-tuned : goal.returns-clause-tuned
 returns-clause-tuned g c =
-    let is : c.args.self.now.storage ≡ Some c.in_ok-storage.field-0 = sym c.take.ensures.value ∙ c.in_ok-storage.was in
-    tuned_kept c.args.self.now.storage c.in_ok-storage.field-0 c.new.result.tuning is (ap (λ (k : KeptBlocks). k.tuning) c.new.ensures ∙ c.tuning.ensures)
+    let is : c.args.self.now.storage ≡ Some c.in_ok-host.field-0 = sym c.take.ensures.value ∙ c.in_ok-host.was in
+    tuned_kept c.args.self.now.storage c.in_ok-host.field-0 c.new.result.tuning is (ap (λ (k : KeptBlocks). k.tuning) c.new.ensures ∙ c.tuning.ensures)

@@ -13,7 +13,7 @@ use Rattle.bh_kept.proofs.storage.KeptHostBackUp.drop_packs.Goals as goal
 
 pub drop_idle-requires : goal.drop_idle-requires
 drop_idle-requires g c clean =
-    let host = c.in-Some.it.storage.host in
+    let host = c.in-Some.it.host in
     let rest = subst (λ o. kept.IsIntact g.P.Shelf o × kept.IsOpen g.P.Shelf o → IsAtRest (IsSoundHost g.G.Digester.digest_of) (kept.seen g.P.Shelf c.args.self.now.limits o)) c.in-Some.is c.requires in
     outside c.in-Some.it.memo host.cache host.limits (state over_files g.P.Shelf host.connection) (rest (parts clean))
 
@@ -23,7 +23,7 @@ returns-in-Some-clause-intact g c intact = subst (λ o. kept.IsIntact g.P.Shelf 
 pub returns-in-Some-clause-stays : goal.returns-in-Some-clause-stays
 returns-in-Some-clause-stays g c =
     let it = c.in-Some.it in
-    let host = it.storage.host in
+    let host = it.host in
     let rest = subst (λ o. kept.IsIntact g.P.Shelf o × kept.IsOpen g.P.Shelf o → IsAtRest (IsSoundHost g.G.Digester.digest_of) (kept.seen g.P.Shelf c.args.self.now.limits o)) c.in-Some.is c.requires in
     let old = state over_files g.P.Shelf host.connection in
     let new = state over_files g.P.Shelf c.drop_idle.new.connection in
@@ -37,7 +37,7 @@ returns-in-Some-clause-stays g c =
 pub returns-in-Some-clause-ready : goal.returns-in-Some-clause-ready
 returns-in-Some-clause-ready g c clean =
     let it = c.in-Some.it in
-    let host = it.storage.host in
+    let host = it.host in
     let rest = subst (λ o. kept.IsIntact g.P.Shelf o × kept.IsOpen g.P.Shelf o → IsAtRest (IsSoundHost g.G.Digester.digest_of) (kept.seen g.P.Shelf c.args.self.now.limits o)) c.in-Some.is c.requires in
     let before = rest (parts (c.drop_idle.ensures.follows.clean (both clean))) in
     subst (IsAtRest (IsSoundHost g.G.Digester.digest_of)) (sym (still_again it.memo host.cache host.limits (state over_files g.P.Shelf host.connection) before (state over_files g.P.Shelf c.drop_idle.new.connection) (c.drop_idle.ensures.rests (both clean)))) before
@@ -45,7 +45,7 @@ returns-in-Some-clause-ready g c clean =
 pub returns-in-Some-clause-limits : goal.returns-in-Some-clause-limits
 returns-in-Some-clause-limits g c =
     let it = c.in-Some.it in
-    let host = it.storage.host in
+    let host = it.host in
     let old = state over_files g.P.Shelf host.connection in
     let new = state over_files g.P.Shelf c.drop_idle.new.connection in
     let same = same_limits it.memo (beside host.cache (seen_in host.limits new)) ∙ beside_limits host.cache host.cache host.limits old new ∙ sym (same_limits it.memo (beside host.cache (seen_in host.limits old))) in

@@ -16,7 +16,7 @@ use Rattle.bh_kept.proofs.storage.KeptHostBackUp.unneeded.Goals as goal
 
 pub count-requires : goal.count-requires
 count-requires g c clean =
-    let host = c.in-Some.it.storage.host in
+    let host = c.in-Some.it.host in
     let rest = subst (λ o. kept.IsIntact g.P.Shelf o × kept.IsOpen g.P.Shelf o → IsAtRest (IsSoundHost g.G.Digester.digest_of) (kept.seen g.P.Shelf c.args.self.now.limits o)) c.in-Some.is c.requires in
     has_host c.in-Some.it.memo host.cache host.limits (state over_files g.P.Shelf host.connection) (rest (parts clean))
 
@@ -26,7 +26,7 @@ returns-in-Some-clause-intact g c intact = subst (λ o. kept.IsIntact g.P.Shelf 
 pub returns-in-Some-clause-stays : goal.returns-in-Some-clause-stays
 returns-in-Some-clause-stays g c =
     let it = c.in-Some.it in
-    let host = it.storage.host in
+    let host = it.host in
     let rest = subst (λ o. kept.IsIntact g.P.Shelf o × kept.IsOpen g.P.Shelf o → IsAtRest (IsSoundHost g.G.Digester.digest_of) (kept.seen g.P.Shelf c.args.self.now.limits o)) c.in-Some.is c.requires in
     let old = state over_files g.P.Shelf host.connection in
     let new = state over_files g.P.Shelf c.count.new.connection in
@@ -40,7 +40,7 @@ returns-in-Some-clause-stays g c =
 pub returns-in-Some-clause-ready : goal.returns-in-Some-clause-ready
 returns-in-Some-clause-ready g c clean =
     let it = c.in-Some.it in
-    let host = it.storage.host in
+    let host = it.host in
     let rest = subst (λ o. kept.IsIntact g.P.Shelf o × kept.IsOpen g.P.Shelf o → IsAtRest (IsSoundHost g.G.Digester.digest_of) (kept.seen g.P.Shelf c.args.self.now.limits o)) c.in-Some.is c.requires in
     let before = rest (parts (c.count.ensures.clean (both clean))) in
     subst (IsAtRest (IsSoundHost g.G.Digester.digest_of)) (sym (still it.memo host.cache host.limits (state over_files g.P.Shelf host.connection) before (state over_files g.P.Shelf c.count.new.connection) (c.count.ensures.back (both clean)))) before
@@ -48,7 +48,7 @@ returns-in-Some-clause-ready g c clean =
 pub returns-in-Some-clause-limits : goal.returns-in-Some-clause-limits
 returns-in-Some-clause-limits g c =
     let it = c.in-Some.it in
-    let host = it.storage.host in
+    let host = it.host in
     let old = state over_files g.P.Shelf host.connection in
     let new = state over_files g.P.Shelf c.count.new.connection in
     let same = same_limits it.memo (beside host.cache (seen_in host.limits new)) ∙ beside_limits host.cache host.cache host.limits old new ∙ sym (same_limits it.memo (beside host.cache (seen_in host.limits old))) in
@@ -60,7 +60,7 @@ returns-in-Some-clause-lost g c = ap (λ o. kept.is_lost o) (sym c.in-Some.is)
 pub returns-in-Some-clause-counted : goal.returns-in-Some-clause-counted
 returns-in-Some-clause-counted g c =
     let it = c.in-Some.it in
-    let host = it.storage.host in
+    let host = it.host in
     let rest = subst (λ o. kept.IsIntact g.P.Shelf o × kept.IsOpen g.P.Shelf o → IsAtRest (IsSoundHost g.G.Digester.digest_of) (kept.seen g.P.Shelf c.args.self.now.limits o)) c.in-Some.is c.requires in
     if_some c.count.result
     (λ n is clean.

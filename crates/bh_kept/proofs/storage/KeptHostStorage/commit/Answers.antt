@@ -14,10 +14,10 @@ returns-in-Some-clause-opened g c intact up = subst (λ o. kept.IsOpen g.P.Shelf
 pub returns-in-Some-clause-survives : goal.returns-in-Some-clause-survives
 returns-in-Some-clause-survives g c =
     let new = c.commit.new.self in
-    subst (λ o. OnOk c.commit.result (storage.IsIntact over_files g.P.Shelf new.storage.host → (x : Tables) → storage.left over_files g.P.Shelf new.storage.host x → x ≡ (kept.seen g.P.Shelf c.args.self.now.limits o).now)) (sym c.in-Some.is) c.commit.ensures.survives
+    subst (λ o. OnOk c.commit.result (storage.IsIntact over_files g.P.Shelf new.host → (x : Tables) → storage.left over_files g.P.Shelf new.host x → x ≡ (kept.seen g.P.Shelf c.args.self.now.limits o).now)) (sym c.in-Some.is) c.commit.ensures.survives
 
 pub returns-in-Some-clause-crash : goal.returns-in-Some-clause-crash
 returns-in-Some-clause-crash g c =
     let new = c.commit.new.self in
-    subst (λ o. OnErr c.commit.result (kept.IsOpen g.P.Shelf o → storage.IsIntact over_files g.P.Shelf new.storage.host → (x : Tables) → storage.left over_files g.P.Shelf new.storage.host x → kept.left g.P.Shelf o x ⊎ (x ≡ (kept.seen g.P.Shelf c.args.self.now.limits o).now))) (sym c.in-Some.is)
+    subst (λ o. OnErr c.commit.result (kept.IsOpen g.P.Shelf o → storage.IsIntact over_files g.P.Shelf new.host → (x : Tables) → storage.left over_files g.P.Shelf new.host x → kept.left g.P.Shelf o x ⊎ (x ≡ (kept.seen g.P.Shelf c.args.self.now.limits o).now))) (sym c.in-Some.is)
     c.commit.ensures.crash

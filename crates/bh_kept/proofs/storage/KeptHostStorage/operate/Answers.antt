@@ -3,7 +3,7 @@ use Rattle.sqlite.specs.Files.{over_files}
 use Rattle.bh_http.proofs.BodyLemmas.{gives_none, going_may}
 use Rattle.bh_machine.specs.Machine.{operated}
 use Rattle.bh_view.specs.Bodies.{IsSoundHost}
-use Rattle.bh_host.specs.Offers.{offer_view}
+use Rattle.bh_host.specs.Offers.{offer_view, responded}
 use Rattle.bh_storage.specs.Calls.{Operates, UnlessSpoilt}
 use Rattle.bh_schema.specs.Storage as storage
 use Rattle.bh_dispatch.specs.Seeing as recalling
@@ -18,8 +18,8 @@ pub returns-in-Some-clause-operates : goal.returns-in-Some-clause-operates
 returns-in-Some-clause-operates g c =
     let new = c.operate_in_blocks.new.self in
     let limits = c.args.self.now.limits in
-    subst (λ o. Operates (offer_view (recalling.seen over_files g.P.Shelf new).now) c.args.tenant.now (λ given. operated (kept.seen g.P.Shelf limits o).limits c.args.at given c.args.operation.now)
-    (storage.IsIntact over_files g.P.Shelf new.storage.host × storage.IsOpen over_files g.P.Shelf new.storage.host) (g.B.Body.coming c.args.body.now) (g.B.Body.coming c.operate_in_blocks.new.body) (kept.seen g.P.Shelf limits o).now (recalling.seen over_files g.P.Shelf new).now c.operate_in_blocks.result) (sym c.in-Some.is)
+    subst (λ o. Operates (offer_view (recalling.seen over_files g.P.Shelf new).now) c.args.tenant.now (λ given s. responded (operated (kept.seen g.P.Shelf limits o).limits c.args.at given c.args.operation.now s))
+    (storage.IsIntact over_files g.P.Shelf new.host × storage.IsOpen over_files g.P.Shelf new.host) (g.B.Body.coming c.args.body.now) (g.B.Body.coming c.operate_in_blocks.new.body) (kept.seen g.P.Shelf limits o).now (recalling.seen over_files g.P.Shelf new).now c.operate_in_blocks.result) (sym c.in-Some.is)
     c.operate_in_blocks.ensures.operates
 
 pub returns-in-None-clause-operates : goal.returns-in-None-clause-operates

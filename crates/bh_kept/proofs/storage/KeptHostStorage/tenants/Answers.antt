@@ -1,7 +1,0 @@
-use Rattle.std.proofs.Common.{OnOk, refl}
-use Rattle.bh_view.specs.Bodies.{IsSoundHost}
-use Rattle.bh_kept.proofs.Keeping.{at_work_kept}
-use Rattle.bh_kept.proofs.storage.KeptHostStorage.tenants.Goals as goal
-
-pub returns-in-Some-clause-goes_on : goal.returns-in-Some-clause-goes_on
-returns-in-Some-clause-goes_on g c = at_work_kept c.args.self.now _ c.in-Some.storage c.tenants.new.self c.in-Some.is refl (IsSoundHost g.G.Digester.digest_of) (OnOk c.tenants.result) c.tenants.ensures.goes_on
