@@ -1,8 +1,9 @@
 -- A host as a storage, alone and with remembered facts.
-use Rattle.std.specs.Prelude.{Result, Ok, Err, String}
+use Rattle.std.specs.Prelude.{Bool, true, false, Result, Ok, Err, String}
 use Rattle.std.specs.declared.alloc.Global.{Global}
 use Rattle.sqlite_trees.specs.declared.store.Store.{Ghosts}
 use Rattle.bh_shelf.specs.declared.shelf.Shelf.{Ghosts as Shelves}
+use Rattle.bh_event.specs.Events.{Message, ReportOrdered}
 use Rattle.bh_model.specs.State.{Octets}
 use Rattle.bh_storage.specs.Calls.{Seen, StaysAtWork}
 use Rattle.bh_view.specs.Bodies.{IsSoundHost}
@@ -31,3 +32,8 @@ module _ {S P D : Type 0} (g : Ghosts S) (k : Shelves P) where
 abbrev pub line_in : {E : Type 0} → Result Carried E → Result (String Global) E
 line_in (Ok carried) = Ok carried.line
 line_in (Err error) = Err error
+
+-- a report counts what packs have, and no other order does
+abbrev pub is_report : Message → Bool
+is_report ReportOrdered = true
+is_report message = false

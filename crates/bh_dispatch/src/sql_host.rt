@@ -1,4 +1,4 @@
-ghost use Rattle.std.specs.Prelude.{◌≡◌, ◌≤◌, None, Ok, IfOk, IfSome, OnOk};
+ghost use Rattle.std.specs.Prelude.{◌≡◌, ◌≤◌, None, Ok, is_some, IfOk, IfSome, OnOk};
 ghost use Rattle.std.specs.Option.{option_copied};
 ghost use Rattle.bh_event.specs.Events.{message_of, order_of, tenant_of};
 ghost use Rattle.bh_machine.specs.Machine.{operated, ordered};
@@ -16,7 +16,7 @@ ghost use Rattle.bh_schema.specs.Storage as storage;
 ghost use Rattle.bh_schema.specs.Storage.{IsClean};
 ghost use Rattle.bh_view.specs.Bodies.{IsSoundHost};
 ghost use Rattle.bh_objects.specs.Found.{mode_in};
-ghost use Rattle.bh_dispatch.specs.Seeing.{line_in, seen, RecallsOn};
+ghost use Rattle.bh_dispatch.specs.Seeing.{is_report, line_in, seen, RecallsOn};
 ghost use Rattle.bh_dispatch.specs.Stored.{CutsBody};
 
 use crate::changing::changes_buckets;
@@ -268,6 +268,7 @@ impl<S: Alter + Drop, P: Shelf + Drop, D: Digester + Drop> SqlHost<S, P, D> {
         ensures goes_on { RecallsOn S.Store P.Shelf D.digest_of (Unless result) self.old self.new }
         ensures does { IsClean S.Store P.Shelf self.new.host
             → Does at (message_of order.now) (seen S.Store P.Shelf self.old).now (seen S.Store P.Shelf self.new).now (line_in result) }
+        ensures reported { IfOk result (λ it. is_some it.packs ≡ is_report (message_of order.now)) }
         ensures counted { IfOk result (λ it. IfSome it.packs (λ totals. IsConnectionClean S.Store P.Shelf self.new.host.connection
             → totals ≡ packs_counted (packs S.Store P.Shelf self.new.host.connection))) }
     {
